@@ -1,0 +1,96 @@
+-- A run of places, one place fewer at a time, as a loop goes through it; and what a passed test says of one place. Assumes nothing.
+use mathlib.Core.Path.{_≡_, refl, sym, subst, ap, _∙_}
+use mathlib.Core.Bool.{Bool, true, false, cond, _&&_, _||_}
+use mathlib.Core.Logic.{⊎-elim}
+use Prim.Native.Nat.{ℕ, zero, suc, _+_, _-_, _<_, _≤_}
+use native.Mathlib.Nat.{eq-or-lt-of-le}
+use native.Mathlib.Omega.{arith}
+use native.Mathlib.Numerals.{add-one}
+use Rattle.lists.specs.Ranges.{allFrom, anyFrom, countFrom}
+
+pub and-left : (a b : Bool) → (a && b) ≡ true → a ≡ true
+and-left true b e = refl
+and-left false b e = e
+
+pub and-right : (a b : Bool) → (a && b) ≡ true → b ≡ true
+and-right true b e = e
+and-right false b e = cc
+
+pub and-both : (a b : Bool) → a ≡ true → b ≡ true → (a && b) ≡ true
+and-both a b p q = rw (p, q)
+
+-- a test that passes everywhere passes at a place
+pub all-at : (f : ℕ → Bool) (n i : ℕ) → allFrom f i n ≡ true → (j : ℕ) → i ≤ j → j < i + n → f j ≡ true
+unfolding allFrom
+all-at f zero i e j lo hi = absurd (omega arith)
+all-at f (suc n) i e j lo hi =
+    ⊎-elim (λ p. subst (λ (k : ℕ). f k ≡ true) p (and-left (f i) (allFrom f (suc i) n) e))
+    (λ l. all-at f n (suc i) (and-right (f i) (allFrom f (suc i) n) e) j l (omega arith)) (eq-or-lt-of-le lo)
+
+-- and the other way round
+pub all-of : (f : ℕ → Bool) (n i : ℕ) → ((j : ℕ) → i ≤ j → j < i + n → f j ≡ true) → allFrom f i n ≡ true
+unfolding allFrom
+all-of f zero i h = refl
+all-of f (suc n) i h =
+    and-both (f i) (allFrom f (suc i) n) (h i (omega arith) (omega arith)) (all-of f n (suc i) (λ j lo hi. h j (omega arith) (omega arith)))
+
+-- a rule of a table of numbers: a test that antt computes at each place below n
+pub table : (f : ℕ → Bool) (n : ℕ) → allFrom f 0 n ≡ true → (j : ℕ) → j < n → f j ≡ true
+table f n e j h = all-at f n 0 e j (omega arith) (omega arith)
+
+-- a grid: the same twice
+pub grid : (f : ℕ → ℕ → Bool) (n m : ℕ) → allFrom (λ (i : ℕ). allFrom (f i) 0 m) 0 n ≡ true → (i j : ℕ) → i < n → j < m → f i j ≡ true
+grid f n m e i j hi hj = table (f i) m (table (λ (k : ℕ). allFrom (f k) 0 m) n e i hi) j hj
+
+-- what is left of a run from i up to e
+left-one : (i e : ℕ) → i < e → e - i ≡ suc (e - (i + 1))
+left-one i e lt = omega arith
+
+left-none : (i e : ℕ) → e ≤ i → e - i ≡ 0
+left-none i e le = omega arith
+
+pub all-step : (f : ℕ → Bool) (i e : ℕ) → i < e → allFrom f i (e - i) ≡ (f i && allFrom f (i + 1) (e - (i + 1)))
+unfolding allFrom
+all-step f i e lt = rw (left-one i e lt, add-one)
+
+pub all-done : (f : ℕ → Bool) (i e : ℕ) → e ≤ i → allFrom f i (e - i) ≡ true
+unfolding allFrom
+all-done f i e le = rw (left-none i e le)
+
+pub all-fails : (f : ℕ → Bool) (i e : ℕ) → i < e → f i ≡ false → allFrom f i (e - i) ≡ false
+all-fails f i e lt q = rw (all-step f i e lt, q)
+
+pub all-passes : (f : ℕ → Bool) (i e : ℕ) → i < e → f i ≡ true → allFrom f i (e - i) ≡ allFrom f (i + 1) (e - (i + 1))
+all-passes f i e lt q = rw (all-step f i e lt, q)
+
+pub any-step : (f : ℕ → Bool) (i e : ℕ) → i < e → anyFrom f i (e - i) ≡ (f i || anyFrom f (i + 1) (e - (i + 1)))
+unfolding anyFrom
+any-step f i e lt = rw (left-one i e lt, add-one)
+
+pub any-done : (f : ℕ → Bool) (i e : ℕ) → e ≤ i → anyFrom f i (e - i) ≡ false
+unfolding anyFrom
+any-done f i e le = rw (left-none i e le)
+
+pub any-found : (f : ℕ → Bool) (i e : ℕ) → i < e → f i ≡ true → anyFrom f i (e - i) ≡ true
+any-found f i e lt q = rw (any-step f i e lt, q)
+
+pub any-missed : (f : ℕ → Bool) (i e : ℕ) → i < e → f i ≡ false → anyFrom f i (e - i) ≡ anyFrom f (i + 1) (e - (i + 1))
+any-missed f i e lt q = rw (any-step f i e lt, q)
+
+pub count-step : (f : ℕ → Bool) (i e : ℕ) → i < e → countFrom f i (e - i) ≡ cond (f i) 1 0 + countFrom f (i + 1) (e - (i + 1))
+unfolding countFrom
+count-step f i e lt = rw (left-one i e lt, add-one)
+
+pub count-done : (f : ℕ → Bool) (i e : ℕ) → e ≤ i → countFrom f i (e - i) ≡ 0
+unfolding countFrom
+count-done f i e le = rw (left-none i e le)
+
+one-or-none : (b : Bool) → cond b 1 0 ≤ 1
+one-or-none true = omega arith
+one-or-none false = omega arith
+
+-- no more places pass than there are
+pub count-most : (f : ℕ → Bool) (n i : ℕ) → countFrom f i n ≤ n
+unfolding countFrom
+count-most f zero i = omega arith
+count-most f (suc n) i = omega (arith, count-most f n (suc i), one-or-none (f i))
