@@ -1,0 +1,55 @@
+-- Appending to a plan: the plan with one entry more and the entry's place, or Room (3) and the plan as it was. Assumes nothing.
+use Prim.Native.Nat.{ℕ}
+use mathlib.Core.Bool.{cond}
+use lib.Dec.{leb}
+use Rattle.kinds.specs.declared.Record.{Record}
+use Rattle.plan.specs.Plans.{columnPushed, expressionPushed, operatorPushed, itemPushed}
+use Rattle.plan.specs.declared.Plan.{Plan}
+use Rattle.plan.specs.declared.Appended.{Appended}
+use Rattle.plan.specs.declared.Added.{Added}
+use Rattle.plan.specs.declared.Added.the-variants.{At, Room}
+
+-- 01's number of the refusal, 0 for none
+abbrev pub refusalOf : Added → ℕ
+refusalOf (At n) = 0
+refusalOf Room = 3
+
+-- where the entry stands, 0 for none
+abbrev pub placeOf : Added → ℕ
+placeOf (At n) = n
+placeOf Room = 0
+
+abbrev pub noRoom : Plan → Appended
+noRoom p = record { plan = p; added = Room }
+
+unfoldable pub appendColumn : Plan → Record → Appended
+appendColumn p x =
+    cond (leb 64 (p .columns .count)) (noRoom p)
+    (record {
+      plan = record { columns = columnPushed (p .columns) x; expressions = p .expressions; operators = p .operators; items = p .items };
+      added = At (p .columns .count);
+    })
+
+unfoldable pub appendExpr : Plan → Record → ℕ → Appended
+appendExpr p x start =
+    cond (leb 1024 (p .expressions .count)) (noRoom p)
+    (record {
+      plan = record { columns = p .columns; expressions = expressionPushed (p .expressions) x start; operators = p .operators; items = p .items };
+      added = At (p .expressions .count);
+    })
+
+unfoldable pub appendOperator : Plan → Record → ℕ → Appended
+appendOperator p x start =
+    cond (leb 128 (p .operators .count)) (noRoom p)
+    (record {
+      plan = record { columns = p .columns; expressions = p .expressions; operators = operatorPushed (p .operators) x start; items = p .items };
+      added = At (p .operators .count);
+    })
+
+unfoldable pub appendItem : Plan → Record → Appended
+appendItem p x =
+    cond (leb 2048 (p .items .count)) (noRoom p)
+    (record {
+      plan = record { columns = p .columns; expressions = p .expressions; operators = p .operators; items = itemPushed (p .items) x };
+      added = At (p .items .count);
+    })
