@@ -1,6 +1,6 @@
 -- A bound that tightens a range admits what the range and the bound both admit, and a range that is empty admits nothing. Assumes nothing.
 use mathlib.Core.Path.{_≡_, refl, sym, ap, ap₂, _∙_, subst}
-use mathlib.Core.Bool.{Bool, true, false, not, _&&_, _||_, and-assoc, and-comm}
+use mathlib.Core.Bool.{Bool, true, false, not, _&&_, _||_, cond, and-assoc, and-comm}
 use Prim.Native.Nat.{ℕ, _≤_, _<_}
 use native.Mathlib.Omega.{arith}
 use lib.Dec.{T, T-not, not-T, leb, ltb, eqb, leb→le, le→leb, ltb→lt, lt→ltb, nltb→le, eqb→eq}
@@ -10,7 +10,7 @@ use lib.Signed.{ltZ, leZ, ltZ-yes, <ℤ-irrefl}
 use lib.Ieee.{Float, binary64, lt, eq, fits}
 use lib.Ieee.Fits.{and-l, and-r, eq→eqb}
 use Rattle.scalar.specs.Exact.{eqZ, finite, exactIn}
-use Rattle.value_range.specs.Ranges.{boundAt, takesLower, takesUpper, pickRange, tightenLower, tightenUpper, emptyRange, upTo, meetsLower, meetsUpper, within}
+use Rattle.value_range.specs.Ranges.{boundAt, takesLower, takesUpper, tightenLower, tightenUpper, emptyRange, upTo, meetsLower, meetsUpper, within}
 use Rattle.value_range.specs.declared.Bound.{Bound}
 use Rattle.value_range.specs.declared.ValueRange.{ValueRange}
 use Rattle.scalar.proofs.ExactLaws.{lt-exact, eq-exact}
@@ -181,7 +181,7 @@ module _ (x : ℤ) (v : Float) (i : Bool) (fv : T (finite v)) (hv : T (fits bina
   upper-tightened r s = go (takesUpper (r .upper) v i) (up-yes (r .upper .present) (r .upper .inclusive) (r .upper .value) s) (up-no (r .upper .present) (r .upper .inclusive) (r .upper .value) s)
     where
       go : (t : Bool) → (T t → T (upTo i x (ex v)) → T (meetsUpper x (r .upper))) → (T (not t) → T (meetsUpper x (r .upper)) → T (upTo i x (ex v)))
-          → meetsUpper x (pickRange t (record { lower = r .lower; upper = boundAt v i }) r .upper) ≡ (meetsUpper x (r .upper) && upTo i x (ex v))
+          → meetsUpper x (cond t (record { lower = r .lower; upper = boundAt v i }) r .upper) ≡ (meetsUpper x (r .upper) && upTo i x (ex v))
       go true f g = absorbed (meetsUpper x (r .upper)) (upTo i x (ex v)) (f tt)
       go false f g = kept (meetsUpper x (r .upper)) (upTo i x (ex v)) (g tt)
 
@@ -189,14 +189,14 @@ module _ (x : ℤ) (v : Float) (i : Bool) (fv : T (finite v)) (hv : T (fits bina
   pub upper-keeps : (r : ValueRange) → tightenUpper r v i .lower ≡ r .lower
   upper-keeps r = go (takesUpper (r .upper) v i)
     where
-      go : (t : Bool) → pickRange t (record { lower = r .lower; upper = boundAt v i }) r .lower ≡ r .lower
+      go : (t : Bool) → cond t (record { lower = r .lower; upper = boundAt v i }) r .lower ≡ r .lower
       go true = refl
       go false = refl
 
   pub upper-sound : (r : ValueRange) → Sound (r .upper) → Sound (tightenUpper r v i .upper)
   upper-sound r s = go (takesUpper (r .upper) v i)
     where
-      go : (t : Bool) → Sound (pickRange t (record { lower = r .lower; upper = boundAt v i }) r .upper)
+      go : (t : Bool) → Sound (cond t (record { lower = r .lower; upper = boundAt v i }) r .upper)
       go true = λ p. (fv, hv)
       go false = s
 
@@ -222,21 +222,21 @@ module _ (x : ℤ) (v : Float) (i : Bool) (fv : T (finite v)) (hv : T (fits bina
   lower-tightened r s = go (takesLower (r .lower) v i) (down-yes (r .lower .present) (r .lower .inclusive) (r .lower .value) s) (down-no (r .lower .present) (r .lower .inclusive) (r .lower .value) s)
     where
       go : (t : Bool) → (T t → T (upTo i (ex v) x) → T (meetsLower x (r .lower))) → (T (not t) → T (meetsLower x (r .lower)) → T (upTo i (ex v) x))
-          → meetsLower x (pickRange t (record { lower = boundAt v i; upper = r .upper }) r .lower) ≡ (meetsLower x (r .lower) && upTo i (ex v) x)
+          → meetsLower x (cond t (record { lower = boundAt v i; upper = r .upper }) r .lower) ≡ (meetsLower x (r .lower) && upTo i (ex v) x)
       go true f g = absorbed (meetsLower x (r .lower)) (upTo i (ex v) x) (f tt)
       go false f g = kept (meetsLower x (r .lower)) (upTo i (ex v) x) (g tt)
 
   pub lower-keeps : (r : ValueRange) → tightenLower r v i .upper ≡ r .upper
   lower-keeps r = go (takesLower (r .lower) v i)
     where
-      go : (t : Bool) → pickRange t (record { lower = boundAt v i; upper = r .upper }) r .upper ≡ r .upper
+      go : (t : Bool) → cond t (record { lower = boundAt v i; upper = r .upper }) r .upper ≡ r .upper
       go true = refl
       go false = refl
 
   pub lower-sound : (r : ValueRange) → Sound (r .lower) → Sound (tightenLower r v i .lower)
   lower-sound r s = go (takesLower (r .lower) v i)
     where
-      go : (t : Bool) → Sound (pickRange t (record { lower = boundAt v i; upper = r .upper }) r .lower)
+      go : (t : Bool) → Sound (cond t (record { lower = boundAt v i; upper = r .upper }) r .lower)
       go true = λ p. (fv, hv)
       go false = s
 

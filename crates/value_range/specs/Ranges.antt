@@ -24,15 +24,11 @@ takesLower b v i = not (b .present) || (lt (b .value) v || (eq v (b .value) && (
 abbrev pub takesUpper : Bound → Float → Bool → Bool
 takesUpper b v i = not (b .present) || (lt v (b .value) || (eq v (b .value) && (b .inclusive && not i)))
 
-abbrev pub pickRange : Bool → ValueRange → ValueRange → ValueRange
-pickRange true a b = a
-pickRange false a b = b
-
 abbrev pub tightenLower : ValueRange → Float → Bool → ValueRange
-tightenLower r v i = pickRange (takesLower (r .lower) v i) (record { lower = boundAt v i; upper = r .upper }) r
+tightenLower r v i = cond (takesLower (r .lower) v i) (record { lower = boundAt v i; upper = r .upper }) r
 
 abbrev pub tightenUpper : ValueRange → Float → Bool → ValueRange
-tightenUpper r v i = pickRange (takesUpper (r .upper) v i) (record { lower = r .lower; upper = boundAt v i }) r
+tightenUpper r v i = cond (takesUpper (r .upper) v i) (record { lower = r .lower; upper = boundAt v i }) r
 
 abbrev pub emptyRange : ValueRange → Bool
 emptyRange r = r .lower .present && (r .upper .present && (lt (r .upper .value) (r .lower .value) || (eq (r .lower .value) (r .upper .value) && not (r .lower .inclusive && r .upper .inclusive))))
