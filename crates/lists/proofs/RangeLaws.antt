@@ -49,6 +49,14 @@ left-one i e lt = omega arith
 left-none : (i e : ℕ) → e ≤ i → e - i ≡ 0
 left-none i e le = omega arith
 
+-- a run from i, of n places, ends at i + n
+pub run-whole : (i n : ℕ) → n ≡ i + n - i
+run-whole i n = omega arith
+
+-- a count that starts with none found and all places left
+pub run-start : (g : ℕ → ℕ) (n : ℕ) → g n ≡ 0 + g (n - 0)
+run-start g n = let e : n - 0 ≡ n = omega arith in rw e (omega arith)
+
 pub all-step : (f : ℕ → Bool) (i e : ℕ) → i < e → allFrom f i (e - i) ≡ (f i && allFrom f (i + 1) (e - (i + 1)))
 unfolding allFrom
 all-step f i e lt = rw (left-one i e lt, add-one)
@@ -84,6 +92,12 @@ count-step f i e lt = rw (left-one i e lt, add-one)
 pub count-done : (f : ℕ → Bool) (i e : ℕ) → e ≤ i → countFrom f i (e - i) ≡ 0
 unfolding countFrom
 count-done f i e le = rw (left-none i e le)
+
+pub count-found : (f : ℕ → Bool) (i e : ℕ) → i < e → f i ≡ true → countFrom f i (e - i) ≡ 1 + countFrom f (i + 1) (e - (i + 1))
+count-found f i e lt q = rw (count-step f i e lt, q)
+
+pub count-missed : (f : ℕ → Bool) (i e : ℕ) → i < e → f i ≡ false → countFrom f i (e - i) ≡ countFrom f (i + 1) (e - (i + 1))
+count-missed f i e lt q = rw (count-step f i e lt, q) (omega arith)
 
 one-or-none : (b : Bool) → cond b 1 0 ≤ 1
 one-or-none true = omega arith
