@@ -4,7 +4,7 @@ use Prim.Native.Nat.{ℕ}
 use lib.Dec.{T, eqb}
 use lib.IntN.{ℤ, pos}
 use lib.Signed.{ltZ}
-use lib.Ieee.{Float, nan, inf, fin, binary64, lt, eq, fits, ofInt, inFloat}
+use lib.Ieee.{Float, binary64, isNan, lt, eq, fits, ofInt, inFloat}
 use mir.Syntax.{w32, w64}
 use mir.Val.{SFits}
 use Rattle.scalar.specs.Exact.{eqZ, finite, exactIn, wholeIn}
@@ -80,7 +80,25 @@ Typed (S.Int64 n) = SFits w64 n
 Typed (S.Float64 x) = T (fits binary64 x)
 Typed (S.Date32 n) = SFits w32 n
 
--- a number's exact value in units of 2 ^ -1074, for a float its own
+-- a Float64 that is the NaN
+abbrev pub holdsNan : ScalarValue → Bool
+holdsNan (S.Null k) = false
+holdsNan (S.Boolean b) = false
+holdsNan (S.Int32 n) = false
+holdsNan (S.Int64 n) = false
+holdsNan (S.Float64 x) = isNan x
+holdsNan (S.Date32 n) = false
+
+-- a scalar has an exact value where it is a whole number or a finite float
+abbrev pub hasValue : ScalarValue → Bool
+hasValue (S.Null k) = false
+hasValue (S.Boolean b) = false
+hasValue (S.Int32 n) = true
+hasValue (S.Int64 n) = true
+hasValue (S.Float64 x) = finite x
+hasValue (S.Date32 n) = true
+
+-- that exact value in units of 2 ^ -1074
 abbrev pub valueOf : ScalarValue → ℤ
 valueOf (S.Null k) = pos 0
 valueOf (S.Boolean b) = pos 0

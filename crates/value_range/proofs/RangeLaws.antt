@@ -14,44 +14,7 @@ use Rattle.value_range.specs.Ranges.{boundAt, takesLower, takesUpper, ti
 use Rattle.value_range.specs.declared.Bound.{Bound}
 use Rattle.value_range.specs.declared.ValueRange.{ValueRange}
 use Rattle.scalar.proofs.ExactLaws.{lt-exact, eq-exact}
-use Rattle.scalar.proofs.Apart.{eqZ→eq, eq→eqZ}
-
-neqb→ne : (a b : ℕ) → T (not (eqb a b)) → a ≡ b → ⊥
-neqb→ne a b h e = T-not (eqb a b) h (eq→eqb e)
-
--- ---- the order of the whole numbers
-pub le-lt : (a b c : ℤ) → T (leZ a b) → T (ltZ b c) → T (ltZ a c)
-le-lt (pos a) (pos b) (pos c) h k = lt→ltb a c (omega (arith, leb→le a b h, ltb→lt b c k))
-le-lt (pos a) (pos b) (negsuc c) h k = k
-le-lt (pos a) (negsuc b) c h k = absurd h
-le-lt (negsuc a) (pos b) (pos c) h k = tt
-le-lt (negsuc a) (pos b) (negsuc c) h k = absurd k
-le-lt (negsuc a) (negsuc b) (pos c) h k = tt
-le-lt (negsuc a) (negsuc b) (negsuc c) h k = lt→ltb c a (omega (arith, leb→le b a h, ltb→lt c b k))
-
-pub lt-le : (a b c : ℤ) → T (ltZ a b) → T (leZ b c) → T (ltZ a c)
-lt-le (pos a) (pos b) (pos c) h k = lt→ltb a c (omega (arith, ltb→lt a b h, leb→le b c k))
-lt-le (pos a) (pos b) (negsuc c) h k = k
-lt-le (pos a) (negsuc b) c h k = absurd h
-lt-le (negsuc a) (pos b) (pos c) h k = tt
-lt-le (negsuc a) (pos b) (negsuc c) h k = absurd k
-lt-le (negsuc a) (negsuc b) (pos c) h k = tt
-lt-le (negsuc a) (negsuc b) (negsuc c) h k = lt→ltb c a (omega (arith, ltb→lt b a h, leb→le c b k))
-
-pub lt→le : (a b : ℤ) → T (ltZ a b) → T (leZ a b)
-lt→le (pos a) (pos b) h = le→leb a b (omega (arith, ltb→lt a b h))
-lt→le (pos a) (negsuc b) h = h
-lt→le (negsuc a) (pos b) h = tt
-lt→le (negsuc a) (negsuc b) h = le→leb b a (omega (arith, ltb→lt b a h))
-
-pub other-way : (a b : ℤ) → T (not (ltZ a b)) → T (not (eqZ a b)) → T (ltZ b a)
-other-way (pos a) (pos b) h k = lt→ltb b a (omega (arith, nltb→le a b h, neqb→ne a b k))
-other-way (pos a) (negsuc b) h k = tt
-other-way (negsuc a) (pos b) h k = absurd h
-other-way (negsuc a) (negsuc b) h k = lt→ltb a b (omega (arith, nltb→le b a h, neqb→ne a b k))
-
-pub irrefl : (a : ℤ) → T (ltZ a a) → ⊥
-irrefl a h = <ℤ-irrefl {a = a} (ltZ-yes h)
+use Rattle.scalar.proofs.WholeLaws.{eqZ→eq, eq→eqZ, le-lt, lt-le, lt→le, other-way, irrefl}
 
 -- ---- Bools
 or-cases : {X : Type 0} (a b : Bool) → T (a || b) → (T a → X) → (T b → X) → X
