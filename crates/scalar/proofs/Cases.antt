@@ -2,7 +2,7 @@
 use mathlib.Core.Path.{_≡_, refl}
 use mathlib.Core.Bool.{true, false}
 use lib.IntN.{pos, negsuc}
-use lib.Ieee.{binary64, lt, eq, ofInt, inFloat, ofBits, toBits}
+use lib.Ieee.{binary64, lt, eq, ofInt, ofBits, toBits}
 use Rattle.scalar.specs.Scalars.{scalarToF64, sameScalar, lessScalar}
 use Rattle.scalar.specs.Coded.{scalarOf, bitsOf}
 use Rattle.scalar.specs.declared.ScalarValue.the-variants as S
@@ -11,24 +11,21 @@ use Rattle.scalar.specs.declared.Number.the-variants.{Of, Nothing}
 
 -- 2 ^ 53 converts, and 2 ^ 53 + 1 does not
 pub at-edge : scalarToF64 (S.Int64 (pos 9007199254740992)) ≡ Of (ofBits binary64 0x4340_0000_0000_0000)
-unfolding ofInt inFloat ofBits
+unfolding ofInt ofBits
 at-edge = refl
 
 pub past-edge : scalarToF64 (S.Int64 (pos 9007199254740993)) ≡ Nothing
-unfolding inFloat
 past-edge = refl
 
 -- -2 ^ 53 converts, and -2 ^ 53 - 1 and the least Int64 do not
 pub at-low-edge : scalarToF64 (S.Int64 (negsuc 9007199254740991)) ≡ Of (ofBits binary64 0xc340_0000_0000_0000)
-unfolding ofInt inFloat ofBits
+unfolding ofInt ofBits
 at-low-edge = refl
 
 pub past-low-edge : scalarToF64 (S.Int64 (negsuc 9007199254740992)) ≡ Nothing
-unfolding inFloat
 past-low-edge = refl
 
 pub least : scalarToF64 (S.Int64 (negsuc 9223372036854775807)) ≡ Nothing
-unfolding inFloat
 least = refl
 
 -- infinity and the NaN bound nothing

@@ -8,11 +8,11 @@ use lib.Dec.{T, ltb, eqb, eqb→eq, eqb-refl}
 use lib.Pow.{pow-pos}
 use lib.IntN.{ℤ, pos, negsuc}
 use lib.Signed.{ltZ}
-use lib.Ieee.{Float, nan, inf, fin, binary64, Format, prec, emax, low, isNan, lt, eq, fits, ofInt, inFloat, size, nearest, odd, units, round}
+use lib.Ieee.{Float, nan, inf, fin, binary64, Format, prec, emax, low, isNan, lt, eq, fits, ofInt, size, nearest, odd, units, round}
 use lib.Ieee.Bits.{is-true, is-false}
 use Rattle.scalar.specs.Exact.{eqZ, finite, exactAt, exactIn, wholeIn}
 use Rattle.scalar.specs.Kinds.{kindCode, kindOfCode, sameKind, kindOf, isNull}
-use Rattle.scalar.specs.Scalars.{pairwise, sameScalar, lessScalar, scalarToF64, Typed, holdsNan, hasValue, valueOf}
+use Rattle.scalar.specs.Scalars.{pairwise, sameScalar, lessScalar, small, scalarToF64, Typed, holdsNan, hasValue, valueOf}
 use Rattle.scalar.specs.Coded.{caseCode}
 use Rattle.scalar.specs.declared.Kind.{Kind}
 use Rattle.scalar.specs.declared.Kind.the-variants as K
@@ -22,6 +22,7 @@ use Rattle.scalar.specs.declared.ScalarValue.{ScalarValue}
 use Rattle.scalar.specs.declared.ScalarValue.the-variants as S
 use Rattle.scalar.proofs.WholeLaws.{eqZ→eq, eqZ-refl, lt→le, le-lt, irrefl, one-of}
 use Rattle.scalar.proofs.ExactLaws.{lt-exact, eq-exact, ltZ-scale, eqZ-scale}
+use Rattle.scalar.proofs.NumberLaws.{OfNumber, chosen}
 use Rattle.scalar.proofs.FloatLaws.{yes, beq→eq, alike, eq-comm, eq-self, eq-left, lt-left, lt-right, lt-self, lt-trans, lt-total}
 
 -- ---- cases
@@ -213,20 +214,11 @@ unfolding ofInt
 whole-no-nan (pos n) = round-no-nan binary64 false n 1
 whole-no-nan (negsuc n) = round-no-nan binary64 true (suc n) 1
 
--- what holds of the number of a scalar that has one
-abbrev OfNumber : (Float → Type 0) → Number → Type 0
-OfNumber P (Of x) = P x
-OfNumber P Nothing = Unit {0}
-
-chosen : (P : Float → Type 0) (b : Bool) (x : Float) → (T b → P x) → OfNumber P (cond b (Of x) Nothing)
-chosen P true x f = f tt
-chosen P false x f = tt
-
 no-nan : (v : ScalarValue) → OfNumber (λ (x : Float). isNan x ≡ false) (scalarToF64 v)
 no-nan (S.Null k) = tt
 no-nan (S.Boolean b) = tt
 no-nan (S.Int32 n) = whole-no-nan n
-no-nan (S.Int64 n) = chosen (λ (x : Float). isNan x ≡ false) (inFloat binary64 n) (ofInt binary64 n) (λ t. whole-no-nan n)
+no-nan (S.Int64 n) = chosen (λ (x : Float). isNan x ≡ false) (small n) (ofInt binary64 n) (λ t. whole-no-nan n)
 no-nan (S.Float64 x) = chosen (λ (y : Float). isNan y ≡ false) (finite x) x (finite-no-nan x)
 no-nan (S.Date32 n) = whole-no-nan n
 

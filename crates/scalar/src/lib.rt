@@ -302,13 +302,7 @@ pub fn code_of(v: ScalarValue) -> u8
 {
     match v {
         ScalarValue::Null(k) => kind_code(k),
-        ScalarValue::Boolean(b) => {
-            if b {
-                1
-            } else {
-                0
-            }
-        }
+        ScalarValue::Boolean(b) => { if b { 1 } else { 0 } }
         ScalarValue::Int32(_) => 0,
         ScalarValue::Int64(_) => 0,
         ScalarValue::Float64(_) => 0,
