@@ -16,13 +16,8 @@ use lib.Ieee.Exact.{HasValue}
 use lib.Ieee.Back.{round-whole}
 use mir.Syntax.{Width, w32}
 use mir.Val.{SFits}
-use Rattle.scalar.specs.Exact.{eqZ, finite, signed, unitsOf, exactIn}
-
-pub iff : (x y : Bool) → (T x → T y) → (T y → T x) → x ≡ y
-iff true true f g = refl
-iff true false f g = absurd (f tt)
-iff false true f g = absurd (g tt)
-iff false false f g = refl
+use Rattle.scalar.specs.Exact.{eqZ, finite, signed, unitsAt, exactAt, exactIn}
+use Rattle.scalar.proofs.WholeLaws.{iff}
 
 -- ---- a common factor changes no test
 pub ltb-scale : (a b p : ℕ) → 0 < p → ltb (a * p) (b * p) ≡ ltb a b
@@ -88,54 +83,72 @@ within k l h = go (leb (suc k) l) (leb→le (suc k) l) (nleb→lt (suc k) l)
     go true y n = y tt
     go false y n = absurd (lt-irrefl (2 ^ l) (lt-of-lt-of-le (pow-lt (n tt)) h))
 
-unitsOf-val : (f : Format) (m : ℕ) (e : ℤ) → down e ≤ 2 ^ low f → unitsOf f m e * down e ≡ m * up e * 2 ^ low f
-unitsOf-val f m (pos k) h = mul-one (m * 2 ^ (k + low f)) ∙ ap (λ (x : ℕ). m * x) (pow-add 2 k (low f)) ∙ sym (mul-assoc m (2 ^ k) (2 ^ low f))
-unitsOf-val f m (negsuc k) h =
-    mul-assoc m (2 ^ (low f - suc k)) (2 ^ suc k)
-    ∙ ap (λ (x : ℕ). m * x) (sym (pow-add 2 (low f - suc k) (suc k)) ∙ ap (λ (x : ℕ). 2 ^ x) (back (low f) (suc k) (within k (low f) h)))
-    ∙ ap (λ (x : ℕ). x * 2 ^ low f) (sym (mul-one m))
+-- the units of 2 ^ -l reach a float's last digit
+abbrev pub Reaches : ℕ → Float → Type 0
+Reaches l nan = Unit {0}
+Reaches l (inf s) = Unit {0}
+Reaches l (fin s m e) = down e ≤ 2 ^ l
+
+pub fits-reaches : (f : Format) (x : Float) → T (fits f x) → Reaches (low f) x
+fits-reaches f nan t = tt
+fits-reaches f (inf s) t = tt
+fits-reaches f (fin s m e) t = fits-down f s m e t
+
+units-val : (l m : ℕ) (e : ℤ) → down e ≤ 2 ^ l → unitsAt l m e * down e ≡ m * up e * 2 ^ l
+units-val l m (pos k) h = mul-one (m * 2 ^ (k + l)) ∙ ap (λ (x : ℕ). m * x) (pow-add 2 k l) ∙ sym (mul-assoc m (2 ^ k) (2 ^ l))
+units-val l m (negsuc k) h =
+    mul-assoc m (2 ^ (l - suc k)) (2 ^ suc k)
+    ∙ ap (λ (x : ℕ). m * x) (sym (pow-add 2 (l - suc k) (suc k)) ∙ ap (λ (x : ℕ). 2 ^ x) (back l (suc k) (within k l h)))
+    ∙ ap (λ (x : ℕ). x * 2 ^ l) (sym (mul-one m))
 
 -- ---- `<` and `==` on finite floats
 -- a / d in units, u of them, at the other's scale g
 crossed : (a d g u l : ℕ) → u * d ≡ a * l → a * g * l ≡ u * (d * g)
 crossed a d g u l h = mul-right-comm a g l ∙ ap (λ (x : ℕ). x * g) (sym h) ∙ mul-assoc u d g
 
-module _ (f : Format) where
-  pub lt-exact : (x y : Float) → T (finite x) → T (finite y) → T (fits f x) → T (fits f y) → lt x y ≡ ltZ (exactIn f x) (exactIn f y)
-  unfolding lt exactIn
-  lt-exact (fin s m e) (fin t n d) p q h k =
-      let l = 2 ^ low f in
+-- two floats at one scale
+module _ (l : ℕ) where
+  pub lt-at : (x y : Float) → T (finite x) → T (finite y) → Reaches l x → Reaches l y → lt x y ≡ ltZ (exactAt l x) (exactAt l y)
+  unfolding lt exactAt
+  lt-at (fin s m e) (fin t n d) p q h k =
       let g = down e * down d in
-      let u = unitsOf f m e in
-      let v = unitsOf f n d in
-      sym (below-scale s (m * up e * down d) t (n * up d * down e) l (pow-pos (low f)))
+      let u = unitsAt l m e in
+      let v = unitsAt l n d in
+      sym (below-scale s (m * up e * down d) t (n * up d * down e) (2 ^ l) (pow-pos l))
       ∙ ap₂ (λ (x y : ℕ). below s x t y)
-      (crossed (m * up e) (down e) (down d) u l (unitsOf-val f m e (fits-down f s m e h)))
-      (crossed (n * up d) (down d) (down e) v l (unitsOf-val f n d (fits-down f t n d k)) ∙ ap (λ (x : ℕ). v * x) (mul-comm (down d) (down e)))
+      (crossed (m * up e) (down e) (down d) u (2 ^ l) (units-val l m e h))
+      (crossed (n * up d) (down d) (down e) v (2 ^ l) (units-val l n d k) ∙ ap (λ (x : ℕ). v * x) (mul-comm (down d) (down e)))
       ∙ below-scale s u t v g (mul-pos (down-pos e) (down-pos d))
       ∙ below-signed s u t v
 
-  pub eq-exact : (x y : Float) → T (finite x) → T (finite y) → T (fits f x) → T (fits f y) → eq x y ≡ eqZ (exactIn f x) (exactIn f y)
-  unfolding eq exactIn
-  eq-exact (fin s m e) (fin t n d) p q h k =
-      let l = 2 ^ low f in
+  pub eq-at : (x y : Float) → T (finite x) → T (finite y) → Reaches l x → Reaches l y → eq x y ≡ eqZ (exactAt l x) (exactAt l y)
+  unfolding eq exactAt
+  eq-at (fin s m e) (fin t n d) p q h k =
       let g = down e * down d in
-      let u = unitsOf f m e in
-      let v = unitsOf f n d in
-      sym (level-scale s (m * up e * down d) t (n * up d * down e) l (pow-pos (low f)))
+      let u = unitsAt l m e in
+      let v = unitsAt l n d in
+      sym (level-scale s (m * up e * down d) t (n * up d * down e) (2 ^ l) (pow-pos l))
       ∙ ap₂ (λ (x y : ℕ). level s x t y)
-      (crossed (m * up e) (down e) (down d) u l (unitsOf-val f m e (fits-down f s m e h)))
-      (crossed (n * up d) (down d) (down e) v l (unitsOf-val f n d (fits-down f t n d k)) ∙ ap (λ (x : ℕ). v * x) (mul-comm (down d) (down e)))
+      (crossed (m * up e) (down e) (down d) u (2 ^ l) (units-val l m e h))
+      (crossed (n * up d) (down d) (down e) v (2 ^ l) (units-val l n d k) ∙ ap (λ (x : ℕ). v * x) (mul-comm (down d) (down e)))
       ∙ level-scale s u t v g (mul-pos (down-pos e) (down-pos d))
       ∙ level-signed s u t v
 
+module _ (f : Format) where
+  -- `<` and `==` on finite floats of a format are order and equality of the exact values
+  pub lt-exact : (x y : Float) → T (finite x) → T (finite y) → T (fits f x) → T (fits f y) → lt x y ≡ ltZ (exactIn f x) (exactIn f y)
+  lt-exact x y p q h k = lt-at (low f) x y p q (fits-reaches f x h) (fits-reaches f y k)
+
+  pub eq-exact : (x y : Float) → T (finite x) → T (finite y) → T (fits f x) → T (fits f y) → eq x y ≡ eqZ (exactIn f x) (exactIn f y)
+  eq-exact x y p q h k = eq-at (low f) x y p q (fits-reaches f x h) (fits-reaches f y k)
+
   -- ---- whole numbers
   exact-val : (x : Float) (s : Bool) (n : ℕ) → T (fits f x) → HasValue x s n 1 → exactIn f x ≡ signed s (n * 2 ^ low f)
-  unfolding exactIn
+  unfolding exactAt
   exact-val (fin t m e) s n h v =
       ap₂ signed (v .0)
-      (eq-of-mul-eq-mul-right (down e) (down-pos e) (unitsOf f m e) (n * 2 ^ low f)
-      (unitsOf-val f m e (fits-down f t m e h)
+      (eq-of-mul-eq-mul-right (down e) (down-pos e) (unitsAt (low f) m e) (n * 2 ^ low f)
+      (units-val (low f) m e (fits-down f t m e h)
       ∙ ap (λ (x : ℕ). x * 2 ^ low f) (sym (mul-one (m * up e)) ∙ v .1)
       ∙ mul-right-comm n (down e) (2 ^ low f)))
 

@@ -1,7 +1,7 @@
 -- A scalar as three numbers: its case, a code and bits. Case and code are those of the plan file. Assumes nothing.
 use mathlib.Core.Bool.{Bool, true, false, cond}
 use Prim.Native.Nat.{ℕ, _%_, _^_}
-use lib.Dec.{eqb}
+use lib.Dec.{eqb, ltb}
 use lib.IntN.{ℤ}
 use lib.Ieee.{binary64, ofBits, toBits}
 use mir.Syntax.{w32, w64}
@@ -54,3 +54,7 @@ scalarOf case code bits =
     (cond (eqb case 0x14) (S.Float64 (ofBits binary64 bits))
     (cond (eqb case 0x15) (S.Date32 (lowSigned bits))
     (S.Null K.Boolean))))))
+
+-- a pattern of 64 bits is a NaN's where, its sign aside, it is above that of infinity
+abbrev pub nanPattern : ℕ → Bool
+nanPattern bits = ltb 0x7ff0_0000_0000_0000 (bits % 0x8000_0000_0000_0000)

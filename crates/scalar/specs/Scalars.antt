@@ -1,10 +1,9 @@
 -- Equality and order of scalars, and the number that a scalar bounds by. Assumes nothing.
 use mathlib.Core.Bool.{Bool, true, false, not, cond, _&&_, Bool·beq}
-use Prim.Native.Nat.{ℕ}
-use lib.Dec.{T, eqb}
-use lib.IntN.{ℤ, pos}
+use lib.Dec.{T, leb}
+use lib.IntN.{ℤ, pos, natAbs}
 use lib.Signed.{ltZ}
-use lib.Ieee.{Float, nan, inf, fin, binary64, lt, eq, fits, ofInt, inFloat}
+use lib.Ieee.{Float, binary64, isNan, lt, eq, fits, ofInt}
 use mir.Syntax.{w32, w64}
 use mir.Val.{SFits}
 use Rattle.scalar.specs.Exact.{eqZ, finite, exactIn, wholeIn}
@@ -62,12 +61,16 @@ sameScalar = pairwise false sameKind Bool·beq eqZ eqZ eq eqZ
 abbrev pub lessScalar : ScalarValue → ScalarValue → Bool
 lessScalar = pairwise false (λ (k l : Kind). false) (λ (a b : Bool). not a && b) ltZ ltZ lt ltZ
 
--- the number that a scalar bounds by, where it converts without loss
+-- magnitude at most 2 ^ 53
+abbrev pub small : ℤ → Bool
+small n = leb (natAbs n) 9007199254740992
+
+-- the number that a scalar bounds by: an Int32, a Date32, a small Int64 converted, and a finite Float64
 abbrev pub scalarToF64 : ScalarValue → Number
 scalarToF64 (S.Null k) = Nothing
 scalarToF64 (S.Boolean b) = Nothing
 scalarToF64 (S.Int32 n) = Of (ofInt binary64 n)
-scalarToF64 (S.Int64 n) = cond (inFloat binary64 n) (Of (ofInt binary64 n)) Nothing
+scalarToF64 (S.Int64 n) = cond (small n) (Of (ofInt binary64 n)) Nothing
 scalarToF64 (S.Float64 x) = cond (finite x) (Of x) Nothing
 scalarToF64 (S.Date32 n) = Of (ofInt binary64 n)
 
@@ -80,7 +83,25 @@ Typed (S.Int64 n) = SFits w64 n
 Typed (S.Float64 x) = T (fits binary64 x)
 Typed (S.Date32 n) = SFits w32 n
 
--- a number's exact value in units of 2 ^ -1074, for a float its own
+-- a Float64 that is the NaN
+abbrev pub holdsNan : ScalarValue → Bool
+holdsNan (S.Null k) = false
+holdsNan (S.Boolean b) = false
+holdsNan (S.Int32 n) = false
+holdsNan (S.Int64 n) = false
+holdsNan (S.Float64 x) = isNan x
+holdsNan (S.Date32 n) = false
+
+-- a scalar has an exact value where it is a whole number or a finite float
+abbrev pub hasValue : ScalarValue → Bool
+hasValue (S.Null k) = false
+hasValue (S.Boolean b) = false
+hasValue (S.Int32 n) = true
+hasValue (S.Int64 n) = true
+hasValue (S.Float64 x) = finite x
+hasValue (S.Date32 n) = true
+
+-- that exact value in units of 2 ^ -1074
 abbrev pub valueOf : ScalarValue → ℤ
 valueOf (S.Null k) = pos 0
 valueOf (S.Boolean b) = pos 0
@@ -88,3 +109,20 @@ valueOf (S.Int32 n) = wholeIn binary64 n
 valueOf (S.Int64 n) = wholeIn binary64 n
 valueOf (S.Float64 x) = exactIn binary64 x
 valueOf (S.Date32 n) = wholeIn binary64 n
+
+-- an Int32, an Int64 or a Date32, and the whole number that it holds
+abbrev pub isWhole : ScalarValue → Bool
+isWhole (S.Null k) = false
+isWhole (S.Boolean b) = false
+isWhole (S.Int32 n) = true
+isWhole (S.Int64 n) = true
+isWhole (S.Float64 x) = false
+isWhole (S.Date32 n) = true
+
+abbrev pub wholeOf : ScalarValue → ℤ
+wholeOf (S.Null k) = pos 0
+wholeOf (S.Boolean b) = pos 0
+wholeOf (S.Int32 n) = n
+wholeOf (S.Int64 n) = n
+wholeOf (S.Float64 x) = pos 0
+wholeOf (S.Date32 n) = n

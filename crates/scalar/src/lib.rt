@@ -3,7 +3,7 @@ ghost use mathlib.Core.Path.{_≡_};
 ghost use lib.Ieee as Ieee;
 ghost use lib.Ieee.{binary64};
 ghost use mir.Syntax.{w32, w64};
-ghost use mir.Val.{toZ};
+ghost use mir.Val.{toZ, ofZ};
 ghost use Rattle.scalar.specs.Exact.{finite};
 ghost use Rattle.scalar.specs.Kinds.{kindCode, kindOfCode, kindOf, isNull, sameKind};
 ghost use Rattle.scalar.specs.Scalars.{sameScalar, lessScalar, scalarToF64};
@@ -220,6 +220,7 @@ pub fn signed64(n: u64) -> i64
     }
 }
 
+// The same at 32 bits, from 2 ^ 31 on.
 pub fn signed32(n: u32) -> i32
     ensures { λ r. ⌜ r ≡ toZ w32 n ⌝ }
 {
@@ -227,5 +228,97 @@ pub fn signed32(n: u32) -> i32
         n as i32
     } else {
         -1 - ((4294967295 - n) as i32)
+    }
+}
+
+// The other way: a negative number stands as itself and 2 ^ 64.
+pub fn unsigned64(n: i64) -> u64
+    ensures { λ r. ⌜ r ≡ ofZ w64 n ⌝ }
+{
+    if n < 0 {
+        18446744073709551615 - ((-1 - n) as u64)
+    } else {
+        n as u64
+    }
+}
+
+pub fn unsigned32(n: i32) -> u32
+    ensures { λ r. ⌜ r ≡ ofZ w32 n ⌝ }
+{
+    if n < 0 {
+        4294967295 - ((-1 - n) as u32)
+    } else {
+        n as u32
+    }
+}
+
+// The low 32 bits in two's complement.
+fn low_signed(bits: u64) -> i32
+    ensures { λ r. ⌜ r ≡ lowSigned bits ⌝ }
+{
+    signed32((bits % 4294967296) as u32)
+}
+
+// The scalar of three numbers. Each triple has one, so that tables of plain numbers need no check before they are read.
+pub fn scalar_of(case: u8, code: u8, bits: u64) -> ScalarValue
+    ensures { λ r. ⌜ r ≡ scalarOf case code bits ⌝ }
+{
+    if case == 0x10 {
+        return ScalarValue::Null(kind_of_code(code));
+    }
+    if case == 0x11 {
+        return ScalarValue::Boolean(code == 1);
+    }
+    if case == 0x12 {
+        return ScalarValue::Int32(low_signed(bits));
+    }
+    if case == 0x13 {
+        return ScalarValue::Int64(signed64(bits));
+    }
+    if case == 0x14 {
+        return ScalarValue::Float64(float_of_bits(bits));
+    }
+    if case == 0x15 {
+        return ScalarValue::Date32(low_signed(bits));
+    }
+    ScalarValue::Null(Kind::Boolean)
+}
+
+pub fn case_of(v: ScalarValue) -> u8
+    ensures { λ r. ⌜ r ≡ caseCode v ⌝ }
+{
+    match v {
+        ScalarValue::Null(_) => 0x10,
+        ScalarValue::Boolean(_) => 0x11,
+        ScalarValue::Int32(_) => 0x12,
+        ScalarValue::Int64(_) => 0x13,
+        ScalarValue::Float64(_) => 0x14,
+        ScalarValue::Date32(_) => 0x15,
+    }
+}
+
+pub fn code_of(v: ScalarValue) -> u8
+    ensures { λ r. ⌜ r ≡ codeOf v ⌝ }
+{
+    match v {
+        ScalarValue::Null(k) => kind_code(k),
+        ScalarValue::Boolean(b) => { if b { 1 } else { 0 } }
+        ScalarValue::Int32(_) => 0,
+        ScalarValue::Int64(_) => 0,
+        ScalarValue::Float64(_) => 0,
+        ScalarValue::Date32(_) => 0,
+    }
+}
+
+pub fn bits_of(v: ScalarValue) -> u64
+    ensures { λ r. ⌜ r ≡ bitsOf v ⌝ }
+{
+    match v {
+        ScalarValue::Null(_) => 0,
+        ScalarValue::Boolean(_) => 0,
+        ScalarValue::Int32(n) => unsigned32(n) as u64,
+        ScalarValue::Int64(n) => unsigned64(n),
+        ScalarValue::Float64(x) => bits_of_float(x),
+        ScalarValue::Date32(n) => unsigned32(n) as u64,
     }
 }

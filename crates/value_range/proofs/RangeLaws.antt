@@ -1,59 +1,21 @@
--- A bound that tightens a range admits what the range and the bound both admit, and a range that is empty admits nothing. Assumes nothing.
+-- A number is within a tightened range exactly when it was within the range and meets the new bound; an empty range holds no number; bounds stay finite.
+-- One law for both ends. Assumes nothing.
 use mathlib.Core.Path.{_≡_, refl, sym, ap, ap₂, _∙_, subst}
 use mathlib.Core.Bool.{Bool, true, false, not, _&&_, _||_, cond, and-assoc, and-comm}
-use Prim.Native.Nat.{ℕ, _≤_, _<_}
-use native.Mathlib.Omega.{arith}
-use lib.Dec.{T, T-not, not-T, leb, ltb, eqb, leb→le, le→leb, ltb→lt, lt→ltb, nltb→le, eqb→eq}
-use lib.Ieee.Bits.{is-true, is-false}
-use lib.IntN.{ℤ, pos, negsuc}
-use lib.Signed.{ltZ, leZ, ltZ-yes, <ℤ-irrefl}
+use lib.Dec.{T, T-not, not-T}
+use lib.IntN.{ℤ}
+use lib.Signed.{ltZ, leZ}
 use lib.Ieee.{Float, binary64, lt, eq, fits}
-use lib.Ieee.Fits.{and-l, and-r, eq→eqb}
+use lib.Ieee.Bits.{is-true, is-false}
+use lib.Ieee.Fits.{and-l, and-r}
 use Rattle.scalar.specs.Exact.{eqZ, finite, exactIn}
-use Rattle.value_range.specs.Ranges.{boundAt, takesLower, takesUpper, tightenLower, tightenUpper, emptyRange, upTo, meetsLower, meetsUpper, within}
+use Rattle.scalar.proofs.ExactLaws.{lt-exact, eq-exact}
+use Rattle.scalar.proofs.WholeLaws.{eqZ→eq, eqZ-comm, le-lt, lt-le, lt→le, other-way, irrefl}
+use Rattle.value_range.specs.Ranges.{unboundedRange, boundAt, takesLower, takesUpper, tightenLower, tightenUpper, emptyRange, upTo, meetsLower, meetsUpper, within, Sound, SoundRange}
 use Rattle.value_range.specs.declared.Bound.{Bound}
 use Rattle.value_range.specs.declared.ValueRange.{ValueRange}
-use Rattle.scalar.proofs.ExactLaws.{lt-exact, eq-exact}
-use Rattle.scalar.proofs.Apart.{eqZ→eq, eq→eqZ}
 
-neqb→ne : (a b : ℕ) → T (not (eqb a b)) → a ≡ b → ⊥
-neqb→ne a b h e = T-not (eqb a b) h (eq→eqb e)
-
--- ---- the order of the whole numbers
-pub le-lt : (a b c : ℤ) → T (leZ a b) → T (ltZ b c) → T (ltZ a c)
-le-lt (pos a) (pos b) (pos c) h k = lt→ltb a c (omega (arith, leb→le a b h, ltb→lt b c k))
-le-lt (pos a) (pos b) (negsuc c) h k = k
-le-lt (pos a) (negsuc b) c h k = absurd h
-le-lt (negsuc a) (pos b) (pos c) h k = tt
-le-lt (negsuc a) (pos b) (negsuc c) h k = absurd k
-le-lt (negsuc a) (negsuc b) (pos c) h k = tt
-le-lt (negsuc a) (negsuc b) (negsuc c) h k = lt→ltb c a (omega (arith, leb→le b a h, ltb→lt c b k))
-
-pub lt-le : (a b c : ℤ) → T (ltZ a b) → T (leZ b c) → T (ltZ a c)
-lt-le (pos a) (pos b) (pos c) h k = lt→ltb a c (omega (arith, ltb→lt a b h, leb→le b c k))
-lt-le (pos a) (pos b) (negsuc c) h k = k
-lt-le (pos a) (negsuc b) c h k = absurd h
-lt-le (negsuc a) (pos b) (pos c) h k = tt
-lt-le (negsuc a) (pos b) (negsuc c) h k = absurd k
-lt-le (negsuc a) (negsuc b) (pos c) h k = tt
-lt-le (negsuc a) (negsuc b) (negsuc c) h k = lt→ltb c a (omega (arith, ltb→lt b a h, leb→le c b k))
-
-pub lt→le : (a b : ℤ) → T (ltZ a b) → T (leZ a b)
-lt→le (pos a) (pos b) h = le→leb a b (omega (arith, ltb→lt a b h))
-lt→le (pos a) (negsuc b) h = h
-lt→le (negsuc a) (pos b) h = tt
-lt→le (negsuc a) (negsuc b) h = le→leb b a (omega (arith, ltb→lt b a h))
-
-pub other-way : (a b : ℤ) → T (not (ltZ a b)) → T (not (eqZ a b)) → T (ltZ b a)
-other-way (pos a) (pos b) h k = lt→ltb b a (omega (arith, nltb→le a b h, neqb→ne a b k))
-other-way (pos a) (negsuc b) h k = tt
-other-way (negsuc a) (pos b) h k = absurd h
-other-way (negsuc a) (negsuc b) h k = lt→ltb a b (omega (arith, nltb→le b a h, neqb→ne a b k))
-
-pub irrefl : (a : ℤ) → T (ltZ a a) → ⊥
-irrefl a h = <ℤ-irrefl {a = a} (ltZ-yes h)
-
--- ---- Bools
+-- ---- tests
 or-cases : {X : Type 0} (a b : Bool) → T (a || b) → (T a → X) → (T b → X) → X
 or-cases true b t f g = f tt
 or-cases false b t f g = g t
@@ -80,8 +42,17 @@ kept true true f = refl
 kept true false f = absurd (f tt)
 kept false b f = refl
 
+-- a field of the record that is chosen
+of-chosen : {A : Type 0} (g : ValueRange → A) (t : Bool) (r s : ValueRange) → g (cond t r s) ≡ cond t (g r) (g s)
+of-chosen g true r s = refl
+of-chosen g false r s = refl
+
+chosen-same : {A : Type 0} (t : Bool) (a : A) → cond t a a ≡ a
+chosen-same true a = refl
+chosen-same false a = refl
+
 -- ---- one law for both ends: an order, and the same the other way round
-pub record Order (L E : ℤ → ℤ → Bool) : Type 0 where
+record Order (L E : ℤ → ℤ → Bool) : Type 0 where
   pub through : (a b c : ℤ) → T (E a b) → T (L b c) → T (L a c)
   pub weaker : (a b : ℤ) → T (L a b) → T (E a b)
   pub total : (a b : ℤ) → T (not (L a b)) → T (not (eqZ a b)) → T (L b a)
@@ -89,28 +60,20 @@ pub record Order (L E : ℤ → ℤ → Bool) : Type 0 where
 upwards : Order ltZ leZ
 upwards = record { through = le-lt; weaker = lt→le; total = other-way }
 
-eqZ-sym : (a b : ℤ) → T (not (eqZ a b)) → T (not (eqZ b a))
-eqZ-sym a b h = not-T (eqZ b a) (λ t. T-not (eqZ a b) h (eq→eqZ a b (sym (eqZ→eq b a t))))
-
 downwards : Order (λ (a b : ℤ). ltZ b a) (λ (a b : ℤ). leZ b a)
-downwards = record { through = λ a b c h k. lt-le c b a k h; weaker = λ a b h. lt→le b a h; total = λ a b h k. other-way b a h (eqZ-sym a b k) }
+downwards = record {
+  through = λ a b c h k. lt-le c b a k h;
+  weaker = λ a b h. lt→le b a h;
+  total = λ a b h k. other-way b a h (subst (λ (e : Bool). T (not e)) (eqZ-comm a b) k);
+}
 
--- x keeps to y, at it or not
-abbrev keepsBy : (L E : ℤ → ℤ → Bool) → Bool → ℤ → ℤ → Bool
-keepsBy L E true x y = E x y
-keepsBy L E false x y = L x y
-
-keeps-up : (w : Bool) (x y : ℤ) → keepsBy ltZ leZ w x y ≡ upTo w x y
-keeps-up true x y = refl
-keeps-up false x y = refl
-
-keeps-down : (w : Bool) (x y : ℤ) → keepsBy (λ (a b : ℤ). ltZ b a) (λ (a b : ℤ). leZ b a) w x y ≡ upTo w y x
-keeps-down true x y = refl
-keeps-down false x y = refl
+abbrev ex : Float → ℤ
+ex v = exactIn binary64 v
 
 module _ (L E : ℤ → ℤ → Bool) (o : Order L E) where
+  -- x keeps to y, at it where w is true
   abbrev keeps : Bool → ℤ → ℤ → Bool
-  keeps = keepsBy L E
+  keeps w x y = cond w (E x y) (L x y)
 
   keeps-le : (w : Bool) (x y : ℤ) → T (keeps w x y) → T (E x y)
   keeps-le true x y t = t
@@ -131,7 +94,8 @@ module _ (L E : ℤ → ℤ → Bool) (o : Order L E) where
   at-same′ false true x y t k = o .weaker x y k
   at-same′ false false x y t k = k
 
-  pub tighter : (x y z : ℤ) (w i : Bool) → T (L z y || (eqZ z y && (w && not i))) → T (keeps i x z) → T (keeps w x y)
+  -- a bound z that replaces y is tighter, and one that does not is looser
+  tighter : (x y z : ℤ) (w i : Bool) → T (L z y || (eqZ z y && (w && not i))) → T (keeps i x z) → T (keeps w x y)
   tighter x y z w i t k =
       or-cases (L z y) (eqZ z y && (w && not i)) t
       (λ l. keeps-lt w x y (o .through x z y (keeps-le i x z k) l))
@@ -139,7 +103,7 @@ module _ (L E : ℤ → ℤ → Bool) (o : Order L E) where
       let p : z ≡ y = eqZ→eq z y (and-l (eqZ z y) (w && not i) e) in
       at-same w i x y (and-r (eqZ z y) (w && not i) e) (subst (λ (u : ℤ). T (keeps i x u)) p k))
 
-  pub looser : (x y z : ℤ) (w i : Bool) → T (not (L z y || (eqZ z y && (w && not i)))) → T (keeps w x y) → T (keeps i x z)
+  looser : (x y z : ℤ) (w i : Bool) → T (not (L z y || (eqZ z y && (w && not i)))) → T (keeps w x y) → T (keeps i x z)
   looser x y z w i t k =
       let n = nor-l (L z y) (eqZ z y && (w && not i)) t in
       by-case (eqZ z y)
@@ -149,130 +113,117 @@ module _ (L E : ℤ → ℤ → Bool) (o : Order L E) where
       (at-same′ w i x y (subst (λ (b : Bool). T (not (b && (w && not i)))) (is-true (eqZ z y) e) (nor-r (L z y) (eqZ z y && (w && not i)) t)) k))
       (λ d. keeps-lt i x z (o .through x y z (keeps-le w x y k) (o .total z y n d)))
 
--- ---- bounds
--- a bound that is there is a number of its format
-abbrev pub Sound : Bound → Type 0
-Sound b = T (b .present) → T (finite (b .value)) × T (fits binary64 (b .value))
+  -- an end of a range, where F is the order on floats: v replaces the bound there or does not
+  module _ (F : Float → Float → Bool)
+      (exact : (x y : Float) → T (finite x) → T (finite y) → T (fits binary64 x) → T (fits binary64 y) → F x y ≡ L (ex x) (ex y))
+      (x : ℤ) (v : Float) (i : Bool) (fv : T (finite v)) (hv : T (fits binary64 v)) where
+    abbrev takes : Bool → Bool → Float → Bool
+    takes p w c = not p || (F v c || (eq v c && (w && not i)))
 
-abbrev ex : Float → ℤ
-ex v = exactIn binary64 v
+    abbrev meets : Bool → Bool → Float → Bool
+    meets p w c = not p || keeps w x (ex c)
 
-module _ (x : ℤ) (v : Float) (i : Bool) (fv : T (finite v)) (hv : T (fits binary64 v)) where
-  -- the test that the code makes, on exact values
-  up-test : (b : Float) (w : Bool) → T (finite b) → T (fits binary64 b) → (lt v b || (eq v b && (w && not i))) ≡ (ltZ (ex v) (ex b) || (eqZ (ex v) (ex b) && (w && not i)))
-  up-test b w fb hb = ap₂ (λ (l e : Bool). l || (e && (w && not i))) (lt-exact binary64 v b fv fb hv hb) (eq-exact binary64 v b fv fb hv hb)
+    abbrev Finite : Bool → Float → Type 0
+    Finite p c = T p → T (finite c) × T (fits binary64 c)
 
-  down-test : (b : Float) (w : Bool) → T (finite b) → T (fits binary64 b) → (lt b v || (eq v b && (w && not i))) ≡ (ltZ (ex b) (ex v) || (eqZ (ex v) (ex b) && (w && not i)))
-  down-test b w fb hb = ap₂ (λ (l e : Bool). l || (e && (w && not i))) (lt-exact binary64 b v fb fv hb hv) (eq-exact binary64 v b fv fb hv hb)
+    -- the test that the code makes, on exact values
+    test : (w : Bool) (c : Float) → T (finite c) × T (fits binary64 c) → (F v c || (eq v c && (w && not i))) ≡ (L (ex v) (ex c) || (eqZ (ex v) (ex c) && (w && not i)))
+    test w c f = ap₂ (λ (l e : Bool). l || (e && (w && not i))) (exact v c fv (f .0) hv (f .1)) (eq-exact binary64 v c fv (f .0) hv (f .1))
 
-  up-yes : (p w : Bool) (b : Float) → (T p → T (finite b) × T (fits binary64 b)) → T (not p || (lt v b || (eq v b && (w && not i)))) → T (upTo i x (ex v)) → T (not p || upTo w x (ex b))
-  up-yes false w b s t k = tt
-  up-yes true w b s t k =
-      subst T (keeps-up w x (ex b))
-      (tighter ltZ leZ upwards x (ex b) (ex v) w i (subst T (up-test b w (s tt .0) (s tt .1)) t) (subst T (sym (keeps-up i x (ex v))) k))
+    taken : (p w : Bool) (c : Float) → Finite p c → T (takes p w c) → T (keeps i x (ex v)) → T (meets p w c)
+    taken false w c f t k = tt
+    taken true w c f t k = tighter x (ex c) (ex v) w i (subst T (test w c (f tt)) t) k
 
-  up-no : (p w : Bool) (b : Float) → (T p → T (finite b) × T (fits binary64 b)) → T (not (not p || (lt v b || (eq v b && (w && not i))))) → T (not p || upTo w x (ex b)) → T (upTo i x (ex v))
-  up-no false w b s t k = absurd t
-  up-no true w b s t k =
-      subst T (keeps-up i x (ex v))
-      (looser ltZ leZ upwards x (ex b) (ex v) w i (subst (λ (c : Bool). T (not c)) (up-test b w (s tt .0) (s tt .1)) t) (subst T (sym (keeps-up w x (ex b))) k))
+    left : (p w : Bool) (c : Float) → Finite p c → T (not (takes p w c)) → T (meets p w c) → T (keeps i x (ex v))
+    left false w c f t k = absurd t
+    left true w c f t k = looser x (ex c) (ex v) w i (subst (λ (b : Bool). T (not b)) (test w c (f tt)) t) k
 
-  pub upper-tightened : (r : ValueRange) → Sound (r .upper) → meetsUpper x (tightenUpper r v i .upper) ≡ (meetsUpper x (r .upper) && upTo i x (ex v))
-  upper-tightened r s = go (takesUpper (r .upper) v i) (up-yes (r .upper .present) (r .upper .inclusive) (r .upper .value) s) (up-no (r .upper .present) (r .upper .inclusive) (r .upper .value) s)
-    where
-      go : (t : Bool) → (T t → T (upTo i x (ex v)) → T (meetsUpper x (r .upper))) → (T (not t) → T (meetsUpper x (r .upper)) → T (upTo i x (ex v)))
-          → meetsUpper x (cond t (record { lower = r .lower; upper = boundAt v i }) r .upper) ≡ (meetsUpper x (r .upper) && upTo i x (ex v))
-      go true f g = absorbed (meetsUpper x (r .upper)) (upTo i x (ex v)) (f tt)
-      go false f g = kept (meetsUpper x (r .upper)) (upTo i x (ex v)) (g tt)
+    abbrev meetsBound : Bound → Bool
+    meetsBound b = meets (b .present) (b .inclusive) (b .value)
 
-  -- the other bound stays, and a range of sound bounds stays one
-  pub upper-keeps : (r : ValueRange) → tightenUpper r v i .lower ≡ r .lower
-  upper-keeps r = go (takesUpper (r .upper) v i)
-    where
-      go : (t : Bool) → cond t (record { lower = r .lower; upper = boundAt v i }) r .lower ≡ r .lower
-      go true = refl
-      go false = refl
+    tightened : (b : Bound) → Sound b → meetsBound (cond (takes (b .present) (b .inclusive) (b .value)) (boundAt v i) b) ≡ (meetsBound b && keeps i x (ex v))
+    tightened b s = go (takes (b .present) (b .inclusive) (b .value)) (taken (b .present) (b .inclusive) (b .value) s) (left (b .present) (b .inclusive) (b .value) s)
+      where
+        go : (t : Bool) → (T t → T (keeps i x (ex v)) → T (meetsBound b)) → (T (not t) → T (meetsBound b) → T (keeps i x (ex v))) → meetsBound (cond t (boundAt v i) b) ≡ (meetsBound b && keeps i x (ex v))
+        go true f g = absorbed (meetsBound b) (keeps i x (ex v)) (f tt)
+        go false f g = kept (meetsBound b) (keeps i x (ex v)) (g tt)
 
-  pub upper-sound : (r : ValueRange) → Sound (r .upper) → Sound (tightenUpper r v i .upper)
-  upper-sound r s = go (takesUpper (r .upper) v i)
-    where
-      go : (t : Bool) → Sound (cond t (record { lower = r .lower; upper = boundAt v i }) r .upper)
-      go true = λ p. (fv, hv)
-      go false = s
+-- a bound that is taken or left is finite
+sound-end : (t : Bool) (v : Float) (i : Bool) (b : Bound) → T (finite v) → T (fits binary64 v) → Sound b → Sound (cond t (boundAt v i) b)
+sound-end true v i b fv hv s = λ p. (fv, hv)
+sound-end false v i b fv hv s = s
 
-  pub within-upper : (r : ValueRange) → Sound (r .upper) → within x (tightenUpper r v i) ≡ (within x r && upTo i x (ex v))
-  within-upper r s =
-      ap₂ (λ (l : Bound) (m : Bool). meetsLower x l && m) (upper-keeps r) (upper-tightened r s)
-      ∙ sym (and-assoc (meetsLower x (r .lower)) (meetsUpper x (r .upper)) (upTo i x (ex v)))
+-- ---- tightening
+module _ (v : Float) (i : Bool) (r : ValueRange) where
+  upper-end : tightenUpper r v i .upper ≡ cond (takesUpper (r .upper) v i) (boundAt v i) (r .upper)
+  upper-end = of-chosen (λ (s : ValueRange). s .upper) (takesUpper (r .upper) v i) (record { lower = r .lower; upper = boundAt v i }) r
 
-  -- ---- the same at the lower end
-  down-yes : (p w : Bool) (b : Float) → (T p → T (finite b) × T (fits binary64 b)) → T (not p || (lt b v || (eq v b && (w && not i)))) → T (upTo i (ex v) x) → T (not p || upTo w (ex b) x)
-  down-yes false w b s t k = tt
-  down-yes true w b s t k =
-      subst T (keeps-down w x (ex b))
-      (tighter _ _ downwards x (ex b) (ex v) w i (subst T (down-test b w (s tt .0) (s tt .1)) t) (subst T (sym (keeps-down i x (ex v))) k))
+  lower-end : tightenLower r v i .lower ≡ cond (takesLower (r .lower) v i) (boundAt v i) (r .lower)
+  lower-end = of-chosen (λ (s : ValueRange). s .lower) (takesLower (r .lower) v i) (record { lower = boundAt v i; upper = r .upper }) r
 
-  down-no : (p w : Bool) (b : Float) → (T p → T (finite b) × T (fits binary64 b)) → T (not (not p || (lt b v || (eq v b && (w && not i))))) → T (not p || upTo w (ex b) x) → T (upTo i (ex v) x)
-  down-no false w b s t k = absurd t
-  down-no true w b s t k =
-      subst T (keeps-down i x (ex v))
-      (looser _ _ downwards x (ex b) (ex v) w i (subst (λ (c : Bool). T (not c)) (down-test b w (s tt .0) (s tt .1)) t) (subst T (sym (keeps-down w x (ex b))) k))
+  -- the other bound stays
+  pub upper-keeps : tightenUpper r v i .lower ≡ r .lower
+  upper-keeps = of-chosen (λ (s : ValueRange). s .lower) (takesUpper (r .upper) v i) (record { lower = r .lower; upper = boundAt v i }) r ∙ chosen-same (takesUpper (r .upper) v i) (r .lower)
 
-  pub lower-tightened : (r : ValueRange) → Sound (r .lower) → meetsLower x (tightenLower r v i .lower) ≡ (meetsLower x (r .lower) && upTo i (ex v) x)
-  lower-tightened r s = go (takesLower (r .lower) v i) (down-yes (r .lower .present) (r .lower .inclusive) (r .lower .value) s) (down-no (r .lower .present) (r .lower .inclusive) (r .lower .value) s)
-    where
-      go : (t : Bool) → (T t → T (upTo i (ex v) x) → T (meetsLower x (r .lower))) → (T (not t) → T (meetsLower x (r .lower)) → T (upTo i (ex v) x))
-          → meetsLower x (cond t (record { lower = boundAt v i; upper = r .upper }) r .lower) ≡ (meetsLower x (r .lower) && upTo i (ex v) x)
-      go true f g = absorbed (meetsLower x (r .lower)) (upTo i (ex v) x) (f tt)
-      go false f g = kept (meetsLower x (r .lower)) (upTo i (ex v) x) (g tt)
+  pub lower-keeps : tightenLower r v i .upper ≡ r .upper
+  lower-keeps = of-chosen (λ (s : ValueRange). s .upper) (takesLower (r .lower) v i) (record { lower = boundAt v i; upper = r .upper }) r ∙ chosen-same (takesLower (r .lower) v i) (r .upper)
 
-  pub lower-keeps : (r : ValueRange) → tightenLower r v i .upper ≡ r .upper
-  lower-keeps r = go (takesLower (r .lower) v i)
-    where
-      go : (t : Bool) → cond t (record { lower = boundAt v i; upper = r .upper }) r .upper ≡ r .upper
-      go true = refl
-      go false = refl
+  module _ (fv : T (finite v)) (hv : T (fits binary64 v)) where
+    -- a finite bound keeps a range of finite bounds one
+    pub upper-sound : SoundRange r → SoundRange (tightenUpper r v i)
+    upper-sound s = (subst Sound (sym upper-keeps) (s .0), subst Sound (sym upper-end) (sound-end (takesUpper (r .upper) v i) v i (r .upper) fv hv (s .1)))
 
-  pub lower-sound : (r : ValueRange) → Sound (r .lower) → Sound (tightenLower r v i .lower)
-  lower-sound r s = go (takesLower (r .lower) v i)
-    where
-      go : (t : Bool) → Sound (cond t (record { lower = boundAt v i; upper = r .upper }) r .lower)
-      go true = λ p. (fv, hv)
-      go false = s
+    pub lower-sound : SoundRange r → SoundRange (tightenLower r v i)
+    lower-sound s = (subst Sound (sym lower-end) (sound-end (takesLower (r .lower) v i) v i (r .lower) fv hv (s .0)), subst Sound (sym lower-keeps) (s .1))
 
-  pub within-lower : (r : ValueRange) → Sound (r .lower) → within x (tightenLower r v i) ≡ (within x r && upTo i (ex v) x)
-  within-lower r s =
-      ap₂ (λ (l : Bool) (u : Bound). l && meetsUpper x u) (lower-tightened r s) (lower-keeps r)
-      ∙ swap (meetsLower x (r .lower)) (upTo i (ex v) x) (meetsUpper x (r .upper))
-    where
-      swap : (a b c : Bool) → (a && b && c) ≡ (a && c && b)
-      swap true b c = and-comm b c
-      swap false b c = refl
+    -- within the tightened range is what was within the range and meets the new bound
+    pub within-upper : (x : ℤ) → SoundRange r → within x (tightenUpper r v i) ≡ (within x r && upTo i x (exactIn binary64 v))
+    within-upper x s =
+        ap₂ (λ (l u : Bound). meetsLower x l && meetsUpper x u) upper-keeps upper-end
+        ∙ ap (λ (m : Bool). meetsLower x (r .lower) && m) (tightened ltZ leZ upwards lt (lt-exact binary64) x v i fv hv (r .upper) (s .1))
+        ∙ sym (and-assoc (meetsLower x (r .lower)) (meetsUpper x (r .upper)) (upTo i x (ex v)))
 
--- ---- an empty range admits nothing
-pub upTo-le : (w : Bool) (x y : ℤ) → T (upTo w x y) → T (leZ x y)
+    pub within-lower : (x : ℤ) → SoundRange r → within x (tightenLower r v i) ≡ (within x r && upTo i (exactIn binary64 v) x)
+    within-lower x s =
+        ap₂ (λ (l u : Bound). meetsLower x l && meetsUpper x u) lower-end lower-keeps
+        ∙ ap (λ (m : Bool). m && meetsUpper x (r .upper))
+        (tightened (λ (a b : ℤ). ltZ b a) (λ (a b : ℤ). leZ b a) downwards (λ (a b : Float). lt b a) (λ y z p q h k. lt-exact binary64 z y q p k h) x v i fv hv (r .lower) (s .0))
+        ∙ swap (meetsLower x (r .lower)) (upTo i (ex v) x) (meetsUpper x (r .upper))
+      where
+        swap : (a b c : Bool) → (a && b && c) ≡ (a && c && b)
+        swap true b c = and-comm b c
+        swap false b c = refl
+
+-- ---- the range without bounds holds every number
+pub within-unbounded : (x : ℤ) → within x unboundedRange ≡ true
+within-unbounded x = refl
+
+pub unbounded-sound : SoundRange unboundedRange
+unbounded-sound = (λ p. absurd p, λ p. absurd p)
+
+-- ---- an empty range holds none
+upTo-le : (w : Bool) (x y : ℤ) → T (upTo w x y) → T (leZ x y)
 upTo-le true x y t = t
 upTo-le false x y t = lt→le x y t
 
--- a keeps below x and x below b, and not both may meet
-pub gap : (p q : Bool) (a x : ℤ) → T (not (p && q)) → T (upTo p a x) → T (upTo q x a) → ⊥
+-- a keeps below x and x below a, and not both may meet
+gap : (p q : Bool) (a x : ℤ) → T (not (p && q)) → T (upTo p a x) → T (upTo q x a) → ⊥
 gap true true a x n h k = n
 gap true false a x n h k = irrefl a (le-lt a x a h k)
 gap false q a x n h k = irrefl a (lt-le a x a h (upTo-le q x a k))
 
-pub admits : (x a b : ℤ) (p q : Bool) → T (ltZ b a || (eqZ a b && not (p && q))) → T (upTo p a x) → T (upTo q x b) → ⊥
+admits : (x a b : ℤ) (p q : Bool) → T (ltZ b a || (eqZ a b && not (p && q))) → T (upTo p a x) → T (upTo q x b) → ⊥
 admits x a b p q t h k =
     or-cases (ltZ b a) (eqZ a b && not (p && q)) t
     (λ l. irrefl x (le-lt x b x (upTo-le q x b k) (lt-le b a x l (upTo-le p a x h))))
     (λ e. gap p q a x (and-r (eqZ a b) (not (p && q)) e) h (subst (λ (u : ℤ). T (upTo q x u)) (sym (eqZ→eq a b (and-l (eqZ a b) (not (p && q)) e))) k))
 
--- a test that passed, of which one part is negated and must hold too
 there : (p q : Bool) → T p → T (not p || q) → T q
 there true q t u = u
 there false q t u = absurd t
 
-pub nothing-within : (x : ℤ) (r : ValueRange) → Sound (r .lower) → Sound (r .upper) → emptyRange r ≡ true → within x r ≡ false
-nothing-within x r sl su e = is-false (within x r) (not-T (within x r) (λ m. go (subst T (sym e) tt) m))
+pub nothing-within : (x : ℤ) (r : ValueRange) → SoundRange r → emptyRange r ≡ true → within x r ≡ false
+nothing-within x r s e = is-false (within x r) (not-T (within x r) (λ m. go (subst T (sym e) tt) m))
   where
     go : T (emptyRange r) → T (within x r) → ⊥
     go t m =
@@ -282,10 +233,12 @@ nothing-within x r sl su e = is-false (within x r) (not-T (within x r) (λ m. go
         let tl = and-l (l .present) (u .present && cross) t in
         let rest = and-r (l .present) (u .present && cross) t in
         let tu = and-l (u .present) cross rest in
+        let fl = s .0 tl in
+        let fu = s .1 tu in
         let test = subst T
         (ap₂ (λ (a b : Bool). a || (b && not (l .inclusive && u .inclusive)))
-        (lt-exact binary64 (u .value) (l .value) (su tu .0) (sl tl .0) (su tu .1) (sl tl .1))
-        (eq-exact binary64 (l .value) (u .value) (sl tl .0) (su tu .0) (sl tl .1) (su tu .1)))
+        (lt-exact binary64 (u .value) (l .value) (fu .0) (fl .0) (fu .1) (fl .1))
+        (eq-exact binary64 (l .value) (u .value) (fl .0) (fu .0) (fl .1) (fu .1)))
         (and-r (u .present) cross rest) in
         admits x (ex (l .value)) (ex (u .value)) (l .inclusive) (u .inclusive) test
         (there (l .present) (upTo (l .inclusive) (ex (l .value)) x) tl (and-l (meetsLower x l) (meetsUpper x u) m))

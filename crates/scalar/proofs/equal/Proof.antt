@@ -3,7 +3,8 @@ use mathlib.Core.List.{[], _∷_}
 use lib.Dec.{eqb}
 use mir.Syntax.{w32, w64}
 use Rattle.scalar.specs.Scalars.{sameScalar}
-use Rattle.scalar.proofs.Apart.{apart, bits-eq}
+use Rattle.scalar.proofs.Apart.{apart}
+use Rattle.scalar.proofs.WholeLaws.{bits-eq}
 use borrow.Author.Needs.{needs}
 use Rattle.scalar.proofs.equal.Statement.{statement}
 use Rattle.scalar.proofs.equal.Tie as tie

@@ -8,7 +8,8 @@ use Rattle.scalar.specs.Scalars.{lessScalar}
 use Rattle.scalar.specs.declared.Kind.{Kind}
 use Rattle.scalar.specs.declared.ScalarValue.{ScalarValue}
 use Rattle.scalar.specs.declared.ScalarValue.the-variants as S
-use Rattle.scalar.proofs.Apart.{apart, signed-lt}
+use Rattle.scalar.proofs.Apart.{apart}
+use Rattle.scalar.proofs.WholeLaws.{signed-lt}
 use borrow.Author.Needs.{needs}
 use Rattle.scalar.proofs.less.Statement.{statement}
 use Rattle.scalar.proofs.less.Tie as tie
