@@ -1,0 +1,11 @@
+//! The oracle: optd's own Rust, unchanged, asked in the words of 01. See README.md.
+
+pub mod context;
+pub mod facts;
+pub mod listing;
+pub mod plan;
+pub mod question;
+pub mod rows;
+pub mod simplify;
+pub mod subject;
+pub mod write;
