@@ -1,10 +1,14 @@
 //! The oracle: optd's own Rust, unchanged, asked in the words of 01. See README.md.
 
+pub mod builder;
 pub mod context;
 pub mod facts;
 pub mod listing;
+pub mod paths;
 pub mod plan;
+pub mod pushdown;
 pub mod question;
+pub mod random;
 pub mod rows;
 pub mod simplify;
 pub mod subject;

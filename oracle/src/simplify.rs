@@ -2,9 +2,10 @@
 
 use optd_core::door;
 use optd_core::optimize::{ExprSimplify, OperatorRewrite, Rewrite};
+use optd_core::{OptimizerContext, QueryContext};
 
 use crate::context;
-use crate::plan::{NO_SUCH, Plan, ROOM};
+use crate::plan::{EXPRESSIONS, NO_SUCH, OPERATORS, Plan, ROOM};
 
 #[derive(Debug, Clone, Copy, PartialEq, Eq)]
 pub enum Answer {
@@ -12,28 +13,33 @@ pub enum Answer {
     Replace(u16),
 }
 
-/// The answer and the plan with the appended nodes, or the number of a refusal. optd appends without
-/// end and never takes a node back, so the sizes are held against what it leaves.
+/// The answer and the plan with the appended nodes, or the number of a refusal.
 pub fn simplify(plan: &Plan, operator: u16) -> Result<(Answer, Plan), u8> {
     if usize::from(operator) >= plan.operators.len() {
         return Err(NO_SUCH);
     }
+    rewritten(plan, operator, |asked, optimizer| {
+        ExprSimplify.rewrite(asked, optimizer).expect("the pass has no error of its own")
+    })
+}
+
+/// Runs one of optd's passes at one operator. A pass appends without end and never takes a node back,
+/// so the sizes are held against what it leaves.
+pub(crate) fn rewritten(
+    plan: &Plan,
+    operator: u16,
+    pass: impl FnOnce(optd_core::Operator, &mut OptimizerContext) -> Rewrite,
+) -> Result<(Answer, Plan), u8> {
     let mut optimizer = door::optimizer(context::build(plan));
-    let rewrite = ExprSimplify
-        .rewrite(door::operator(usize::from(operator)), &mut optimizer)
-        .expect("the pass has no error of its own");
-    let query = optimizer.into_query();
-    let appended = (query.expr_count(), query.operator_count());
-    if appended.0 > crate::plan::EXPRESSIONS || appended.1 > crate::plan::OPERATORS {
+    let answer = match pass(door::operator(operator.into()), &mut optimizer) {
+        Rewrite::Keep => Answer::Keep,
+        Rewrite::Replace(by) => Answer::Replace(door::operator_number(by) as u16),
+    };
+    let query: QueryContext = optimizer.into_query();
+    // Handles past 65,535 have no number in a plan file: they are refused before one is written.
+    if query.expr_count() > EXPRESSIONS || query.operator_count() > OPERATORS {
         return Err(ROOM);
     }
     let after = context::plan_of(&query);
-    if after.past_room() {
-        return Err(ROOM);
-    }
-    let answer = match rewrite {
-        Rewrite::Keep => Answer::Keep,
-        Rewrite::Replace(replacement) => Answer::Replace(door::operator_number(replacement) as u16),
-    };
-    Ok((answer, after))
+    if after.past_room() { Err(ROOM) } else { Ok((answer, after)) }
 }
