@@ -110,8 +110,8 @@ pub fn run(
 
 /// Each family has a stream of its own, so that one can be run alone.
 fn seed_of(seed: u64, name: &str) -> u64 {
-    let mixed = name.bytes().fold(seed, |mixed, byte| Random::new(mixed ^ u64::from(byte)).next());
-    Random::new(mixed).next()
+    let mixed = name.bytes().fold(seed, |mixed, byte| Random::new(mixed ^ u64::from(byte)).bits());
+    Random::new(mixed).bits()
 }
 
 struct Comparing<'a> {

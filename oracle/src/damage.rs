@@ -20,7 +20,7 @@ fn once(random: &mut Random, file: &[u8]) -> Vec<u8> {
     let mut parts = Records::of(file);
     if parts.records.is_empty() {
         let mut bytes = file.to_vec();
-        bytes.push(random.next() as u8);
+        bytes.push(random.bits() as u8);
         return bytes;
     }
     match random.below(10) {
@@ -44,7 +44,7 @@ fn byte_changed(random: &mut Random, file: &[u8]) -> Vec<u8> {
     let mut bytes = file.to_vec();
     let place = random.below(bytes.len());
     bytes[place] = match random.below(3) {
-        0 => random.next() as u8,
+        0 => random.bits() as u8,
         1 => bytes[place].wrapping_add(1),
         _ => bytes[place] ^ (1 << random.below(8)),
     };
@@ -57,7 +57,7 @@ fn some(random: &mut Random, parts: &Records) -> usize {
 
 fn kind_changed(random: &mut Random, parts: &mut Records) {
     let place = some(random, parts);
-    let kind = if random.chance(2, 3) { random.pick(&LISTED) } else { random.next() as u8 };
+    let kind = if random.chance(2, 3) { random.pick(&LISTED) } else { random.bits() as u8 };
     parts.records[place].kind = kind;
 }
 
@@ -104,7 +104,7 @@ fn field_changed(random: &mut Random, parts: &mut Records) {
             parts.records[place].set(at, changed);
         }
         Field::Number(at) => {
-            let number = random.next() as u16;
+            let number = random.bits() as u16;
             parts.records[place].set(at, number);
         }
     }

@@ -13,6 +13,7 @@ use crate::plan::{
 use crate::plan::{Comparison, Unary};
 use crate::question::Question;
 use crate::random::Random;
+use crate::records::{Field, fields, item_kind};
 use crate::rows::operands;
 use crate::simplify::{Answer, simplify};
 use crate::write::raw;
@@ -31,9 +32,10 @@ pub struct Family {
     pub count: usize,
 }
 
-pub const FAMILIES: [Family; 15] = [
+pub const FAMILIES: [Family; 16] = [
     Family { name: "bytes", what: "every file of up to two bytes", run: bytes, count: 0 },
     Family { name: "records", what: "every record kind, and every pair", run: records, count: 0 },
+    Family { name: "clashes", what: "two faults in one record", run: clashes, count: 0 },
     Family { name: "cuts", what: "a file of every kind, cut everywhere", run: cuts, count: 0 },
     Family {
         name: "comparisons",
@@ -132,6 +134,70 @@ fn records(_: &mut Random, _: usize, ask: &mut Ask) -> Step {
     Step::Continue(())
 }
 
+/// Every atom after a plan with room, and after one without room for its sort or for items; where it
+/// counts an item: none follows, a good one, one of another kind, one with a bad handle, one cut.
+fn clashes(_: &mut Random, _: usize, ask: &mut Ask) -> Step {
+    for full in 0..5 {
+        let base = raw(&nearly_full(full));
+        for atom in atoms() {
+            let alone = [&base[..], &atom].concat();
+            for end in [alone.len(), alone.len() - 1] {
+                ask(Question::Read { file: alone[..end].to_vec() })?;
+            }
+            let counts = fields(atom[0]).iter().filter(|field| match field {
+                Field::Count(at) => atom[at + 2] == 1,
+                _ => false,
+            });
+            for field in counts {
+                let kind = item_kind(atom[0], *field);
+                let pair = matches!(kind, 0x41 | 0x42);
+                for item in items(kind, if pair { 4 } else { 2 }) {
+                    ask(Question::Read { file: [&alone[..], &item].concat() })?;
+                }
+            }
+        }
+    }
+    Step::Continue(())
+}
+
+/// Items with handles 0, 1 and beyond any, of another kind, and cut short.
+fn items(kind: u8, length: usize) -> Vec<Vec<u8>> {
+    let with = |kind: u8, body: &[u8]| [&[kind], body].concat();
+    let mut found = vec![
+        with(kind, &[0; 4][..length]),
+        with(kind, &[0, 1, 0, 1][..length]),
+        with(kind, &[0xff; 4][..length]),
+        with(kind ^ 1, &[0; 4]),
+        with(kind, &[0]),
+        with(kind, &[0xff]),
+    ];
+    if length == 4 {
+        found.extend([with(kind, &[0, 0, 0xff, 0xff]), with(kind, &[0xff, 0xff, 0, 0])]);
+    }
+    found
+}
+
+/// Two columns, one of them scanned, an expression and two operators; then nothing more, or columns,
+/// expressions, operators or items to their size.
+fn nearly_full(full: usize) -> Plan {
+    let mut b = Builder::new();
+    let column = b.column(Kind::Boolean);
+    b.column(Kind::Int32);
+    b.boolean(true);
+    b.scan(0, &[column]);
+    b.const_scan(&[]);
+    match full {
+        1 => b.plan.columns.resize(COLUMNS, b.plan.columns[0]),
+        2 => b.plan.exprs.resize(EXPRESSIONS, b.plan.exprs[0].clone()),
+        3 => b.plan.operators.resize(OPERATORS, b.plan.operators[1].clone()),
+        4 => {
+            b.operator(Operator::TableFunction { columns: vec![column; ITEMS - 1] });
+        }
+        _ => {}
+    }
+    b.plan
+}
+
 /// A plan with every kind of column, literal, node and operator, all of them accepted.
 pub fn everything() -> Plan {
     let mut b = Builder::new();
@@ -190,65 +256,58 @@ fn cuts(random: &mut Random, _: usize, ask: &mut Ask) -> Step {
     Step::Continue(())
 }
 
-/// Two columns of each kind with lineage, one of each kind without, and a Scan of the first ten.
-struct Leaves {
-    builder: Builder,
-    scan: u16,
-    /// References and literals.
-    leaves: Vec<u16>,
+/// A side of a comparison: one of two columns of a kind that are scanned, one that is not, a literal.
+#[derive(Debug, Clone, Copy, PartialEq, Eq)]
+enum Leaf {
+    Scanned(Kind, u8),
+    Unscanned(Kind),
+    Literal(Literal),
 }
 
-impl Leaves {
-    fn new() -> Self {
-        let mut builder = Builder::new();
-        for _ in 0..3 {
-            for kind in KINDS {
-                builder.column(kind);
-            }
-        }
-        let columns: Vec<u16> = (0..10).collect();
-        let scan = builder.scan(0, &columns);
-        let mut leaves: Vec<u16> = (0..15).map(|column| builder.reference(column)).collect();
-        for kind in KINDS {
-            for literal in literals(kind) {
-                leaves.push(builder.literal(literal));
-            }
-        }
-        Self { builder, scan, leaves }
+fn leaves() -> Vec<Leaf> {
+    let mut found = Vec::new();
+    for kind in KINDS {
+        found.extend([Leaf::Scanned(kind, 0), Leaf::Scanned(kind, 1), Leaf::Unscanned(kind)]);
+        found.extend(literals(kind).into_iter().map(Leaf::Literal));
     }
+    found
+}
 
-    /// Rows in which columns meet the literals: all NULL, all alike, and by seed.
-    fn rows(&self, random: &mut Random) -> Vec<Vec<Literal>> {
-        let mut rows = vec![vec![Literal::Null(Kind::Int32); 15]];
-        for number in [0, 3] {
-            let all = KINDS.iter().map(|kind| {
-                let listed = literals(*kind);
-                listed[number.min(listed.len() - 2)]
-            });
-            rows.push(all.cycle().take(15).collect());
+/// The reference or literal; a column that both sides name is there once.
+fn add_leaf(b: &mut Builder, leaf: Leaf, columns: &mut Vec<Leaf>) -> u16 {
+    let kind = match leaf {
+        Leaf::Literal(literal) => return b.literal(literal),
+        Leaf::Scanned(kind, _) | Leaf::Unscanned(kind) => kind,
+    };
+    let column = match columns.iter().position(|known| *known == leaf) {
+        Some(place) => place as u16,
+        None => {
+            columns.push(leaf);
+            b.column(kind)
         }
-        for _ in 0..2 {
-            rows.push(generate::row(random, &self.builder.plan));
-        }
-        rows
-    }
+    };
+    b.reference(column)
 }
 
 fn comparisons(random: &mut Random, _: usize, ask: &mut Ask) -> Step {
-    let base = Leaves::new();
-    for left in &base.leaves {
-        for right in &base.leaves {
-            // One plan for the pair: the seven comparisons stand beside each other.
-            let mut b = base.builder.clone();
-            let tests: Vec<u16> =
-                COMPARISONS.iter().map(|op| b.compare(*op, *left, *right)).collect();
+    let leaves = leaves();
+    for left in &leaves {
+        for right in &leaves {
+            let (mut b, mut columns) = (Builder::new(), Vec::new());
+            let (l, r) =
+                (add_leaf(&mut b, *left, &mut columns), add_leaf(&mut b, *right, &mut columns));
+            let scanned: Vec<u16> = (0..columns.len() as u16)
+                .filter(|c| matches!(columns[usize::from(*c)], Leaf::Scanned(..)))
+                .collect();
+            let operator = b.scan(0, &scanned);
+            // The seven comparisons stand beside each other in one plan.
+            let tests: Vec<u16> = COMPARISONS.iter().map(|op| b.compare(*op, l, r)).collect();
             let file = b.file();
-            let rows = base.rows(random);
-            for (number, test) in tests.iter().enumerate() {
-                let predicates = vec![*test];
-                ask(Question::Apply { file: file.clone(), operator: base.scan, predicates })?;
-                let row = rows[(number + usize::from(*left)) % rows.len()].clone();
-                ask(Question::Evaluate { file: file.clone(), expr: *test, row })?;
+            for test in tests {
+                let predicates = vec![test];
+                ask(Question::Apply { file: file.clone(), operator, predicates })?;
+                let row = generate::row(random, &b.plan);
+                ask(Question::Evaluate { file: file.clone(), expr: test, row })?;
             }
         }
     }
@@ -697,7 +756,7 @@ fn many_columns(past: isize) -> Plan {
 fn many_exprs(past: isize) -> Plan {
     let mut b = Builder::new();
     for number in 0..size(EXPRESSIONS, past) {
-        b.int32(number as i32);
+        b.boolean(number % 2 == 0);
     }
     b.const_scan(&[]);
     b.plan

@@ -97,10 +97,10 @@ pub fn literal(random: &mut Random, kind: Kind) -> Literal {
         18 => Literal::Null(kind),
         _ => match kind {
             Kind::Boolean => Literal::Boolean(random.chance(1, 2)),
-            Kind::Int32 => Literal::Int32(random.next() as i32),
-            Kind::Int64 => Literal::Int64(random.next() as i64),
-            Kind::Float64 => Literal::Float64(random.next()),
-            Kind::Date32 => Literal::Date32(random.next() as i32),
+            Kind::Int32 => Literal::Int32(random.bits() as i32),
+            Kind::Int64 => Literal::Int64(random.bits() as i64),
+            Kind::Float64 => Literal::Float64(random.bits()),
+            Kind::Date32 => Literal::Date32(random.bits() as i32),
         },
     }
 }
@@ -197,7 +197,7 @@ impl Making {
     fn column(&mut self, random: &mut Random, favourite: Kind) {
         let kind = if random.chance(2, 3) { favourite } else { random.pick(&KINDS) };
         let name = match random.below(4) {
-            0 => random.next() as u16,
+            0 => random.bits() as u16,
             1 => random.below(3) as u16,
             _ => self.columns() as u16,
         };
@@ -389,7 +389,7 @@ impl Making {
             self.items -= 1;
             columns.push(random.pick(&columns));
         }
-        let table = if random.chance(3, 4) { random.below(3) as u16 } else { random.next() as u16 };
+        let table = if random.chance(3, 4) { random.below(3) as u16 } else { random.bits() as u16 };
         Operator::Scan { table, columns }
     }
 

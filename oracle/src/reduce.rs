@@ -1,8 +1,6 @@
 //! A question on which two sides differ, made as small as dropping and lowering can make it while
 //! they still differ.
 
-use std::ops::Range;
-
 use crate::plan::Literal;
 use crate::question::Question;
 use crate::records::{Field, Record, Records, Sort, fields, item_kind, sort};
@@ -42,7 +40,7 @@ fn drop_records(best: &mut Question, differs: &mut Differs) {
     while length > 0 {
         let mut start = 0;
         while start < Records::of(best.file()).records.len() {
-            let candidate = without(best, start..start + length);
+            let candidate = without(best, |place| (start..start + length).contains(&place));
             if !try_one(best, candidate, differs) {
                 start += length;
             }
@@ -53,11 +51,11 @@ fn drop_records(best: &mut Question, differs: &mut Differs) {
 
 /// The question without these records: handles, counts and the row follow. A handle of a record that
 /// is gone becomes the one before it.
-fn without(question: &Question, gone: Range<usize>) -> Question {
+pub fn without(question: &Question, gone: impl Fn(usize) -> bool) -> Question {
     let mut parts = Records::of(question.file());
     let owners = owners(&parts);
     let dropped: Vec<bool> = (0..parts.records.len())
-        .map(|i| gone.contains(&i) || owners[i].is_some_and(|(owner, _)| gone.contains(&owner)))
+        .map(|i| gone(i) || owners[i].is_some_and(|(owner, _)| gone(owner)))
         .collect();
     for i in 0..parts.records.len() {
         if dropped[i]

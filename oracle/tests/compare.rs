@@ -91,7 +91,7 @@ impl Subject for Broken {
 
 fn found(fault: Fault, only: &str) -> Box<Disagreement> {
     let options = Options { only: vec![only.to_string()], ..Options::default() };
-    run(&mut Broken(fault), &options, &mut sink()).err().expect("the fault is found")
+    run(&mut Broken(fault), &options, &mut sink()).expect_err("the fault is found")
 }
 
 #[test]

@@ -3,7 +3,12 @@
 use std::io::{Read, Write};
 use std::process::ExitCode;
 
-use mossladder_oracle::question::{Question, row, unhex};
+use mossladder_oracle::listing::refused;
+use mossladder_oracle::paths::steps;
+use mossladder_oracle::plan::read;
+use mossladder_oracle::pushdown::pushdown;
+use mossladder_oracle::question::{Question, plan_line, row, unhex};
+use mossladder_oracle::simplify::Answer;
 use mossladder_oracle::subject::{Oracle, Subject};
 
 const USAGE: &str = "usage: oracle [--hex] COMMAND < PLAN
@@ -12,7 +17,11 @@ const USAGE: &str = "usage: oracle [--hex] COMMAND < PLAN
   simplify N          keep or replace, and the plan with the appended nodes
   apply N E...        predicates E... applied to the facts of operator N, in order
   eval E ROWHEX       expression E on a row of literal records, one for each column
+  pushdown N          request T-05: keep or replace, and the plan with the appended nodes
 --hex: the plan is hex digits, blanks between them are passed over";
+
+/// Some minutes of optd's time.
+const PATIENCE: u64 = 100_000_000;
 
 fn main() -> ExitCode {
     // optd recurses over expressions: 1,024 levels are more than a small stack has room for.
@@ -45,6 +54,9 @@ fn run() -> Option<String> {
     if hex {
         file = unhex(std::str::from_utf8(&file).ok()?)?;
     }
+    if let ["pushdown", n] = words.as_slice() {
+        return Some(pushed(&file, n.parse().ok()?));
+    }
     let question = match words.as_slice() {
         ["facts"] => Question::Derive { file, operator: None },
         ["facts", n] => Question::Derive { file, operator: Some(n.parse().ok()?) },
@@ -59,5 +71,21 @@ fn run() -> Option<String> {
         }
         _ => return None,
     };
+    if let Ok(plan) = read(question.file())
+        && steps(&plan, &question) > PATIENCE
+    {
+        return Some(
+            "optd would not end: its steps double with each level of sharing\n".to_string(),
+        );
+    }
     Some(Oracle.answer(&question))
+}
+
+fn pushed(file: &[u8], operator: u16) -> String {
+    let answer = read(file).and_then(|plan| pushdown(&plan, operator));
+    match answer {
+        Err(refusal) => refused(refusal),
+        Ok((Answer::Keep, plan)) => format!("keep\n{}", plan_line(&plan)),
+        Ok((Answer::Replace(by), plan)) => format!("replace {by}\n{}", plan_line(&plan)),
+    }
 }
