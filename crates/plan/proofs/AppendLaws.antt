@@ -60,7 +60,7 @@ choice P true a b x y = x
 choice P false a b x y = y
 
 -- ---- column
-column-longer : (p : Plan) (x : Record) → Extends p (withColumn p x)
+pub column-longer : (p : Plan) (x : Record) → Extends p (withColumn p x)
 column-longer p x =
     record {
       columns = more (p .columns .count);
@@ -79,7 +79,7 @@ pub append-column-extends : (p : Plan) (x : Record) → Extends p (appendColumn 
 unfolding appendColumn
 append-column-extends p x = choice (λ (r : Appended). Extends p (r .plan)) (leb 64 (p .columns .count)) _ _ (extends-refl p) (column-longer p x)
 
-column-longer-sized : (p : Plan) (x : Record) → Sized p → Sized (withColumn p x)
+pub column-longer-sized : (p : Plan) (x : Record) → Sized p → Sized (withColumn p x)
 column-longer-sized p x s =
     record {
       column-name = length-set (p .columns .name) (p .columns .count) (x .a) ∙ s .column-name;
@@ -106,7 +106,7 @@ unfolding appendColumn
 append-column-sized p x s = choice (λ (r : Appended). Sized (r .plan)) (leb 64 (p .columns .count)) _ _ s (column-longer-sized p x s)
 
 -- ---- expr
-expr-longer : (p : Plan) (x : Record) (st : ℕ) → Extends p (withExpr p x st)
+pub expr-longer : (p : Plan) (x : Record) (st : ℕ) → Extends p (withExpr p x st)
 expr-longer p x st =
     record {
       columns = le-refl _;
@@ -125,7 +125,7 @@ pub append-expr-extends : (p : Plan) (x : Record) (st : ℕ) → Extends p (appe
 unfolding appendExpr
 append-expr-extends p x st = choice (λ (r : Appended). Extends p (r .plan)) (leb 1024 (p .expressions .count)) _ _ (extends-refl p) (expr-longer p x st)
 
-expr-longer-sized : (p : Plan) (x : Record) (st : ℕ) → Sized p → Sized (withExpr p x st)
+pub expr-longer-sized : (p : Plan) (x : Record) (st : ℕ) → Sized p → Sized (withExpr p x st)
 expr-longer-sized p x st s =
     record {
       column-name = s .column-name;
@@ -152,7 +152,7 @@ unfolding appendExpr
 append-expr-sized p x st s = choice (λ (r : Appended). Sized (r .plan)) (leb 1024 (p .expressions .count)) _ _ s (expr-longer-sized p x st s)
 
 -- ---- operator
-operator-longer : (p : Plan) (x : Record) (st : ℕ) → Extends p (withOperator p x st)
+pub operator-longer : (p : Plan) (x : Record) (st : ℕ) → Extends p (withOperator p x st)
 operator-longer p x st =
     record {
       columns = le-refl _;
@@ -171,7 +171,7 @@ pub append-operator-extends : (p : Plan) (x : Record) (st : ℕ) → Extends p (
 unfolding appendOperator
 append-operator-extends p x st = choice (λ (r : Appended). Extends p (r .plan)) (leb 128 (p .operators .count)) _ _ (extends-refl p) (operator-longer p x st)
 
-operator-longer-sized : (p : Plan) (x : Record) (st : ℕ) → Sized p → Sized (withOperator p x st)
+pub operator-longer-sized : (p : Plan) (x : Record) (st : ℕ) → Sized p → Sized (withOperator p x st)
 operator-longer-sized p x st s =
     record {
       column-name = s .column-name;
@@ -198,7 +198,7 @@ unfolding appendOperator
 append-operator-sized p x st s = choice (λ (r : Appended). Sized (r .plan)) (leb 128 (p .operators .count)) _ _ s (operator-longer-sized p x st s)
 
 -- ---- item
-item-longer : (p : Plan) (x : Record) → Extends p (withItem p x)
+pub item-longer : (p : Plan) (x : Record) → Extends p (withItem p x)
 item-longer p x =
     record {
       columns = le-refl _;
@@ -217,7 +217,7 @@ pub append-item-extends : (p : Plan) (x : Record) → Extends p (appendItem p x 
 unfolding appendItem
 append-item-extends p x = choice (λ (r : Appended). Extends p (r .plan)) (leb 2048 (p .items .count)) _ _ (extends-refl p) (item-longer p x)
 
-item-longer-sized : (p : Plan) (x : Record) → Sized p → Sized (withItem p x)
+pub item-longer-sized : (p : Plan) (x : Record) → Sized p → Sized (withItem p x)
 item-longer-sized p x s =
     record {
       column-name = s .column-name;
