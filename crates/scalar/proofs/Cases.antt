@@ -6,7 +6,6 @@ use lib.Ieee.{binary64, lt, eq, ofInt, ofBits, toBits}
 use Rattle.scalar.specs.Scalars.{scalarToF64, sameScalar, lessScalar}
 use Rattle.scalar.specs.Coded.{scalarOf, bitsOf}
 use Rattle.scalar.specs.declared.ScalarValue.the-variants as S
-use Rattle.scalar.specs.declared.Kind.the-variants as K
 use Rattle.scalar.specs.declared.Number.the-variants.{Of, Nothing}
 
 -- 2 ^ 53 converts, and 2 ^ 53 + 1 does not

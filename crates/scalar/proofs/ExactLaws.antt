@@ -1,20 +1,20 @@
 -- A float's exact value: `<` and `==` on finite floats are those of the exact values, and a whole number that a cast takes is that many times 2 ^ low units.
 -- Assumes nothing.
-use mathlib.Core.Path.{_≡_, refl, sym, ap, ap₂, _∙_, subst}
+use mathlib.Core.Path.{_≡_, refl, sym, ap, ap₂, _∙_}
 use mathlib.Core.Bool.{Bool, true, false, not, _&&_, _||_, Bool·beq, and-true, and-false, and-self}
 use Prim.Native.Nat.{ℕ, zero, suc, _+_, _-_, _*_, _%_, _^_, _≤_, _<_}
-use native.Mathlib.Nat.{lt-of-mul-lt-mul-right, mul-lt-mul-of-pos-right, eq-of-mul-eq-mul-right, add-mul, mul-right-comm, mul-assoc, mul-comm, zero-mul, mul-one, zero-add, mul-pos, le-of-lt, lt-irrefl, lt-of-lt-of-le, le-trans, zero-lt-suc}
+use native.Mathlib.Nat.{lt-of-mul-lt-mul-right, mul-lt-mul-of-pos-right, eq-of-mul-eq-mul-right, add-mul, mul-right-comm, mul-assoc, mul-comm, zero-mul, mul-one, zero-add, mul-pos, lt-irrefl, lt-of-lt-of-le}
 use native.Mathlib.Omega.{arith}
-use lib.Dec.{T, leb, ltb, eqb, lt→ltb, le→leb, ltb→lt, leb→le, eqb→eq, nleb→lt, not-T, leb·suc-zero, leb·suc-suc, leb·zero, eqb·zero-suc, eqb·suc-zero, eqb·suc-suc}
+use lib.Dec.{T, leb, ltb, eqb, lt→ltb, le→leb, ltb→lt, leb→le, eqb→eq, nleb→lt, leb·suc-zero, leb·suc-suc, leb·zero, eqb·zero-suc, eqb·suc-zero, eqb·suc-suc}
 use lib.Pow.{pow-add, pow-pos, pow-lt}
-use lib.IntN.{ℤ, pos, negsuc, negℤ, _*ℤ_}
-use lib.Signed.{ltZ, leZ, mag}
+use lib.IntN.{ℤ, pos, negsuc, _*ℤ_}
+use lib.Signed.{ltZ}
 use lib.Ieee.{Float, nan, inf, fin, Format, binary64, prec, emax, low, up, down, below, level, lt, eq, fits, ofInt, inFloat, round}
 use lib.Ieee.Fits.{eq→eqb, and-l, and-r, down-pos, ofInt-fits}
 use lib.Ieee.Digits.{back}
 use lib.Ieee.Exact.{HasValue}
 use lib.Ieee.Back.{round-whole}
-use mir.Syntax.{Width, w32}
+use mir.Syntax.{w32}
 use mir.Val.{SFits}
 use Rattle.scalar.specs.Exact.{eqZ, finite, signed, unitsAt, exactAt, exactIn}
 use Rattle.scalar.proofs.WholeLaws.{iff}

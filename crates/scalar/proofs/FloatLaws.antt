@@ -1,14 +1,14 @@
 -- `==` and `<` on all floats, infinities included: `==` is symmetric and reflexive but for the NaN, floats that are `==` compare alike with every float,
 -- and `<` is irreflexive, transitive and total but for the NaN. Assumes nothing.
-use mathlib.Core.Path.{_≡_, refl, sym, ap, ap₂, _∙_, subst}
+use mathlib.Core.Path.{_≡_, refl, sym, ap, _∙_, subst}
 use mathlib.Core.Bool.{Bool, true, false, not, _&&_, _||_, Bool·beq, true≢false, false≢true}
-use Prim.Native.Nat.{ℕ, zero, suc, _+_, _≤_, _^_}
+use Prim.Native.Nat.{ℕ, suc, _+_, _≤_}
 use native.Mathlib.Omega.{arith}
 use lib.Dec.{T, not-T}
 use lib.Pow.{pow-pos, pow-mono}
 use lib.IntN.{ℤ, pos, negsuc}
-use lib.Signed.{ltZ, leZ}
-use lib.Ieee.{Float, nan, inf, fin, isNan, lt, eq, down}
+use lib.Signed.{ltZ}
+use lib.Ieee.{Float, nan, inf, fin, isNan, lt, eq}
 use lib.Ieee.Bits.{is-true, is-false}
 use Rattle.scalar.specs.Exact.{eqZ, finite, exactAt}
 use Rattle.scalar.proofs.WholeLaws.{eqZ→eq, eqZ-refl, eqZ-comm, lt→le, le-lt, irrefl, one-of}

@@ -1,8 +1,8 @@
 -- The number that a scalar gives is finite, fits an f64, and is the scalar's own exact value: the conversion loses nothing. So numbers of scalars compare
 -- as the scalars' values do, and those of whole numbers as the whole numbers do. Assumes nothing.
-use mathlib.Core.Path.{_≡_, refl, sym, _∙_, ap₂, subst}
+use mathlib.Core.Path.{_≡_, refl, _∙_, ap₂, subst}
 use mathlib.Core.Bool.{Bool, true, false, cond, false≢true}
-use Prim.Native.Nat.{ℕ, _^_}
+use Prim.Native.Nat.{_^_}
 use lib.Dec.{T}
 use lib.Pow.{pow-pos}
 use lib.IntN.{ℤ, pos, negsuc}

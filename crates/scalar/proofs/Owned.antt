@@ -1,4 +1,4 @@
--- What a scalar that the machine has holds is of its type: at a need, `search held` finds it for a parameter, a field and an element. Assumes nothing.
+-- What a scalar that the machine has holds is of its type: at a need, `search held` finds it for a parameter and for a field. Assumes nothing.
 use mathlib.Core.List.{List}
 use mir.Val.{Val}
 use denote.Shadow.{shadow}

@@ -4,12 +4,12 @@
 use mathlib.Core.Path.{_≡_, refl, sym, ap, ap₂, _∙_, subst}
 use mathlib.Core.Bool.{Bool, true, false, not, cond, _&&_, _||_, Bool·beq, true≢false, false≢true}
 use Prim.Native.Nat.{ℕ, zero, suc, _+_, _-_, _*_, _/_, _%_, _^_, compare}
-use lib.Dec.{T, ltb, eqb, eqb→eq, eqb-refl}
+use lib.Dec.{T, ltb, eqb→eq, eqb-refl}
 use lib.Pow.{pow-pos}
 use lib.IntN.{ℤ, pos, negsuc}
 use lib.Signed.{ltZ}
 use lib.Ieee.{Float, nan, inf, fin, binary64, Format, prec, emax, low, isNan, lt, eq, fits, ofInt, size, nearest, odd, units, round}
-use lib.Ieee.Bits.{is-true, is-false}
+use lib.Ieee.Bits.{is-true}
 use Rattle.scalar.specs.Exact.{eqZ, finite, exactAt, exactIn, wholeIn}
 use Rattle.scalar.specs.Kinds.{kindCode, kindOfCode, sameKind, kindOf, isNull}
 use Rattle.scalar.specs.Scalars.{pairwise, sameScalar, lessScalar, small, scalarToF64, Typed, holdsNan, hasValue, valueOf}

@@ -1,5 +1,5 @@
 -- A scalar as three numbers: its case, a code and bits. Case and code are those of the plan file. Assumes nothing.
-use mathlib.Core.Bool.{Bool, true, false, cond}
+use mathlib.Core.Bool.{Bool, cond}
 use Prim.Native.Nat.{ℕ, _%_, _^_}
 use lib.Dec.{eqb, ltb}
 use lib.IntN.{ℤ}
@@ -7,7 +7,6 @@ use lib.Ieee.{binary64, ofBits, toBits}
 use mir.Syntax.{w32, w64}
 use mir.Val.{toZ, ofZ}
 use Rattle.scalar.specs.Kinds.{kindCode, kindOfCode}
-use Rattle.scalar.specs.declared.Kind.{Kind}
 use Rattle.scalar.specs.declared.Kind.the-variants as K
 use Rattle.scalar.specs.declared.ScalarValue.{ScalarValue}
 use Rattle.scalar.specs.declared.ScalarValue.the-variants as S

@@ -1,5 +1,6 @@
 // Scalars: their kinds, equality and order, the numbers that they bound by, and a scalar as three numbers.
 ghost use mathlib.Core.Path.{_≡_};
+ghost use lib.IntN.{natAbs};
 ghost use lib.Ieee as Ieee;
 ghost use lib.Ieee.{binary64};
 ghost use mir.Syntax.{w32, w64};
@@ -250,6 +251,13 @@ pub fn unsigned32(n: i32) -> u32
     } else {
         n as u32
     }
+}
+
+// The size of a signed number, whose sign is known by `n < 0`.
+pub fn magnitude(n: i64) -> u64
+    ensures { λ r. ⌜ r ≡ natAbs n ⌝ }
+{
+    if n < 0 { (-1 - n) as u64 + 1 } else { n as u64 }
 }
 
 // The low 32 bits in two's complement.

@@ -1,8 +1,8 @@
 -- A table of codes says what a law says, read at any two numbers. Assumes nothing.
 use mathlib.Core.Path.{_≡_, ap, ap₂, _∙_}
-use mathlib.Core.Bool.{Bool, true}
+use mathlib.Core.Bool.{true}
 use mathlib.Core.List.{List, []}
-use Prim.Native.Nat.{ℕ, _<_}
+use Prim.Native.Nat.{ℕ}
 use lib.ListN.{getD}
 use Rattle.truth.specs.Truth.{codeRead}
 use Rattle.truth.proofs.TruthLaws.{agree, at-codes, read-below}

@@ -1,5 +1,5 @@
 -- The tests of a range with the outcome of each part put in. Assumes nothing.
-use mathlib.Core.Path.{_≡_, refl, sym}
+use mathlib.Core.Path.{_≡_, sym}
 use mathlib.Core.Bool.{Bool, not, _&&_, _||_}
 use lib.Ieee.{Float, lt, eq}
 use Rattle.value_range.specs.Ranges.{takesLower, takesUpper, emptyRange}

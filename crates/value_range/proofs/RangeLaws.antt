@@ -2,7 +2,7 @@
 -- One law for both ends. Assumes nothing.
 use mathlib.Core.Path.{_≡_, refl, sym, ap, ap₂, _∙_, subst}
 use mathlib.Core.Bool.{Bool, true, false, not, _&&_, _||_, cond, and-assoc, and-comm}
-use lib.Dec.{T, T-not, not-T}
+use lib.Dec.{T, not-T}
 use lib.IntN.{ℤ}
 use lib.Signed.{ltZ, leZ}
 use lib.Ieee.{Float, binary64, lt, eq, fits}

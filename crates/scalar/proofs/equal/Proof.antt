@@ -1,4 +1,4 @@
-use mathlib.Core.Path.{_≡_, sym, _∙_, ap, ap₂}
+use mathlib.Core.Path.{sym, _∙_, ap₂}
 use mathlib.Core.List.{[], _∷_}
 use lib.Dec.{eqb}
 use mir.Syntax.{w32, w64}

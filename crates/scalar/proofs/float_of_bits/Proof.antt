@@ -1,8 +1,7 @@
-use mathlib.Core.Path.{_≡_, refl, sym, _∙_, ap, subst}
-use mathlib.Core.Bool.{Bool, true, false, not, false≢true}
-use Prim.Native.Nat.{ℕ, _%_}
-use lib.Dec.{T, ltb}
-use lib.Ieee.{Float, nan, inf, fin, binary64, isNan, nanBits, ofBits, div}
+use mathlib.Core.Path.{_≡_, refl, sym, _∙_, subst}
+use mathlib.Core.Bool.{Bool, true, not, false≢true}
+use lib.Dec.{T}
+use lib.Ieee.{Float, nan, inf, fin, binary64, isNan, ofBits, div}
 use lib.Ieee.Bits.{nanBits-is, nanBits-above}
 use borrow.Author.Needs.{needs}
 use borrow.Author.Tests.{lt-ltb, le-ltb}

@@ -1,5 +1,5 @@
 -- `scalars::is_finite` meets its contract: only a number lies between the infinities. Assumes nothing.
-use mathlib.Core.Path.{_≡_, refl, sym}
+use mathlib.Core.Path.{_≡_, refl}
 use mathlib.Core.Bool.{true, false, true≢false, false≢true}
 use lib.Ieee.{Float, nan, inf, fin, lt, neg, ofBits, nanBits}
 use Rattle.scalar.specs.Exact.{finite}

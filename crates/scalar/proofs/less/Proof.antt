@@ -1,8 +1,6 @@
 use mathlib.Core.Path.{_≡_, refl, sym, _∙_, ap, ap₂}
 use mathlib.Core.Bool.{false}
 use mathlib.Core.List.{[], _∷_}
-use lib.IntN.{ℤ}
-use lib.Signed.{ltZ}
 use mir.Syntax.{w32, w64}
 use Rattle.scalar.specs.Scalars.{lessScalar}
 use Rattle.scalar.specs.declared.Kind.{Kind}

@@ -1,5 +1,4 @@
 use mathlib.Core.Path.{refl}
-use Prim.Native.Nat.{_≤_}
 use native.Mathlib.Omega.{arith}
 use mir.Syntax.{w32}
 use Rattle.scalar.proofs.Turned.{below, not-below, own-bits, less-fits, less-cast, less-room, less-bits}

@@ -1,7 +1,3 @@
-use mathlib.Core.Path.{_≡_, sym, _∙_, ap}
-use mathlib.Core.Bool.{Bool}
-use Rattle.value_range.specs.declared.Bound.{Bound}
-use Rattle.value_range.specs.declared.ValueRange.{ValueRange}
 use borrow.Author.Needs.{needs}
 use Rattle.value_range.proofs.ValueRange.tighten_upper.Statement.{statement}
 use Rattle.value_range.proofs.ValueRange.tighten_upper.Tie as tie
