@@ -2,9 +2,13 @@
 -- Assumes nothing.
 use mathlib.Core.Bool.{cond}
 use Prim.Native.Nat.{ℕ, _+_, _%_}
+use mathlib.Core.List.{List}
 use lib.Dec.{eqb}
+use lib.ListN.{getD, take, drop}
 use Rattle.comparison.specs.Operators.{binaryOpCode, binaryOpOf}
 use Rattle.kinds.specs.declared.Record.{Record}
+use Rattle.plan.specs.declared.Plan.{Plan}
+use Rattle.plan.specs.Records.{exprRecordOf}
 use Rattle.scalar.specs.Coded.{caseCode, codeOf, bitsOf, scalarOf}
 use Rattle.plan_data.specs.Codes.{unaryOpCode, unaryOpOf, naryOpCode, naryOpOf, joinTypeCode, joinTypeOf, kindOfJoin, markerOf}
 use Rattle.plan_data.specs.declared.Run.{Run}
@@ -46,6 +50,18 @@ operatorData x start =
     (cond (eqb (x .kind) 0x3C) (Join (joinTypeOf (x .code)) (record { 0 = x .a }) (record { 0 = x .b }) (record { 0 = x .c }))
     (cond (eqb (x .kind) 0x3D) (Join (LeftMark (record { 0 = x .d })) (record { 0 = x .a }) (record { 0 = x .b }) (record { 0 = x .c }))
     (ConstScan (runOf 0 0)))))))))))))))
+
+-- the node of a handle, from the arrays of the table of expressions
+abbrev pub nodeOf : List ℕ → List ℕ → List ℕ → List ℕ → List ℕ → List ℕ → ℕ → ExprData
+nodeOf kind code a b bits start h = exprData (exprRecordOf kind code a b bits h) (getD start h 0)
+
+abbrev pub nodeAt : Plan → ℕ → ExprData
+nodeAt p h =
+    nodeOf (p .expressions .kind) (p .expressions .code) (p .expressions .a) (p .expressions .b) (p .expressions .bits) (p .expressions .start) h
+
+-- the operands of a run of items
+abbrev pub operandsOf : List ℕ → Run → List ℕ
+operandsOf items r = take (r .count) (drop (r .start) items)
 
 -- a count as a record has it: 16 bits
 abbrev pub countIn : Run → ℕ

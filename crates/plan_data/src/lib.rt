@@ -7,7 +7,7 @@ use plan::Operator;
 use scalar::ScalarValue;
 ghost use mathlib.Core.Path.{_≡_};
 ghost use Rattle.plan_data.specs.Codes.{unaryOpCode, unaryOpOf, naryOpCode, naryOpOf, joinTypeCode, joinTypeOf, kindOfJoin, markerOf};
-ghost use Rattle.plan_data.specs.Nodes.{runOf, exprData, operatorData, countIn, numbersOf, recordOfExpr, recordOfOperator};
+ghost use Rattle.plan_data.specs.Nodes.{runOf, exprData, nodeOf, operatorData, countIn, numbersOf, recordOfExpr, recordOfOperator};
 
 pub enum UnaryOp {
     Not,
@@ -226,6 +226,23 @@ pub fn expr_data(x: Record, start: u16) -> ExprData
         }
         _ => ExprData::Literal(scalar::scalar_of(kind, code, x.bits)),
     }
+}
+
+// The expression at a place of the table, whose arrays are lent one by one.
+pub fn node_at<'a>(
+    kind: &'a [u8],
+    code: &'a [u8],
+    a: &'a [u16],
+    b: &'a [u16],
+    bits: &'a [u64],
+    start: &'a [u16],
+    i: usize,
+) -> ExprData
+    ensures { λ r. ⌜ r ≡ nodeOf (now (kind .entry)) (now (code .entry)) (now (a .entry)) (now (b .entry)) (now (bits .entry)) (now (start .entry)) i ⌝ }
+{
+    let x = plan::expr_record(kind, code, a, b, bits, i);
+    let st = lists::at16(start, i);
+    expr_data(x, st)
 }
 
 // The operator of a record whose lists start at `start`. A kind that is no operator's reads as a ConstScan of no columns.
