@@ -18,11 +18,10 @@ use Rattle.scalar.specs.declared.ScalarValue.{ScalarValue}
 use Rattle.scalar.specs.declared.ScalarValue.the-variants as S
 use Rattle.scalar.specs.declared.Number.{Number}
 use Rattle.scalar.specs.declared.Number.the-variants.{Of, Nothing}
-use Rattle.scalar.proofs.ExactLaws.{iff, lt-exact, ltZ-scale, eqZ-scale}
+use Rattle.scalar.proofs.ExactLaws.{lt-exact, ltZ-scale, eqZ-scale}
 use Rattle.scalar.proofs.NumberLaws.{Converts, converts}
-use Rattle.scalar.proofs.Apart.{eqZ→eq, eq→eqZ}
+use Rattle.scalar.proofs.WholeLaws.{iff, eqZ→eq, eq→eqZ, lt→le}
 use Rattle.value_range.specs.Ranges.{upTo}
-use Rattle.value_range.proofs.RangeLaws.{lt→le}
 use Rattle.comparison.specs.declared.BinaryOp.the-variants.{Lt, LtEq, Gt, GtEq}
 use Rattle.constraints.specs.Values.{Place, nowhere, lowest, highest, point, placeOfFloat, placeOf, samePlace, belowP, aboveP, okRange, isNaN}
 use Rattle.constraints.specs.Sets.{boundsBy}

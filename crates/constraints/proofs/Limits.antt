@@ -7,7 +7,7 @@ use native.Mathlib.Omega.{arith}
 use lib.Dec.{T}
 use lib.IntN.{ℤ, pos, negsuc}
 use lib.Ieee.{Float, nan, binary64, fits, ofInt, eq}
-use Rattle.scalar.specs.Exact.{exactIn}
+use Rattle.scalar.specs.Exact.{exactAt}
 use Rattle.scalar.specs.Scalars.{Typed, scalarToF64}
 use Rattle.scalar.specs.declared.ScalarValue.{ScalarValue}
 use Rattle.scalar.specs.declared.ScalarValue.the-variants as S
@@ -45,7 +45,7 @@ three-typed : (i : ℕ) → Typed (threes i)
 three-typed i = record { sfits = omega arith }
 
 bound-met : okRange (placeOf (S.Int64 (pos 3))) (boundsBy Lt (ofInt binary64 (pos 5))) ≡ true
-unfolding ofInt exactIn
+unfolding ofInt exactAt
 bound-met = refl
 
 pub mixed-meets : (on : ℕ → Type 0) → Meets on threes (addBound emptySet 0 Lt (ofInt binary64 (pos 5)))

@@ -11,17 +11,17 @@ use lib.Ieee.Bits.{is-true, is-false}
 use lib.Ieee.Fits.{and-i, and-l, and-r}
 use Rattle.scalar.specs.Exact.{eqZ, finite, exactIn, wholeIn}
 use Rattle.scalar.specs.Scalars.{scalarToF64, sameScalar, Typed, valueOf}
-use Rattle.value_range.specs.Ranges.{boundAt, unboundedRange, takesLower, takesUpper, tightenLower, tightenUpper, emptyRange, upTo, meetsUpper, meetsLower, within}
+use Rattle.value_range.specs.Ranges.{Sound, boundAt, unboundedRange, takesLower, takesUpper, tightenLower, tightenUpper, emptyRange, upTo, meetsUpper, meetsLower, within}
 use Rattle.value_range.specs.declared.Bound.{Bound}
 use Rattle.value_range.specs.declared.ValueRange.{ValueRange}
 use Rattle.scalar.specs.declared.ScalarValue.{ScalarValue}
 use Rattle.scalar.specs.declared.ScalarValue.the-variants as S
 use Rattle.scalar.specs.declared.Number.{Number}
 use Rattle.scalar.specs.declared.Number.the-variants.{Of, Nothing}
-use Rattle.value_range.proofs.RangeLaws.{Sound, le-lt, lt-le, irrefl, upTo-le, upper-tightened, upper-keeps, upper-sound, lower-tightened, lower-keeps, lower-sound, nothing-within}
+use Rattle.value_range.proofs.RangeLaws.{upTo-le, upper-tightened, upper-keeps, upper-end-sound, lower-tightened, lower-keeps, lower-end-sound, nothing-within}
 use Rattle.scalar.proofs.NumberLaws.{Converts, converts}
 use Rattle.scalar.proofs.ExactLaws.{lt-exact, eq-exact}
-use Rattle.scalar.proofs.Apart.{eqZ→eq}
+use Rattle.scalar.proofs.WholeLaws.{eqZ→eq, le-lt, lt-le, irrefl}
 use Rattle.constraints.specs.Values.{Place, nowhere, lowest, highest, point, placeOfFloat, placeOf, belowP, aboveP, okUpper, okLower, okRange}
 use Rattle.constraints.specs.Sets.{lowerBy, upperBy, tightenBy, outside}
 use Rattle.constraints.specs.Meets.{SoundRange}
@@ -51,13 +51,13 @@ module _ (v : Float) (i : Bool) (fv : T (finite v)) (hv : T (fits binary64 v)) w
   ok-upper nowhere r s = failed-upper (takesUpper (r .upper) v i) r (λ e. there (r .upper .present) _ e)
   ok-upper lowest r s = passed (tightenUpper r v i .upper .present) (r .upper .present)
   ok-upper highest r s = failed-upper (takesUpper (r .upper) v i) r (λ e. there (r .upper .present) _ e)
-  ok-upper (point x) r s = upper-tightened x v i fv hv r s
+  ok-upper (point x) r s = upper-tightened v i r fv hv x s
 
   pub ok-lower : (p : Place) (r : ValueRange) → Sound (r .lower) → okLower p (tightenLower r v i .lower) ≡ (okLower p (r .lower) && aboveP i (exactIn binary64 v) p)
   ok-lower nowhere r s = failed-lower (takesLower (r .lower) v i) r (λ e. there (r .lower .present) _ e)
   ok-lower lowest r s = failed-lower (takesLower (r .lower) v i) r (λ e. there (r .lower .present) _ e)
   ok-lower highest r s = passed (tightenLower r v i .lower .present) (r .lower .present)
-  ok-lower (point x) r s = lower-tightened x v i fv hv r s
+  ok-lower (point x) r s = lower-tightened v i r fv hv x s
 
 -- ---- by a bound, there or not
 abbrev upperIf : (b : Bound) (t : ValueRange) → Bool → ValueRange
@@ -75,14 +75,14 @@ upper-by-lower : (t : ValueRange) (b : Bound) → Sound b → upperBy t b .lower
 upper-by-lower t b sb = go (b .present) sb
   where
     go : (q : Bool) → (T q → T (finite (b .value)) × T (fits binary64 (b .value))) → cond q (tightenUpper t (b .value) (b .inclusive)) t .lower ≡ t .lower
-    go true s = upper-keeps (pos 0) (b .value) (b .inclusive) (s tt .0) (s tt .1) t
+    go true s = upper-keeps (b .value) (b .inclusive) t
     go false s = refl
 
 upper-by-sound : (t : ValueRange) (b : Bound) → Sound (t .upper) → Sound b → Sound (upperBy t b .upper)
 upper-by-sound t b st sb = go (b .present) sb
   where
     go : (q : Bool) → (T q → T (finite (b .value)) × T (fits binary64 (b .value))) → Sound (cond q (tightenUpper t (b .value) (b .inclusive)) t .upper)
-    go true s = upper-sound (pos 0) (b .value) (b .inclusive) (s tt .0) (s tt .1) t st
+    go true s = upper-end-sound (b .value) (b .inclusive) t (s tt .0) (s tt .1) st
     go false s = st
 
 lower-by : (p : Place) (t : ValueRange) (b : Bound) → Sound (t .lower) → Sound b → okLower p (lowerBy t b .lower) ≡ (okLower p (t .lower) && okLower p b)
@@ -97,14 +97,14 @@ lower-by-upper : (t : ValueRange) (b : Bound) → Sound b → lowerBy t b .upper
 lower-by-upper t b sb = go (b .present) sb
   where
     go : (q : Bool) → (T q → T (finite (b .value)) × T (fits binary64 (b .value))) → cond q (tightenLower t (b .value) (b .inclusive)) t .upper ≡ t .upper
-    go true s = lower-keeps (pos 0) (b .value) (b .inclusive) (s tt .0) (s tt .1) t
+    go true s = lower-keeps (b .value) (b .inclusive) t
     go false s = refl
 
 lower-by-sound : (t : ValueRange) (b : Bound) → Sound (t .lower) → Sound b → Sound (lowerBy t b .lower)
 lower-by-sound t b st sb = go (b .present) sb
   where
     go : (q : Bool) → (T q → T (finite (b .value)) × T (fits binary64 (b .value))) → Sound (cond q (tightenLower t (b .value) (b .inclusive)) t .lower)
-    go true s = lower-sound (pos 0) (b .value) (b .inclusive) (s tt .0) (s tt .1) t st
+    go true s = lower-end-sound (b .value) (b .inclusive) t (s tt .0) (s tt .1) st
     go false s = st
 
 -- ---- by a range
@@ -143,7 +143,7 @@ ok-empty nowhere r s e k = bare (r .lower .present) (and-l (r .lower .present) _
 ok-empty lowest r s e k = bare (r .lower .present) (and-l (r .lower .present) _ e) (and-l (not (r .lower .present) || false) _ k)
 ok-empty highest r s e k =
     bare (r .upper .present) (and-l (r .upper .present) _ (and-r (r .lower .present) _ e)) (and-r (not (r .lower .present) || true) (not (r .upper .present) || false) k)
-ok-empty (point x) r s e k = subst T (nothing-within x r (s .0) (s .1) (is-true (emptyRange r) e)) k
+ok-empty (point x) r s e k = subst T (nothing-within x r s (is-true (emptyRange r) e)) k
 
 -- ---- a literal outside a range
 pub no-number : {X : Type 0} (x : Float) → Nothing ≡ Of x → X

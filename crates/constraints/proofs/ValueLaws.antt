@@ -13,7 +13,7 @@ use Rattle.scalar.specs.declared.Kind.{Kind}
 use Rattle.scalar.specs.declared.ScalarValue.{ScalarValue}
 use Rattle.scalar.specs.declared.ScalarValue.the-variants as S
 use Rattle.scalar.proofs.ExactLaws.{eq-exact}
-use Rattle.scalar.proofs.Apart.{eqZ→eq, eq→eqZ}
+use Rattle.scalar.proofs.WholeLaws.{eqZ→eq, eq→eqZ}
 use Rattle.constraints.specs.Values.{same, equals, Place, nowhere, lowest, highest, point, placeOfFloat, placeOf, samePlace}
 use Rattle.constraints.proofs.Pairs.{by-pairs}
 

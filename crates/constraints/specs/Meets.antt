@@ -9,7 +9,7 @@ use lib.ListN.{getD, length}
 use Rattle.scalar.specs.Kinds.{isNull}
 use Rattle.scalar.specs.Scalars.{Typed}
 use Rattle.scalar.specs.declared.ScalarValue.{ScalarValue}
-use Rattle.value_range.proofs.RangeLaws.{Sound}
+use Rattle.value_range.specs.Ranges.{Sound}
 use Rattle.value_range.specs.declared.ValueRange.{ValueRange}
 use Rattle.value_classes.specs.Parents.{rootOf}
 use Rattle.value_classes.proofs.RootLaws.{Falls}
