@@ -169,25 +169,37 @@ module _ (v : Float) (i : Bool) (r : ValueRange) where
   lower-keeps = of-chosen (λ (s : ValueRange). s .upper) (takesLower (r .lower) v i) (record { lower = boundAt v i; upper = r .upper }) r ∙ chosen-same (takesLower (r .lower) v i) (r .upper)
 
   module _ (fv : T (finite v)) (hv : T (fits binary64 v)) where
-    -- a finite bound keeps a range of finite bounds one
+    -- a finite bound keeps an end, and so a range, of finite bounds one
+    pub upper-end-sound : Sound (r .upper) → Sound (tightenUpper r v i .upper)
+    upper-end-sound s = subst Sound (sym upper-end) (sound-end (takesUpper (r .upper) v i) v i (r .upper) fv hv s)
+
+    pub lower-end-sound : Sound (r .lower) → Sound (tightenLower r v i .lower)
+    lower-end-sound s = subst Sound (sym lower-end) (sound-end (takesLower (r .lower) v i) v i (r .lower) fv hv s)
+
     pub upper-sound : SoundRange r → SoundRange (tightenUpper r v i)
-    upper-sound s = (subst Sound (sym upper-keeps) (s .0), subst Sound (sym upper-end) (sound-end (takesUpper (r .upper) v i) v i (r .upper) fv hv (s .1)))
+    upper-sound s = (subst Sound (sym upper-keeps) (s .0), upper-end-sound (s .1))
 
     pub lower-sound : SoundRange r → SoundRange (tightenLower r v i)
-    lower-sound s = (subst Sound (sym lower-end) (sound-end (takesLower (r .lower) v i) v i (r .lower) fv hv (s .0)), subst Sound (sym lower-keeps) (s .1))
+    lower-sound s = (lower-end-sound (s .0), subst Sound (sym lower-keeps) (s .1))
+
+    -- the tightened bound asks what the old one and the new one ask
+    pub upper-tightened : (x : ℤ) → Sound (r .upper) → meetsUpper x (tightenUpper r v i .upper) ≡ (meetsUpper x (r .upper) && upTo i x (exactIn binary64 v))
+    upper-tightened x s = ap (meetsUpper x) upper-end ∙ tightened ltZ leZ upwards lt (lt-exact binary64) x v i fv hv (r .upper) s
+
+    pub lower-tightened : (x : ℤ) → Sound (r .lower) → meetsLower x (tightenLower r v i .lower) ≡ (meetsLower x (r .lower) && upTo i (exactIn binary64 v) x)
+    lower-tightened x s =
+        ap (meetsLower x) lower-end
+        ∙ tightened (λ (a b : ℤ). ltZ b a) (λ (a b : ℤ). leZ b a) downwards (λ (a b : Float). lt b a) (λ y z p q h k. lt-exact binary64 z y q p k h) x v i fv hv (r .lower) s
 
     -- within the tightened range is what was within the range and meets the new bound
     pub within-upper : (x : ℤ) → SoundRange r → within x (tightenUpper r v i) ≡ (within x r && upTo i x (exactIn binary64 v))
     within-upper x s =
-        ap₂ (λ (l u : Bound). meetsLower x l && meetsUpper x u) upper-keeps upper-end
-        ∙ ap (λ (m : Bool). meetsLower x (r .lower) && m) (tightened ltZ leZ upwards lt (lt-exact binary64) x v i fv hv (r .upper) (s .1))
+        ap₂ (λ (l : Bound) (m : Bool). meetsLower x l && m) upper-keeps (upper-tightened x (s .1))
         ∙ sym (and-assoc (meetsLower x (r .lower)) (meetsUpper x (r .upper)) (upTo i x (ex v)))
 
     pub within-lower : (x : ℤ) → SoundRange r → within x (tightenLower r v i) ≡ (within x r && upTo i (exactIn binary64 v) x)
     within-lower x s =
-        ap₂ (λ (l u : Bound). meetsLower x l && meetsUpper x u) lower-end lower-keeps
-        ∙ ap (λ (m : Bool). m && meetsUpper x (r .upper))
-        (tightened (λ (a b : ℤ). ltZ b a) (λ (a b : ℤ). leZ b a) downwards (λ (a b : Float). lt b a) (λ y z p q h k. lt-exact binary64 z y q p k h) x v i fv hv (r .lower) (s .0))
+        ap₂ (λ (m : Bool) (u : Bound). m && meetsUpper x u) (lower-tightened x (s .0)) lower-keeps
         ∙ swap (meetsLower x (r .lower)) (upTo i (ex v) x) (meetsUpper x (r .upper))
       where
         swap : (a b c : Bool) → (a && b && c) ≡ (a && c && b)
@@ -202,7 +214,7 @@ pub unbounded-sound : SoundRange unboundedRange
 unbounded-sound = (λ p. absurd p, λ p. absurd p)
 
 -- ---- an empty range holds none
-upTo-le : (w : Bool) (x y : ℤ) → T (upTo w x y) → T (leZ x y)
+pub upTo-le : (w : Bool) (x y : ℤ) → T (upTo w x y) → T (leZ x y)
 upTo-le true x y t = t
 upTo-le false x y t = lt→le x y t
 

@@ -1,0 +1,4 @@
+pub mod Values
+pub mod Sets
+pub mod Meets
+pub mod Room

@@ -1,0 +1,4 @@
+pub mod Facts
+pub mod Conjuncts
+pub mod Apply
+pub mod Entries

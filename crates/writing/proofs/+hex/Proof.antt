@@ -1,0 +1,57 @@
+use Rattle.writing.proofs.Wrotes.{wrote-none, wrote-then, wrote-byte, wrote-full, decimal-low, decimal-high, digits-more, lines-more}
+use borrow.Author.Needs.{needs}
+use Prim.Native.Nat.{ℕ, _<_}
+use borrow.Fn.Kinds.{In}
+use borrow.Fn.PlainCycle.{Measures, is, falls, and}
+use Rattle.writing.proofs.hex.Reads as hex
+use Rattle.writing.proofs.hex.Kinds as hex-kinds
+use Rattle.writing.proofs.+hex.Lts-hex as hex-lts
+use Rattle.writing.proofs.byte.Reads as byte-reads
+use Rattle.writing.proofs.glyph.Reads as glyph-reads
+use Rattle.writing.proofs.+hex.{statement}
+use Rattle.writing.proofs.+hex.Tie.{close}
+
+abbrev μ-hex : Measures 1 hex-kinds.ps ℕ
+μ-hex κs a = a .1 .1 .1 .0
+
+abbrev hex-at : ℕ → In 1 hex-kinds.ps
+hex-at t = and 1 hex-kinds.ps (is 1 hex-kinds.ps μ-hex t) hex.Pre
+
+abbrev hex-below : ℕ → In 1 hex-kinds.ps
+hex-below t = and 1 hex-kinds.ps (falls 1 hex-kinds.ps _<_ μ-hex t) hex.Pre
+
+abbrev hex-calls : ℕ → hex-lts.Claims
+hex-calls t = (hex-below t, hex.Post, glyph-reads.Asked, glyph-reads.Learnt, byte-reads.Asked, byte-reads.Learnt)
+
+hex-sub-hex : (t : ℕ) → hex-lts.Need-sub-hex (hex-calls t) (hex-at t) hex.Post
+hex-sub-hex t c = search needs
+
+hex-hex-requires : (t : ℕ) → hex-lts.Need-hex-requires (hex-calls t) (hex-at t) hex.Post
+hex-hex-requires t c κs = search needs
+
+hex-glyph-requires : (t : ℕ) → hex-lts.Need-glyph-requires (hex-calls t) (hex-at t) hex.Post
+hex-glyph-requires t c κs = search needs
+
+hex-byte-requires : (t : ℕ) → hex-lts.Need-byte-requires (hex-calls t) (hex-at t) hex.Post
+hex-byte-requires t c κs = search needs
+
+hex-returns : (t : ℕ) → hex-lts.Need-returns (hex-calls t) (hex-at t) hex.Post
+hex-returns t c = rw (c .if1 .taken) (wrote-none _ _)
+
+hex-same-length : (t : ℕ) → hex-lts.Need-same-length (hex-calls t) (hex-at t) hex.Post
+hex-same-length t c = search needs
+
+hex-returns-2 : (t : ℕ) → hex-lts.Need-returns-2 (hex-calls t) (hex-at t) hex.Post
+hex-returns-2 t c = rw (digits-more _ (c .before .before .before .before .before .before .before .before .before .before .before .args .n) (c .before .before .before .before .before .before .before .before .before .if1 .left), ← c .before .before .before .glyph .ensures) (wrote-then _ _ _ _ _ _ _ _ (c .before .before .before .before .before .before .before .hex .ensures) (c .before .before .before .before .before .before .before .hex .kept .0) (c .before .before .byte .ensures))
+
+pub +hex-spec : {M : Type 1} → statement M
++hex-spec = close μ-hex λ t. hex-lts.spec (hex-calls t)
+    (hex-at t)
+    hex.Post
+    (hex-sub-hex t)
+    (hex-hex-requires t)
+    (hex-glyph-requires t)
+    (hex-byte-requires t)
+    (hex-returns t)
+    (hex-same-length t)
+    (hex-returns-2 t)

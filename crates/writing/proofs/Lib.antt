@@ -1,0 +1,2 @@
+pub mod Wrotes
+pub mod Signs

@@ -1,0 +1,24 @@
+use Rattle.writing.proofs.Wrotes.{wrote-none, wrote-then, wrote-byte, wrote-full, decimal-low, decimal-high, digits-more, lines-more}
+use borrow.Author.Needs.{needs}
+use Rattle.writing.proofs.byte.Statement.{statement}
+use Rattle.writing.proofs.byte.Tie as tie
+use Rattle.writing.proofs.byte.Reads as reads
+use Rattle.writing.proofs.byte.Lts as lts
+
+slice-write-out : tie.Need-slice-write-out
+slice-write-out c = search needs
+
+add-result : tie.Need-add-result
+add-result c = search needs
+
+same-length : tie.Need-same-length
+same-length c = search needs
+
+returns : tie.Need-returns
+returns c = wrote-byte _ _ _ (c .if1 .taken)
+
+returns-2 : tie.Need-returns-2
+returns-2 c = wrote-full _ _ _ (c .if1 .left)
+
+pub byte-spec : {M : Type 1} → statement M
+byte-spec = tie.close (tie.spec slice-write-out add-result same-length returns returns-2)
