@@ -107,8 +107,11 @@ unfoldable pub recordStep : List ℕ → State → State
 recordStep s q = rowStep s q (rowOf (getD s 0 0))
 
 -- the reading has ended: by a refusal, or at the end of the n bytes with no item wanted
+abbrev pub doneAt : ℕ → ℕ → Reading → Wanted → Bool
+doneAt n at k w = not (isWhole k) || (leb n at && eqb (kindWanted w) 0)
+
 abbrev pub isDone : ℕ → State → Bool
-isDone n q = not (isWhole (q .reading)) || (leb n (q .at) && eqb (kindWanted (q .wanted)) 0)
+isDone n q = doneAt n (q .at) (q .reading) (q .wanted)
 
 -- one record more; where an item is wanted the bytes may end
 unfoldable pub stepOf : List ℕ → State → State

@@ -10,11 +10,11 @@ use plan::Appended;
 use plan::Plan;
 ghost use mathlib.Core.Path.{_≡_};
 ghost use Prim.Native.Nat.{_+_, _≤_, _<_};
-ghost use mathlib.Core.Bool.{true};
+ghost use mathlib.Core.Bool.{true, false};
 ghost use lib.ListN.{length};
 ghost use Rattle.plan_file.specs.Bytes.{word2, word4, word8, codeFrom, wordFrom, bitsFrom, recordFrom};
 ghost use Rattle.plan_file.specs.Answers.{isWhole, isAdded};
-ghost use Rattle.plan_file.specs.Steps.{kindWanted, kindOk, scannedTwice, faultOf, appendOf, listOf, lessOne, wantedAfter, scansAfter, refusedBy, takenBy, appendedStep, recordStep, isDone, stepOf, startState, answerOf, readOf};
+ghost use Rattle.plan_file.specs.Steps.{kindWanted, kindOk, scannedTwice, faultOf, appendOf, listOf, lessOne, wantedAfter, scansAfter, refusedBy, takenBy, appendedStep, recordStep, doneAt, isDone, stepOf, startState, answerOf, readOf};
 
 // How a reading ended: the number is the offset where the faulty record starts.
 pub enum Reading {
@@ -325,22 +325,19 @@ fn record_step(s: &[u8], q: State) -> State
     taken(q, r, x, plan)
 }
 
-fn is_done(n: usize, q: State) -> bool
-    ensures { λ b. ⌜ b ≡ isDone n q ⌝ }
+// Whether reading has ended, of the state's parts: the state itself is large, and need not be copied to be asked.
+fn is_done(n: usize, at: usize, k: Reading, w: Wanted) -> bool
+    ensures { λ b. ⌜ b ≡ doneAt n at k w ⌝ }
 {
-    let w = q.wanted;
-    let k = kind_wanted(w);
-    let reading = q.reading;
-    let whole = is_whole(reading);
-    !whole | ((n <= q.at) & (k == 0))
+    let wanted = kind_wanted(w);
+    let whole = is_whole(k);
+    !whole | ((n <= at) & (wanted == 0))
 }
 
 fn step(s: &[u8], q: State) -> State
+    requires { ⌜ isDone (length (now s)) q ≡ false ⌝ }
     ensures { λ t. ⌜ t ≡ stepOf (now (s .entry)) q ⌝ }
 {
-    if is_done(s.len(), q) {
-        return q;
-    }
     let at = q.at;
     if s.len() <= at {
         return refused(q, Reading::Short(at));
@@ -386,7 +383,10 @@ pub fn read(s: &[u8]) -> Answer
     let mut q = start_state();
     let mut i = 0;
     while i < s.len() {
-        if is_done(s.len(), q) {
+        let at = q.at;
+        let k = q.reading;
+        let w = q.wanted;
+        if is_done(s.len(), at, k, w) {
             return answered(q);
         }
         q = step(s, q);

@@ -9,7 +9,7 @@ is-whole-requires : tie.Need-is-whole-requires
 is-whole-requires c κs = search needs
 
 returns : tie.Need-returns
-returns c = rw (← c .before .before .kind-wanted .ensures, ← c .before .is-whole .ensures)
+returns c = rw (← c .before .kind-wanted .ensures, ← c .is-whole .ensures)
 
 pub is-done-spec : {M : Type 1} → statement M
 is-done-spec = tie.close (tie.spec kind-wanted-requires is-whole-requires returns)

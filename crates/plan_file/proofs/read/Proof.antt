@@ -27,10 +27,10 @@ answered-requires : tie.Need-answered-requires Inv-loop μ-loop
 answered-requires c κs = search needs
 
 returns : tie.Need-returns Inv-loop μ-loop
-returns c = c .answered .ensures ∙ read-early _ _ _ (c .before .before .before .before .loop .inv .0) (c .before .before .before .before .loop .inv .1) (sym (c .before .before .is-done .ensures) ∙ c .before .if1 .taken)
+returns c = c .answered .ensures ∙ read-early _ _ _ (c .before .before .before .before .before .loop .inv .0) (c .before .before .before .before .before .loop .inv .1) (sym (c .before .before .is-done .ensures) ∙ c .before .if1 .taken)
 
 step-requires : tie.Need-step-requires Inv-loop μ-loop
-step-requires c κs = search needs
+step-requires c κs = sym (c .before .is-done .ensures) ∙ c .if1 .left
 
 add-i : tie.Need-add-i Inv-loop μ-loop
 add-i c = omega arith
@@ -39,7 +39,7 @@ loop-less : tie.Need-loop-less Inv-loop μ-loop
 loop-less c = omega arith
 
 loop-again : tie.Need-loop-again Inv-loop μ-loop
-loop-again c = (omega arith, steps-more _ _ _ _ (c .before .before .before .before .loop .inv .1) (c .step .ensures))
+loop-again c = (omega arith, steps-more _ _ _ _ (c .before .before .before .before .before .loop .inv .1) (c .step .ensures))
 
 answered-requires-2 : tie.Need-answered-requires-2 Inv-loop μ-loop
 answered-requires-2 c κs = search needs
