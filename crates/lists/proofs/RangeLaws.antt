@@ -1,7 +1,9 @@
 -- A run of places, one place fewer at a time, as a loop goes through it; and what a passed test says of one place. Assumes nothing.
 use mathlib.Core.Path.{_≡_, refl, sym, subst, ap, _∙_}
 use mathlib.Core.Bool.{Bool, true, false, cond, _&&_, _||_}
-use mathlib.Core.Logic.{⊎-elim}
+use mathlib.Core.Logic.{_⊎_, inl, inr, ⊎-elim}
+use lib.Dec.{ltb}
+use borrow.Author.Tests.{ltb-true, ltb-false}
 use Prim.Native.Nat.{ℕ, zero, suc, _+_, _-_, _<_, _≤_}
 use native.Mathlib.Nat.{eq-or-lt-of-le}
 use native.Mathlib.Omega.{arith}
@@ -18,6 +20,14 @@ and-right false b e = cc
 
 pub and-both : (a b : Bool) → a ≡ true → b ≡ true → (a && b) ≡ true
 and-both a b p q = rw (p, q)
+
+-- a number is below another or not
+pub below-or-not : (i n : ℕ) → (i < n) ⊎ (n ≤ i)
+below-or-not i n = go (ltb i n) refl
+  where
+    go : (t : Bool) → ltb i n ≡ t → (i < n) ⊎ (n ≤ i)
+    go true e = inl (ltb-true i n e)
+    go false e = inr (ltb-false i n e)
 
 -- a test that passes everywhere passes at a place
 pub all-at : (f : ℕ → Bool) (n i : ℕ) → allFrom f i n ≡ true → (j : ℕ) → i ≤ j → j < i + n → f j ≡ true
@@ -48,6 +58,14 @@ left-one i e lt = omega arith
 
 left-none : (i e : ℕ) → e ≤ i → e - i ≡ 0
 left-none i e le = omega arith
+
+-- a run from i, of n places, ends at i + n
+pub run-whole : (i n : ℕ) → n ≡ i + n - i
+run-whole i n = omega arith
+
+-- a count that starts with none found and all places left
+pub run-start : (g : ℕ → ℕ) (n : ℕ) → g n ≡ 0 + g (n - 0)
+run-start g n = let e : n - 0 ≡ n = omega arith in rw e (omega arith)
 
 pub all-step : (f : ℕ → Bool) (i e : ℕ) → i < e → allFrom f i (e - i) ≡ (f i && allFrom f (i + 1) (e - (i + 1)))
 unfolding allFrom
@@ -85,6 +103,12 @@ pub count-done : (f : ℕ → Bool) (i e : ℕ) → e ≤ i → countFrom f i (e
 unfolding countFrom
 count-done f i e le = rw (left-none i e le)
 
+pub count-found : (f : ℕ → Bool) (i e : ℕ) → i < e → f i ≡ true → countFrom f i (e - i) ≡ 1 + countFrom f (i + 1) (e - (i + 1))
+count-found f i e lt q = rw (count-step f i e lt, q)
+
+pub count-missed : (f : ℕ → Bool) (i e : ℕ) → i < e → f i ≡ false → countFrom f i (e - i) ≡ countFrom f (i + 1) (e - (i + 1))
+count-missed f i e lt q = rw (count-step f i e lt, q) (omega arith)
+
 one-or-none : (b : Bool) → cond b 1 0 ≤ 1
 one-or-none true = omega arith
 one-or-none false = omega arith
@@ -94,3 +118,31 @@ pub count-most : (f : ℕ → Bool) (n i : ℕ) → countFrom f i n ≤ n
 unfolding countFrom
 count-most f zero i = omega arith
 count-most f (suc n) i = omega (arith, count-most f n (suc i), one-or-none (f i))
+
+-- what passes one test passes another, where each place says so
+pub all-mono :
+    (f g : ℕ → Bool) (i n : ℕ) → ((j : ℕ) → i ≤ j → j < i + n → f j ≡ true → g j ≡ true) → allFrom f i n ≡ true → allFrom g i n ≡ true
+all-mono f g i n h e = all-of g n i (λ j lo hi. h j lo hi (all-at f n i e j lo hi))
+
+-- two tests that agree at each place
+pub any-same : (f g : ℕ → Bool) (n i : ℕ) → ((j : ℕ) → i ≤ j → j < i + n → f j ≡ g j) → anyFrom f i n ≡ anyFrom g i n
+unfolding anyFrom
+any-same f g zero i h = refl
+any-same f g (suc n) i h =
+    λ k. h i (omega arith) (omega arith) k || any-same f g n (suc i) (λ j lo hi. h j (omega arith) (omega arith)) k
+
+pub count-same : (f g : ℕ → Bool) (n i : ℕ) → ((j : ℕ) → i ≤ j → j < i + n → f j ≡ g j) → countFrom f i n ≡ countFrom g i n
+unfolding countFrom
+count-same f g zero i h = refl
+count-same f g (suc n) i h =
+    λ k. cond (h i (omega arith) (omega arith) k) 1 0 + count-same f g n (suc i) (λ j lo hi. h j (omega arith) (omega arith)) k
+
+pub any-none : (f : ℕ → Bool) (n i : ℕ) → ((j : ℕ) → i ≤ j → j < i + n → f j ≡ false) → anyFrom f i n ≡ false
+unfolding anyFrom
+any-none f zero i h = refl
+any-none f (suc n) i h = rw (h i (omega arith) (omega arith)) (any-none f n (suc i) (λ j lo hi. h j (omega arith) (omega arith)))
+
+pub count-none : (f : ℕ → Bool) (n i : ℕ) → ((j : ℕ) → i ≤ j → j < i + n → f j ≡ false) → countFrom f i n ≡ 0
+unfolding countFrom
+count-none f zero i h = refl
+count-none f (suc n) i h = rw (h i (omega arith) (omega arith)) (omega (arith, count-none f n (suc i) (λ j lo hi. h j (omega arith) (omega arith))))

@@ -1,3 +1,4 @@
 pub mod Plans
 pub mod Append
 pub mod Records
+pub mod Extends

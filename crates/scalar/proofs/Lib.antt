@@ -1,0 +1,11 @@
+pub mod WholeLaws
+pub mod ExactLaws
+pub mod FloatLaws
+pub mod Convert
+pub mod NumberLaws
+pub mod Apart
+pub mod ScalarLaws
+pub mod Turned
+pub mod CodedLaws
+pub mod Owned
+pub mod Cases

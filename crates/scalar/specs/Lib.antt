@@ -1,0 +1,4 @@
+pub mod Exact
+pub mod Kinds
+pub mod Scalars
+pub mod Coded

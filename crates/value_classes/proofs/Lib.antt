@@ -1,0 +1,5 @@
+pub mod RootLaws
+pub mod MemberLaws
+pub mod Unions
+pub mod Chains
+pub mod Cases

@@ -1,0 +1,23 @@
+use mathlib.Core.Path.{refl, _∙_}
+use Rattle.value_range.proofs.Bools.{lower-by}
+use borrow.Author.Needs.{needs}
+use Rattle.value_range.proofs.Bound.takes_lower.Statement.{statement}
+use Rattle.value_range.proofs.Bound.takes_lower.Tie as tie
+
+returns : tie.Need-returns
+returns c = search needs
+
+returns-2 : tie.Need-returns-2
+returns-2 c = lower-by (c .before .before .before .before .args .self) (c .before .before .before .before .args .value) (c .before .before .before .before .args .inclusive) (c .before .before .if1 .left) (c .if2 .taken) refl refl
+
+returns-3 : tie.Need-returns-3
+returns-3 c = lower-by (c .before .before .before .before .before .before .before .args .self) (c .before .before .before .before .before .before .before .args .value) (c .before .before .before .before .before .before .before .args .inclusive) (c .before .before .before .before .before .if1 .left) (c .before .before .before .if2 .left) (c .before .if3 .taken) (c .if4 .taken)
+
+returns-4 : tie.Need-returns-4
+returns-4 c = c .if4 .left ∙ lower-by (c .before .before .before .before .before .before .before .args .self) (c .before .before .before .before .before .before .before .args .value) (c .before .before .before .before .before .before .before .args .inclusive) (c .before .before .before .before .before .if1 .left) (c .before .before .before .if2 .left) (c .before .if3 .taken) (c .if4 .left)
+
+returns-5 : tie.Need-returns-5
+returns-5 c = lower-by (c .before .before .before .before .before .before .args .self) (c .before .before .before .before .before .before .args .value) (c .before .before .before .before .before .before .args .inclusive) (c .before .before .before .before .if1 .left) (c .before .before .if2 .left) (c .if3 .left) refl
+
+pub takes-lower-spec : {M : Type 1} → statement M
+takes-lower-spec = tie.close (tie.spec returns returns-2 returns-3 returns-4 returns-5)

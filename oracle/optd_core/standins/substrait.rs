@@ -1,0 +1,1 @@
+//! optd reads Substrait here. The oracle does not.

@@ -1,0 +1,1 @@
+//! optd has a benchmark here. The oracle does not run it.
