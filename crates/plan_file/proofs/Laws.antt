@@ -59,9 +59,13 @@ pub record Passed (r : Row) (x : Record) (n : ℕ) (q : State) : Type 0 where
   pub handles : handlesOk r x (q .plan .columns .count) (q .plan .expressions .count) (q .plan .operators .count) ≡ true
   pub once : scannedTwice r x (q .wanted) (q .scans) (q .plan .operators .count) ≡ false
 
+-- the fault by what each test said
+abbrev pub faultWhere : ℕ → Bool → Bool → Bool → Bool → Bool → Reading
+faultWhere at k l c h t = cond k (cond l (cond c (cond h (cond t (ScannedTwice at) Whole) (Handle at)) (Unknown at)) (Short at)) (Unknown at)
+
 passed :
     (at : ℕ) (k l c h t : Bool) →
-    isWhole (cond k (cond l (cond c (cond h (cond t (ScannedTwice at) Whole) (Handle at)) (Unknown at)) (Short at)) (Unknown at)) ≡ true →
+    isWhole (faultWhere at k l c h t) ≡ true →
     (k ≡ true) × (l ≡ true) × (c ≡ true) × (h ≡ true) × (t ≡ false)
 passed at false l c h t e = absurd (let z : _≡_ {A = ℕ} 0 1 = cc in omega arith)
 passed at true false c h t e = absurd (let z : _≡_ {A = ℕ} 0 1 = cc in omega arith)
