@@ -1,0 +1,76 @@
+use borrow.Author.Needs.{needs}
+use Prim.Native.Nat.{ℕ, _+_, _-_, _≤_}
+use mathlib.Core.Path.{_≡_, refl, sym, ap, _∙_}
+use native.Mathlib.Omega.{arith}
+use native.Mathlib.Nat.{sub-zero}
+use denote.Ref.{now}
+use lib.Dec.{ltb, eqb}
+use lib.ListN.{getD}
+use Rattle.plan_rules.specs.Rules.{scansOf}
+use Rattle.identities.specs.Places.{firstFrom}
+use Rattle.identities.specs.Identities.{tableIn}
+use Rattle.identities.proofs.PlaceLaws.{first-found, first-missed, first-done}
+use Rattle.identities.proofs.table_of.Statement.{statement}
+use Rattle.identities.proofs.table_of.Tie as tie
+use Rattle.identities.proofs.table_of.Reads as reads
+use Rattle.identities.proofs.table_of.Lts as lts
+use Rattle.identities.proofs.scan_lists.Reads as scan-lists-reads
+use Rattle.lists.proofs.at16.Reads as at16-reads
+
+abbrev Inv-loop : tie.InvT-loop
+Inv-loop kind a b start items np c i₀ i = (i ≤ np) × (tableIn kind a b start items np c ≡ firstFrom (scansOf kind b start items c) (λ (j : ℕ). getD a j 0) 65536 i (np - i))
+
+abbrev μ-loop : tie.MeasureT-loop
+μ-loop kind a b start items np c i₀ i = np - i
+
+-- src/lib.rt:78:5
+loop-holds : tie.Need-loop-holds Inv-loop μ-loop
+loop-holds c = ?
+
+-- src/lib.rt:79:12
+scan-lists-requires : tie.Need-scan-lists-requires Inv-loop μ-loop
+scan-lists-requires c κs = search needs
+
+-- src/lib.rt:80:20
+at16-requires : tie.Need-at16-requires Inv-loop μ-loop
+at16-requires c κs = search needs
+
+-- src/lib.rt:80:20
+cast-result : tie.Need-cast-result Inv-loop μ-loop
+cast-result c = search needs
+
+-- src/lib.rt:80:13
+returns : tie.Need-returns Inv-loop μ-loop
+returns c = ?
+
+-- src/lib.rt:82:9
+add-i : tie.Need-add-i Inv-loop μ-loop
+add-i c = search needs
+
+-- src/lib.rt:78:5
+loop-less : tie.Need-loop-less Inv-loop μ-loop
+loop-less c = search needs
+
+-- src/lib.rt:78:5
+loop-again : tie.Need-loop-again Inv-loop μ-loop
+loop-again c = ?
+
+-- src/lib.rt:66:1
+returns-2 : tie.Need-returns-2 Inv-loop μ-loop
+returns-2 c = ?
+
+pub table-of-spec : {M : Type 1} → statement M
+table-of-spec =
+    tie.close
+    (tie.spec
+    Inv-loop
+    μ-loop
+    loop-holds
+    scan-lists-requires
+    at16-requires
+    cast-result
+    returns
+    add-i
+    loop-less
+    loop-again
+    returns-2)

@@ -1,0 +1,74 @@
+use borrow.Author.Needs.{needs}
+use Prim.Native.Nat.{ℕ, _+_, _-_, _≤_}
+use mathlib.Core.Path.{_≡_, refl, sym, ap, _∙_}
+use native.Mathlib.Omega.{arith}
+use native.Mathlib.Nat.{sub-zero}
+use denote.Ref.{now}
+use lib.Dec.{ltb, eqb}
+use lib.ListN.{getD}
+use Rattle.identities.specs.Places.{filled}
+use Rattle.identities.specs.Identities.{tableIn}
+use Rattle.identities.proofs.PlaceLaws.{filled-length, filled-more}
+use Rattle.identities.proofs.tables.Statement.{statement}
+use Rattle.identities.proofs.tables.Tie as tie
+use Rattle.identities.proofs.tables.Reads as reads
+use Rattle.identities.proofs.tables.Lts as lts
+use Rattle.identities.proofs.table_of.Reads as table-of-reads
+
+abbrev Inv-loop : tie.InvT-loop
+Inv-loop kind a b start items np n t₀ c₀ t c = (c ≤ n) × (t ≡ filled (tableIn kind a b start items np) c)
+
+abbrev μ-loop : tie.MeasureT-loop
+μ-loop kind a b start items np n t₀ c₀ t c = n - c
+
+-- src/lib.rt:102:5
+loop-holds : tie.Need-loop-holds Inv-loop μ-loop
+loop-holds c = ?
+
+-- src/lib.rt:103:13
+table-of-requires : tie.Need-table-of-requires Inv-loop μ-loop
+table-of-requires c κs = search needs
+
+-- src/lib.rt:104:17
+cast-i : tie.Need-cast-i Inv-loop μ-loop
+cast-i c = search needs
+
+-- src/lib.rt:105:9
+mul-t : tie.Need-mul-t Inv-loop μ-loop
+mul-t c = search needs
+
+-- src/lib.rt:105:9
+array-write-t : tie.Need-array-write-t Inv-loop μ-loop
+array-write-t c = search needs
+
+-- src/lib.rt:106:9
+add-c : tie.Need-add-c Inv-loop μ-loop
+add-c c = search needs
+
+-- src/lib.rt:102:5
+loop-less : tie.Need-loop-less Inv-loop μ-loop
+loop-less c = search needs
+
+-- src/lib.rt:102:5
+loop-again : tie.Need-loop-again Inv-loop μ-loop
+loop-again c = ?
+
+-- src/lib.rt:88:1
+returns : tie.Need-returns Inv-loop μ-loop
+returns c = ?
+
+pub tables-spec : {M : Type 1} → statement M
+tables-spec =
+    tie.close
+    (tie.spec
+    Inv-loop
+    μ-loop
+    loop-holds
+    table-of-requires
+    cast-i
+    mul-t
+    array-write-t
+    add-c
+    loop-less
+    loop-again
+    returns)
