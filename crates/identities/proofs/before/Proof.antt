@@ -1,3 +1,4 @@
+use Rattle.identities.specs.Identities.{byKey}
 use borrow.Author.Needs.{needs}
 use Rattle.identities.proofs.before.Statement.{statement}
 use Rattle.identities.proofs.before.Tie as tie
@@ -24,7 +25,8 @@ at16-requires-2 c κs = search needs
 
 -- src/lib.rt:112:1
 returns : tie.Need-returns
-returns c = ?
+unfolding byKey
+returns c = rw (← c .before .before .before .at64 .ensures, ← c .before .before .at642 .ensures, ← c .before .at16 .ensures, ← c .at162 .ensures)
 
 pub before-spec : {M : Type 1} → statement M
 before-spec =

@@ -1,3 +1,5 @@
+use mathlib.Core.Bool.{Bool}
+use borrow.Author.Tests.{eq-eqb, ne-eqb}
 use borrow.Author.Needs.{needs}
 use Prim.Native.Nat.{ℕ, _+_, _-_, _≤_}
 use mathlib.Core.Path.{_≡_, refl, sym, ap, _∙_}
@@ -22,7 +24,11 @@ abbrev μ-loop : tie.MeasureT-loop
 
 -- src/lib.rt:210:5
 loop-holds : tie.Need-loop-holds Inv-loop μ-loop
-loop-holds c = ?
+loop-holds c = 
+    let a = c .before .args in
+    let f : ℕ → Bool = λ j. eqb (getD (now (a .base)) j 0) (a .number) in
+    let g : ℕ → ℕ = λ j. j in
+    (omega arith, ap (firstFrom f g 0 0) (sym (sub-zero (a .n))))
 
 -- src/lib.rt:211:29
 cast-at8 : tie.Need-cast-at8 Inv-loop μ-loop
@@ -34,7 +40,11 @@ at8-requires c κs = search needs
 
 -- src/lib.rt:212:13
 returns : tie.Need-returns Inv-loop μ-loop
-returns c = ?
+returns c = 
+    let a = c .before .before .before .before .before .args in
+    let f : ℕ → Bool = λ j. eqb (getD (now (a .base)) j 0) (a .number) in
+    let g : ℕ → ℕ = λ j. j in
+    sym (c .before .before .before .loop .inv .1 ∙ first-found f g 0 (c .before .before .before .loop .c) (a .n) (c .before .before .loop-test .taken) (eq-eqb _ _ (sym (c .before .at8 .ensures) ∙ c .if1 .taken)))
 
 -- src/lib.rt:214:9
 add-c : tie.Need-add-c Inv-loop μ-loop
@@ -46,11 +56,19 @@ loop-less c = search needs
 
 -- src/lib.rt:210:5
 loop-again : tie.Need-loop-again Inv-loop μ-loop
-loop-again c = ?
+loop-again c = 
+    let a = c .before .before .before .before .before .args in
+    let f : ℕ → Bool = λ j. eqb (getD (now (a .base)) j 0) (a .number) in
+    let g : ℕ → ℕ = λ j. j in
+    (omega arith, c .before .before .before .loop .inv .1 ∙ first-missed f g 0 (c .before .before .before .loop .c) (a .n) (c .before .before .loop-test .taken) (ne-eqb _ _ (λ e. c .if1 .left (c .before .at8 .ensures ∙ e))))
 
 -- src/lib.rt:206:1
 returns-2 : tie.Need-returns-2 Inv-loop μ-loop
-returns-2 c = ?
+returns-2 c = 
+    let a = c .before .before .before .args in
+    let f : ℕ → Bool = λ j. eqb (getD (now (a .base)) j 0) (a .number) in
+    let g : ℕ → ℕ = λ j. j in
+    sym (c .before .loop .inv .1 ∙ first-done f g 0 (c .before .loop .c) (a .n) (c .loop-test .left))
 
 pub column-of-spec : {M : Type 1} → statement M
 column-of-spec =

@@ -1,3 +1,4 @@
+use Rattle.identities.proofs.Ways.{base-there, base-gone, derived-there, derived-gone}
 use borrow.Author.Needs.{needs}
 use Rattle.identities.proofs.number_of.Statement.{statement}
 use Rattle.identities.proofs.number_of.Tie as tie
@@ -35,19 +36,19 @@ add-result c = search needs
 
 -- src/lib.rt:189:1
 returns : tie.Need-returns
-returns c = ?
+returns c = base-there (c .before .before .before .before .before .before .before .args .t1) _ _ _ (c .before .before .before .before .v .given .1) (c .before .before .before .before .before .before .size .ensures) (c .before .if1 .taken)
 
 -- src/lib.rt:189:1
 returns-2 : tie.Need-returns-2
-returns-2 c = ?
+returns-2 c = base-gone (c .before .before .before .before .before .before .args .t1) _ _ _ (c .before .before .before .v .given .1) (c .before .before .before .before .before .size .ensures) (c .if1 .left)
 
 -- src/lib.rt:189:1
 returns-3 : tie.Need-returns-3
-returns-3 c = ?
+returns-3 c = derived-there (c .before .before .before .before .before .args .t1) _ _ (c .before .before .v2 .given .1) (c .if2 .taken)
 
 -- src/lib.rt:189:1
 returns-4 : tie.Need-returns-4
-returns-4 c = ?
+returns-4 c = derived-gone (c .before .before .before .before .before .args .t1) _ _ (c .before .before .v2 .given .1) (c .if2 .left)
 
 pub number-of-spec : {M : Type 1} → statement M
 number-of-spec =

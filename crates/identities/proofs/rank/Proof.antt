@@ -1,3 +1,5 @@
+use mathlib.Core.Bool.{Bool}
+use borrow.Author.Tests.{eq-eqb, ne-eqb}
 use borrow.Author.Needs.{needs}
 use Prim.Native.Nat.{ℕ, _+_, _-_, _≤_}
 use mathlib.Core.Path.{_≡_, refl, sym, ap, _∙_}
@@ -24,7 +26,10 @@ abbrev μ-loop : tie.MeasureT-loop
 
 -- src/lib.rt:141:5
 loop-holds : tie.Need-loop-holds Inv-loop μ-loop
-loop-holds c = ?
+loop-holds c = 
+    let a = c .before .before .args in
+    let f : ℕ → Bool = λ j. beforeIn (now (a .tables)) (now (a .names)) j (a .c) in
+    (omega arith, omega arith, run-start (countFrom f 0) (a .n))
 
 -- src/lib.rt:142:12
 before-requires : tie.Need-before-requires Inv-loop μ-loop
@@ -44,11 +49,23 @@ loop-less c = search needs
 
 -- src/lib.rt:141:5
 loop-again : tie.Need-loop-again Inv-loop μ-loop
-loop-again c = ?
+loop-again c = 
+    let a = c .before .before .before .before .before .before .args in
+    let f : ℕ → Bool = λ j. beforeIn (now (a .tables)) (now (a .names)) j (a .c) in
+    let lt = c .before .before .loop-test .taken in
+    let inv = c .before .before .before .loop .inv in
+    let i = c .before .before .before .loop .b in
+    ⊎-elim (λ w. (omega arith, omega arith, omega (arith, w .1, count-found f i (a .n) lt (sym (c .before .before2 .ensures) ∙ w .0 .taken))))
+    (λ w. (omega arith, omega arith, omega (arith, w .1, count-missed f i (a .n) lt (sym (c .before .before2 .ensures) ∙ w .0 .left)))) (c .if1 .came)
 
 -- src/lib.rt:135:1
 returns : tie.Need-returns Inv-loop μ-loop
-returns c = ?
+unfolding rankIn
+returns c = 
+    let a = c .before .before .before .before .args in
+    let f : ℕ → Bool = λ j. beforeIn (now (a .tables)) (now (a .names)) j (a .c) in
+    let inv = c .before .loop .inv in
+    omega (arith, count-done f (c .before .loop .b) (a .n) (c .loop-test .left))
 
 pub rank-spec : {M : Type 1} → statement M
 rank-spec =

@@ -23,7 +23,8 @@ abbrev μ-loop : tie.MeasureT-loop
 
 -- src/lib.rt:145:5
 loop-holds : tie.Need-loop-holds Inv-loop μ-loop
-loop-holds c = ?
+unfolding filled
+loop-holds c = (omega arith, refl)
 
 -- src/lib.rt:146:13
 rank-requires : tie.Need-rank-requires Inv-loop μ-loop
@@ -43,11 +44,17 @@ loop-less c = search needs
 
 -- src/lib.rt:145:5
 loop-again : tie.Need-loop-again Inv-loop μ-loop
-loop-again c = ?
+loop-again c = 
+    let a = c .before .before .before .before .before .args in
+    let f = rankIn (now (a .tables)) (now (a .names)) (a .n) in
+    (omega arith, filled-more f (c .before .before .loop .t) (c .before .before .loop .c) (c .rank .result) (c .rank .ensures) (c .before .before .loop .inv .1))
 
 -- src/lib.rt:139:1
 returns : tie.Need-returns Inv-loop μ-loop
-returns c = ?
+returns c = 
+    let a = c .before .before .before .before .args in
+    let f = rankIn (now (a .tables)) (now (a .names)) (a .n) in
+    let e : c .before .loop .c ≡ a .n = omega arith in c .before .loop .inv .1 ∙ ap (filled f) e
 
 pub ranks-spec : {M : Type 1} → statement M
 ranks-spec =

@@ -25,7 +25,12 @@ abbrev μ-loop : tie.MeasureT-loop
 
 -- src/lib.rt:78:5
 loop-holds : tie.Need-loop-holds Inv-loop μ-loop
-loop-holds c = ?
+unfolding tableIn
+loop-holds c = 
+    let a = c .before .before .before .before .before .args in
+    let f = scansOf (now (a .kind)) (now (a .b)) (now (a .start)) (now (a .items)) (a .c) in
+    let g : ℕ → ℕ = λ j. getD (now (a .a)) j 0 in
+    (omega arith, ap (firstFrom f g 65536 0) (sym (sub-zero (a .np))))
 
 -- src/lib.rt:79:12
 scan-lists-requires : tie.Need-scan-lists-requires Inv-loop μ-loop
@@ -41,7 +46,11 @@ cast-result c = search needs
 
 -- src/lib.rt:80:13
 returns : tie.Need-returns Inv-loop μ-loop
-returns c = ?
+returns c = 
+    let a = c .before .before .before .before .before .before .before .before .before .before .args in
+    let f = scansOf (now (a .kind)) (now (a .b)) (now (a .start)) (now (a .items)) (a .c) in
+    let g : ℕ → ℕ = λ j. getD (now (a .a)) j 0 in
+    c .at16 .ensures ∙ sym (c .before .before .before .before .loop .inv .1 ∙ first-found f g 65536 (c .before .before .before .before .loop .i) (a .np) (c .before .before .before .loop-test .taken) (sym (c .before .before .scan-lists .ensures) ∙ c .before .if1 .taken))
 
 -- src/lib.rt:82:9
 add-i : tie.Need-add-i Inv-loop μ-loop
@@ -53,11 +62,19 @@ loop-less c = search needs
 
 -- src/lib.rt:78:5
 loop-again : tie.Need-loop-again Inv-loop μ-loop
-loop-again c = ?
+loop-again c = 
+    let a = c .before .before .before .before .before .before .before .before .before .args in
+    let f = scansOf (now (a .kind)) (now (a .b)) (now (a .start)) (now (a .items)) (a .c) in
+    let g : ℕ → ℕ = λ j. getD (now (a .a)) j 0 in
+    (omega arith, c .before .before .before .loop .inv .1 ∙ first-missed f g 65536 (c .before .before .before .loop .i) (a .np) (c .before .before .loop-test .taken) (sym (c .before .scan-lists .ensures) ∙ c .if1 .left))
 
 -- src/lib.rt:66:1
 returns-2 : tie.Need-returns-2 Inv-loop μ-loop
-returns-2 c = ?
+returns-2 c = 
+    let a = c .before .before .before .before .before .before .before .args in
+    let f = scansOf (now (a .kind)) (now (a .b)) (now (a .start)) (now (a .items)) (a .c) in
+    let g : ℕ → ℕ = λ j. getD (now (a .a)) j 0 in
+    sym (c .before .loop .inv .1 ∙ first-done f g 65536 (c .before .loop .i) (a .np) (c .loop-test .left))
 
 pub table-of-spec : {M : Type 1} → statement M
 table-of-spec =

@@ -23,7 +23,8 @@ abbrev μ-loop : tie.MeasureT-loop
 
 -- src/lib.rt:102:5
 loop-holds : tie.Need-loop-holds Inv-loop μ-loop
-loop-holds c = ?
+unfolding filled
+loop-holds c = (omega arith, refl)
 
 -- src/lib.rt:103:13
 table-of-requires : tie.Need-table-of-requires Inv-loop μ-loop
@@ -51,11 +52,17 @@ loop-less c = search needs
 
 -- src/lib.rt:102:5
 loop-again : tie.Need-loop-again Inv-loop μ-loop
-loop-again c = ?
+loop-again c = 
+    let a = c .before .before .before .before .before .before .before .before .args in
+    let f = tableIn (now (a .kind)) (now (a .a)) (now (a .b)) (now (a .start)) (now (a .items)) (a .np) in
+    (omega arith, filled-more f (c .before .before .loop .t) (c .before .before .loop .c) (c .table-of .result) (c .table-of .ensures) (c .before .before .loop .inv .1))
 
 -- src/lib.rt:88:1
 returns : tie.Need-returns Inv-loop μ-loop
-returns c = ?
+returns c = 
+    let a = c .before .before .before .before .before .before .before .args in
+    let f = tableIn (now (a .kind)) (now (a .a)) (now (a .b)) (now (a .start)) (now (a .items)) (a .np) in
+    let e : c .before .loop .c ≡ a .n = omega arith in c .before .loop .inv .1 ∙ ap (filled f) e
 
 pub tables-spec : {M : Type 1} → statement M
 tables-spec =

@@ -1,3 +1,4 @@
+use Rattle.identities.proofs.Ways.{value-base, value-derived}
 use borrow.Author.Needs.{needs}
 use Rattle.identities.proofs.value_id.Statement.{statement}
 use Rattle.identities.proofs.value_id.Tie as tie
@@ -24,7 +25,7 @@ column-of-requires c κs = search needs
 
 -- src/lib.rt:214:9
 returns : tie.Need-returns
-returns c = ?
+returns c = value-base (c .before .before .before .before .before .args .ids) (c .before .before .before .before .before .args .n) _ _ (c .before .before .before .before .if1 .taken) (c .before .before .before .size .ensures) (c .column-of .ensures)
 
 -- src/lib.rt:216:29
 cast-t12 : tie.Need-cast-t12
@@ -32,7 +33,7 @@ cast-t12 c = search needs
 
 -- src/lib.rt:208:1
 returns-2 : tie.Need-returns-2
-returns-2 c = ?
+returns-2 c = value-derived (c .before .args .ids) (c .before .args .n) (c .if1 .left)
 
 pub value-id-spec : {M : Type 1} → statement M
 value-id-spec =
