@@ -1,2 +1,4 @@
 pub mod PlaceLaws
 pub mod Ways
+pub mod OrderLaws
+pub mod RankLaws

@@ -87,3 +87,15 @@ beforeIn tables names a b = beforeBy (λ (c : ℕ). getD tables c 0) (λ (c : �
 
 unfoldable pub rankIn : List ℕ → List ℕ → ℕ → ℕ → ℕ
 rankIn tables names n c = countFrom (λ (b : ℕ). beforeIn tables names b c) 0 n
+
+-- "Base before Derived; Base by table, then name, then column number; Derived by column": the first identity is the smaller
+unfoldable pub smaller : Plan → ValueId → ValueId → Bool
+smaller p (Base a) (Base b) = before p (a .0) (b .0)
+smaller p (Base a) (Derived b) = true
+smaller p (Derived a) (Base b) = false
+smaller p (Derived a) (Derived b) = ltb (a .0) (b .0)
+
+-- an identity that a value of the plan can have: Base of one of its columns, or Derived of any of 64
+unfoldable pub ofPlan : Plan → ValueId → Bool
+ofPlan p (Base c) = ltb (c .0) (columnsOf p)
+ofPlan p (Derived c) = ltb (c .0) 64
