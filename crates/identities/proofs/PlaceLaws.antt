@@ -1,14 +1,14 @@
 -- The first place that passes a test, one place fewer at a time, as a loop goes through it; and what stands in a table filled from its start.
 -- Assumes nothing.
 use Prim.Native.Nat.{ℕ, zero, suc, _+_, _-_, _<_, _≤_}
-use mathlib.Core.Path.{_≡_, refl, sym, ap, subst, _∙_}
-use mathlib.Core.Bool.{Bool, true, false, cond, _||_}
+use mathlib.Core.Path.{_≡_, refl, ap, subst, _∙_}
+use mathlib.Core.Bool.{Bool, true, false, cond}
 use mathlib.Core.List.{List}
 use mathlib.Core.Logic.{_⊎_, ⊎-elim}
 use native.Mathlib.Nat.{eq-or-lt-of-le}
 use native.Mathlib.Omega.{arith}
 use native.Mathlib.Numerals.{add-one}
-use lib.ListN.{length, getD, set, replicate, length-set}
+use lib.ListN.{length, getD, set, length-set}
 use lib.Seq.{getD-set-same, getD-set-other}
 use Rattle.lists.specs.Ranges.{anyFrom}
 use Rattle.identities.specs.Places.{firstFrom, filled}
@@ -18,7 +18,7 @@ pub by-test : {P : Type 0} (t : Bool) → (t ≡ true → P) → (t ≡ false �
 by-test true yes-way no-way = yes-way refl
 by-test false yes-way no-way = no-way refl
 
-no-pass : false ≡ true → ⊥
+pub no-pass : false ≡ true → ⊥
 no-pass e = let z : _≡_ {A = ℕ} 0 1 = cc in omega arith
 
 last-or-less : (c n : ℕ) → c < suc n → (c ≡ n) ⊎ (c < n)
@@ -54,6 +54,20 @@ module _ (f : ℕ → Bool) (g : ℕ → ℕ) (d : ℕ) where
       by-test (f i) (λ e. rw e (ap g (only i (omega arith) (omega arith) e)))
       (λ e. rw e (⊎-elim (λ z. let y = subst (λ (j : ℕ). f j ≡ false) z e in cc)
       (λ l. first-only n (suc i) k l (omega arith) q (λ j a b. only j (omega arith) (omega arith))) (eq-or-lt-of-le lo)))
+
+-- where it passes nowhere there is none
+pub first-none : (f : ℕ → Bool) (g : ℕ → ℕ) (d n i : ℕ) → ((j : ℕ) → i ≤ j → j < i + n → f j ≡ false) → firstFrom f g d i n ≡ d
+unfolding firstFrom
+first-none f g d zero i h = refl
+first-none f g d (suc n) i h = rw (h i (omega arith) (omega arith)) (first-none f g d n (suc i) (λ j lo hi. h j (omega arith) (omega arith)))
+
+-- two tests that agree at each place
+pub first-same :
+    (f f2 : ℕ → Bool) (g : ℕ → ℕ) (d n i : ℕ) → ((j : ℕ) → i ≤ j → j < i + n → f j ≡ f2 j) → firstFrom f g d i n ≡ firstFrom f2 g d i n
+unfolding firstFrom
+first-same f f2 g d zero i h = refl
+first-same f f2 g d (suc n) i h =
+    λ k. cond (h i (omega arith) (omega arith) k) (g i) (first-same f f2 g d n (suc i) (λ j lo hi. h j (omega arith) (omega arith)) k)
 
 -- the first place that passes, where one does: it passes, and it is one of the run
 pub record Found (f : ℕ → Bool) (i n k : ℕ) : Type 0 where

@@ -1,18 +1,20 @@
 -- Counting the smaller ones numbers any strict total order: it keeps the order, and the numbers are those below the count, each once.
 -- Assumes nothing.
 use Prim.Native.Nat.{ℕ, zero, suc, _+_, _-_, _<_, _≤_}
-use mathlib.Core.Path.{_≡_, refl, sym, ap, subst, _∙_}
-use mathlib.Core.Bool.{Bool, true, false, cond, _||_}
+use mathlib.Core.Path.{_≡_, refl, sym, subst, _∙_}
+use mathlib.Core.Bool.{Bool, true, false, cond}
 use mathlib.Core.Logic.{_⊎_, inl, inr, ⊎-elim}
 use native.Mathlib.Nat.{eq-or-lt-of-le, le-refl}
 use native.Mathlib.Omega.{arith}
-use native.Mathlib.Numerals.{add-one}
 use lib.Dec.{ltb, eqb}
-use borrow.Author.Tests.{ltb-true, ltb-false, lt-ltb, le-ltb, eqb-true, eqb-false, eq-eqb, ne-eqb}
+use borrow.Author.Tests.{lt-ltb, le-ltb, eqb-true, eqb-false, eq-eqb, ne-eqb}
 use Rattle.lists.specs.Ranges.{anyFrom, countFrom}
-use Rattle.lists.proofs.RangeLaws.{count-most, count-none, below-or-not}
-use Rattle.identities.proofs.PlaceLaws.{by-test}
+use Rattle.lists.proofs.RangeLaws.{count-none, below-or-not}
+use Rattle.identities.proofs.PlaceLaws.{by-test, no-pass}
 use Rattle.identities.proofs.OrderLaws.{Strict}
+
+same-or-not : (a b : ℕ) → (a ≡ b) ⊎ (a ≡ b → ⊥)
+same-or-not a b = by-test (eqb a b) (λ e. inl (eqb-true a b e)) (λ e. inr (eqb-false a b e))
 
 one-mono : (a b : Bool) → (a ≡ true → b ≡ true) → cond a 1 0 ≤ cond b 1 0
 one-mono true b h = rw (h refl) (omega arith)
@@ -47,6 +49,21 @@ count-one f (suc n) i h =
     (λ e. rw (e, count-none f n (suc i) (λ j lo hi. by-test (f j) (λ t. absurd (omega (arith, h i j (omega arith) (omega arith) (omega arith) (omega arith) e t))) (λ t. t))) (omega arith))
     (λ e. rw e (omega (arith, count-one f n (suc i) (λ j k a b c d. h j k (omega arith) (omega arith) (omega arith) (omega arith)))))
 
+-- one at least passes where one is known to
+count-some : (f : ℕ → Bool) (n i k : ℕ) → i ≤ k → k < i + n → f k ≡ true → 1 ≤ countFrom f i n
+count-some f n i k lo hi e =
+    omega (arith, count-less (λ (j : ℕ). false) f n i k (λ j a b q. absurd (no-pass q)) lo hi refl e)
+
+-- two that pass are the same, where at most one passes
+pub count-two : (f : ℕ → Bool) (n j k : ℕ) → j < n → k < n → countFrom f 0 n ≤ 1 → f j ≡ true → f k ≡ true → j ≡ k
+count-two f n j k hj hk most p q =
+    ⊎-elim (λ e. e)
+    (λ d. absurd (omega (
+      arith,
+      count-some (λ (i : ℕ). eqb i j) n 0 j (omega arith) (omega arith) (eq-eqb j j refl),
+      count-less (λ (i : ℕ). eqb i j) f n 0 k (λ i a b t. rw (eqb-true i j t) p) (omega arith) (omega arith) (ne-eqb k j (λ e. d (sym e))) q,
+    ))) (same-or-not j k)
+
 -- one passes where the count is not 0
 count-any : (f : ℕ → Bool) (n i : ℕ) → 1 ≤ countFrom f i n → anyFrom f i n ≡ true
 unfolding countFrom anyFrom
@@ -70,9 +87,6 @@ count-up-to : (r : ℕ → ℕ) (m n i : ℕ) → countFrom (λ (c : ℕ). ltb (
 unfolding countFrom
 count-up-to r m zero i = refl
 count-up-to r m (suc n) i = omega (arith, up-to (r i) m, count-up-to r m n (suc i))
-
-same-or-not : (a b : ℕ) → (a ≡ b) ⊎ (a ≡ b → ⊥)
-same-or-not a b = by-test (eqb a b) (λ e. inl (eqb-true a b e)) (λ e. inr (eqb-false a b e))
 
 -- n different numbers below n: each number below n is one of them
 module _ (r : ℕ → ℕ) (n : ℕ) (small : (c : ℕ) → c < n → r c < n) (differ : (a b : ℕ) → a < n → b < n → r a ≡ r b → a ≡ b) where

@@ -1,6 +1,6 @@
 -- What each way out of the code has to show, on plain values. Assumes nothing.
-use Prim.Native.Nat.{ℕ, _+_, _-_, _<_, _≤_, min}
-use mathlib.Core.Path.{_≡_, refl, sym, ap, _∙_}
+use Prim.Native.Nat.{ℕ, _+_, _-_, _<_, _≤_}
+use mathlib.Core.Path.{_≡_, ap, _∙_}
 use mathlib.Core.Bool.{Bool, _&&_, _||_}
 use mathlib.Core.List.{List}
 use native.Mathlib.Omega.{arith}
@@ -15,7 +15,7 @@ use Rattle.identities.specs.declared.ValueId.{ValueId}
 use Rattle.identities.specs.declared.ValueId.the-variants.{Base, Derived}
 use Rattle.identities.specs.declared.Identities.{Identities}
 use Rattle.identities.specs.Places.{firstFrom, filled}
-use Rattle.identities.specs.Identities.{tableOf, nameOf, byKey, before, sizeOf, columnsOf, baseOf, numberBy, valueBy, identitiesOf, numberIn, valueIn, beforeIn, rankIn}
+use Rattle.identities.specs.Identities.{tableOf, nameOf, byKey, before, sizeOf, columnsOf, baseOf, numberBy, valueBy, identitiesOf, numberIn, valueIn, rankIn}
 use Rattle.identities.proofs.PlaceLaws.{filled-at, filled-same}
 
 module _ (ids : Identities) where

@@ -1,22 +1,15 @@
 use mathlib.Core.Bool.{Bool}
-use borrow.Author.Tests.{eq-eqb, ne-eqb}
 use borrow.Author.Needs.{needs}
 use Prim.Native.Nat.{ℕ, _+_, _-_, _≤_}
-use mathlib.Core.Path.{_≡_, refl, sym, ap, _∙_}
+use mathlib.Core.Path.{_≡_, sym, _∙_}
 use native.Mathlib.Omega.{arith}
-use native.Mathlib.Nat.{sub-zero}
 use denote.Ref.{now}
-use lib.Dec.{ltb, eqb}
-use lib.ListN.{getD}
 use mathlib.Core.Logic.{⊎-elim}
 use Rattle.lists.specs.Ranges.{countFrom}
 use Rattle.lists.proofs.RangeLaws.{run-start, count-found, count-missed, count-done}
 use Rattle.identities.specs.Identities.{beforeIn, rankIn}
 use Rattle.identities.proofs.rank.Statement.{statement}
 use Rattle.identities.proofs.rank.Tie as tie
-use Rattle.identities.proofs.rank.Reads as reads
-use Rattle.identities.proofs.rank.Lts as lts
-use Rattle.identities.proofs.before.Reads as before-reads
 
 abbrev Inv-loop : tie.InvT-loop
 Inv-loop tables names n c found₀ b₀ found b = (b ≤ n) × (found ≤ b) × (countFrom (λ (j : ℕ). beforeIn tables names j c) 0 n ≡ found + countFrom (λ (j : ℕ). beforeIn tables names j c) b (n - b))
@@ -24,32 +17,26 @@ Inv-loop tables names n c found₀ b₀ found b = (b ≤ n) × (found ≤ b) × 
 abbrev μ-loop : tie.MeasureT-loop
 μ-loop tables names n c found₀ b₀ found b = n - b
 
--- src/lib.rt:141:5
 loop-holds : tie.Need-loop-holds Inv-loop μ-loop
-loop-holds c = 
+loop-holds c =
     let a = c .before .before .args in
     let f : ℕ → Bool = λ j. beforeIn (now (a .tables)) (now (a .names)) j (a .c) in
     (omega arith, omega arith, run-start (countFrom f 0) (a .n))
 
--- src/lib.rt:142:12
 before-requires : tie.Need-before-requires Inv-loop μ-loop
 before-requires c κs = search needs
 
--- src/lib.rt:143:13
 add-found : tie.Need-add-found Inv-loop μ-loop
 add-found c = search needs
 
--- src/lib.rt:145:9
 add-b : tie.Need-add-b Inv-loop μ-loop
 add-b c = search needs
 
--- src/lib.rt:141:5
 loop-less : tie.Need-loop-less Inv-loop μ-loop
 loop-less c = search needs
 
--- src/lib.rt:141:5
 loop-again : tie.Need-loop-again Inv-loop μ-loop
-loop-again c = 
+loop-again c =
     let a = c .before .before .before .before .before .before .args in
     let f : ℕ → Bool = λ j. beforeIn (now (a .tables)) (now (a .names)) j (a .c) in
     let lt = c .before .before .loop-test .taken in
@@ -58,10 +45,9 @@ loop-again c =
     ⊎-elim (λ w. (omega arith, omega arith, omega (arith, w .1, count-found f i (a .n) lt (sym (c .before .before2 .ensures) ∙ w .0 .taken))))
     (λ w. (omega arith, omega arith, omega (arith, w .1, count-missed f i (a .n) lt (sym (c .before .before2 .ensures) ∙ w .0 .left)))) (c .if1 .came)
 
--- src/lib.rt:135:1
 returns : tie.Need-returns Inv-loop μ-loop
 unfolding rankIn
-returns c = 
+returns c =
     let a = c .before .before .before .before .args in
     let f : ℕ → Bool = λ j. beforeIn (now (a .tables)) (now (a .names)) j (a .c) in
     let inv = c .before .loop .inv in

@@ -1,19 +1,13 @@
 use borrow.Author.Needs.{needs}
-use Prim.Native.Nat.{ℕ, _+_, _-_, _≤_}
-use mathlib.Core.Path.{_≡_, refl, sym, ap, _∙_}
+use Prim.Native.Nat.{_-_, _≤_}
+use mathlib.Core.Path.{_≡_, refl, ap, _∙_}
 use native.Mathlib.Omega.{arith}
-use native.Mathlib.Nat.{sub-zero}
 use denote.Ref.{now}
-use lib.Dec.{ltb, eqb}
-use lib.ListN.{getD}
 use Rattle.identities.specs.Places.{filled}
 use Rattle.identities.specs.Identities.{rankIn}
-use Rattle.identities.proofs.PlaceLaws.{filled-length, filled-more}
+use Rattle.identities.proofs.PlaceLaws.{filled-more}
 use Rattle.identities.proofs.ranks.Statement.{statement}
 use Rattle.identities.proofs.ranks.Tie as tie
-use Rattle.identities.proofs.ranks.Reads as reads
-use Rattle.identities.proofs.ranks.Lts as lts
-use Rattle.identities.proofs.rank.Reads as rank-reads
 
 abbrev Inv-loop : tie.InvT-loop
 Inv-loop tables names n t₀ c₀ t c = (c ≤ n) × (t ≡ filled (rankIn tables names n) c)
@@ -21,37 +15,30 @@ Inv-loop tables names n t₀ c₀ t c = (c ≤ n) × (t ≡ filled (rankIn table
 abbrev μ-loop : tie.MeasureT-loop
 μ-loop tables names n t₀ c₀ t c = n - c
 
--- src/lib.rt:145:5
 loop-holds : tie.Need-loop-holds Inv-loop μ-loop
 unfolding filled
 loop-holds c = (omega arith, refl)
 
--- src/lib.rt:146:13
 rank-requires : tie.Need-rank-requires Inv-loop μ-loop
 rank-requires c κs = search needs
 
--- src/lib.rt:147:9
 array-write-t : tie.Need-array-write-t Inv-loop μ-loop
 array-write-t c = search needs
 
--- src/lib.rt:148:9
 add-c : tie.Need-add-c Inv-loop μ-loop
 add-c c = search needs
 
--- src/lib.rt:145:5
 loop-less : tie.Need-loop-less Inv-loop μ-loop
 loop-less c = search needs
 
--- src/lib.rt:145:5
 loop-again : tie.Need-loop-again Inv-loop μ-loop
-loop-again c = 
+loop-again c =
     let a = c .before .before .before .before .before .args in
     let f = rankIn (now (a .tables)) (now (a .names)) (a .n) in
     (omega arith, filled-more f (c .before .before .loop .t) (c .before .before .loop .c) (c .rank .result) (c .rank .ensures) (c .before .before .loop .inv .1))
 
--- src/lib.rt:139:1
 returns : tie.Need-returns Inv-loop μ-loop
-returns c = 
+returns c =
     let a = c .before .before .before .before .args in
     let f = rankIn (now (a .tables)) (now (a .names)) (a .n) in
     let e : c .before .loop .c ≡ a .n = omega arith in c .before .loop .inv .1 ∙ ap (filled f) e

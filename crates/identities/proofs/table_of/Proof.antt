@@ -1,10 +1,9 @@
 use borrow.Author.Needs.{needs}
-use Prim.Native.Nat.{ℕ, _+_, _-_, _≤_}
-use mathlib.Core.Path.{_≡_, refl, sym, ap, _∙_}
+use Prim.Native.Nat.{ℕ, _-_, _≤_}
+use mathlib.Core.Path.{_≡_, sym, ap, _∙_}
 use native.Mathlib.Omega.{arith}
 use native.Mathlib.Nat.{sub-zero}
 use denote.Ref.{now}
-use lib.Dec.{ltb, eqb}
 use lib.ListN.{getD}
 use Rattle.plan_rules.specs.Rules.{scansOf}
 use Rattle.identities.specs.Places.{firstFrom}
@@ -12,10 +11,6 @@ use Rattle.identities.specs.Identities.{tableIn}
 use Rattle.identities.proofs.PlaceLaws.{first-found, first-missed, first-done}
 use Rattle.identities.proofs.table_of.Statement.{statement}
 use Rattle.identities.proofs.table_of.Tie as tie
-use Rattle.identities.proofs.table_of.Reads as reads
-use Rattle.identities.proofs.table_of.Lts as lts
-use Rattle.identities.proofs.scan_lists.Reads as scan-lists-reads
-use Rattle.lists.proofs.at16.Reads as at16-reads
 
 abbrev Inv-loop : tie.InvT-loop
 Inv-loop kind a b start items np c i₀ i = (i ≤ np) × (tableIn kind a b start items np c ≡ firstFrom (scansOf kind b start items c) (λ (j : ℕ). getD a j 0) 65536 i (np - i))
@@ -23,54 +18,45 @@ Inv-loop kind a b start items np c i₀ i = (i ≤ np) × (tableIn kind a b star
 abbrev μ-loop : tie.MeasureT-loop
 μ-loop kind a b start items np c i₀ i = np - i
 
--- src/lib.rt:78:5
 loop-holds : tie.Need-loop-holds Inv-loop μ-loop
 unfolding tableIn
-loop-holds c = 
+loop-holds c =
     let a = c .before .before .before .before .before .args in
     let f = scansOf (now (a .kind)) (now (a .b)) (now (a .start)) (now (a .items)) (a .c) in
     let g : ℕ → ℕ = λ j. getD (now (a .a)) j 0 in
     (omega arith, ap (firstFrom f g 65536 0) (sym (sub-zero (a .np))))
 
--- src/lib.rt:79:12
 scan-lists-requires : tie.Need-scan-lists-requires Inv-loop μ-loop
 scan-lists-requires c κs = search needs
 
--- src/lib.rt:80:20
 at16-requires : tie.Need-at16-requires Inv-loop μ-loop
 at16-requires c κs = search needs
 
--- src/lib.rt:80:20
 cast-result : tie.Need-cast-result Inv-loop μ-loop
 cast-result c = search needs
 
--- src/lib.rt:80:13
 returns : tie.Need-returns Inv-loop μ-loop
-returns c = 
+returns c =
     let a = c .before .before .before .before .before .before .before .before .before .before .args in
     let f = scansOf (now (a .kind)) (now (a .b)) (now (a .start)) (now (a .items)) (a .c) in
     let g : ℕ → ℕ = λ j. getD (now (a .a)) j 0 in
     c .at16 .ensures ∙ sym (c .before .before .before .before .loop .inv .1 ∙ first-found f g 65536 (c .before .before .before .before .loop .i) (a .np) (c .before .before .before .loop-test .taken) (sym (c .before .before .scan-lists .ensures) ∙ c .before .if1 .taken))
 
--- src/lib.rt:82:9
 add-i : tie.Need-add-i Inv-loop μ-loop
 add-i c = search needs
 
--- src/lib.rt:78:5
 loop-less : tie.Need-loop-less Inv-loop μ-loop
 loop-less c = search needs
 
--- src/lib.rt:78:5
 loop-again : tie.Need-loop-again Inv-loop μ-loop
-loop-again c = 
+loop-again c =
     let a = c .before .before .before .before .before .before .before .before .before .args in
     let f = scansOf (now (a .kind)) (now (a .b)) (now (a .start)) (now (a .items)) (a .c) in
     let g : ℕ → ℕ = λ j. getD (now (a .a)) j 0 in
     (omega arith, c .before .before .before .loop .inv .1 ∙ first-missed f g 65536 (c .before .before .before .loop .i) (a .np) (c .before .before .loop-test .taken) (sym (c .before .scan-lists .ensures) ∙ c .if1 .left))
 
--- src/lib.rt:66:1
 returns-2 : tie.Need-returns-2 Inv-loop μ-loop
-returns-2 c = 
+returns-2 c =
     let a = c .before .before .before .before .before .before .before .args in
     let f = scansOf (now (a .kind)) (now (a .b)) (now (a .start)) (now (a .items)) (a .c) in
     let g : ℕ → ℕ = λ j. getD (now (a .a)) j 0 in

@@ -1,19 +1,13 @@
 use borrow.Author.Needs.{needs}
-use Prim.Native.Nat.{ℕ, _+_, _-_, _≤_}
-use mathlib.Core.Path.{_≡_, refl, sym, ap, _∙_}
+use Prim.Native.Nat.{_-_, _≤_}
+use mathlib.Core.Path.{_≡_, refl, ap, _∙_}
 use native.Mathlib.Omega.{arith}
-use native.Mathlib.Nat.{sub-zero}
 use denote.Ref.{now}
-use lib.Dec.{ltb, eqb}
-use lib.ListN.{getD}
 use Rattle.identities.specs.Places.{filled}
 use Rattle.identities.specs.Identities.{tableIn}
-use Rattle.identities.proofs.PlaceLaws.{filled-length, filled-more}
+use Rattle.identities.proofs.PlaceLaws.{filled-more}
 use Rattle.identities.proofs.tables.Statement.{statement}
 use Rattle.identities.proofs.tables.Tie as tie
-use Rattle.identities.proofs.tables.Reads as reads
-use Rattle.identities.proofs.tables.Lts as lts
-use Rattle.identities.proofs.table_of.Reads as table-of-reads
 
 abbrev Inv-loop : tie.InvT-loop
 Inv-loop kind a b start items np n t₀ c₀ t c = (c ≤ n) × (t ≡ filled (tableIn kind a b start items np) c)
@@ -21,45 +15,36 @@ Inv-loop kind a b start items np n t₀ c₀ t c = (c ≤ n) × (t ≡ filled (t
 abbrev μ-loop : tie.MeasureT-loop
 μ-loop kind a b start items np n t₀ c₀ t c = n - c
 
--- src/lib.rt:102:5
 loop-holds : tie.Need-loop-holds Inv-loop μ-loop
 unfolding filled
 loop-holds c = (omega arith, refl)
 
--- src/lib.rt:103:13
 table-of-requires : tie.Need-table-of-requires Inv-loop μ-loop
 table-of-requires c κs = search needs
 
--- src/lib.rt:104:17
 cast-i : tie.Need-cast-i Inv-loop μ-loop
 cast-i c = search needs
 
--- src/lib.rt:105:9
 mul-t : tie.Need-mul-t Inv-loop μ-loop
 mul-t c = search needs
 
--- src/lib.rt:105:9
 array-write-t : tie.Need-array-write-t Inv-loop μ-loop
 array-write-t c = search needs
 
--- src/lib.rt:106:9
 add-c : tie.Need-add-c Inv-loop μ-loop
 add-c c = search needs
 
--- src/lib.rt:102:5
 loop-less : tie.Need-loop-less Inv-loop μ-loop
 loop-less c = search needs
 
--- src/lib.rt:102:5
 loop-again : tie.Need-loop-again Inv-loop μ-loop
-loop-again c = 
+loop-again c =
     let a = c .before .before .before .before .before .before .before .before .args in
     let f = tableIn (now (a .kind)) (now (a .a)) (now (a .b)) (now (a .start)) (now (a .items)) (a .np) in
     (omega arith, filled-more f (c .before .before .loop .t) (c .before .before .loop .c) (c .table-of .result) (c .table-of .ensures) (c .before .before .loop .inv .1))
 
--- src/lib.rt:88:1
 returns : tie.Need-returns Inv-loop μ-loop
-returns c = 
+returns c =
     let a = c .before .before .before .before .before .before .before .args in
     let f = tableIn (now (a .kind)) (now (a .a)) (now (a .b)) (now (a .start)) (now (a .items)) (a .np) in
     let e : c .before .loop .c ≡ a .n = omega arith in c .before .loop .inv .1 ∙ ap (filled f) e

@@ -2,36 +2,25 @@ use Rattle.identities.proofs.Ways.{value-base, value-derived}
 use borrow.Author.Needs.{needs}
 use Rattle.identities.proofs.value_id.Statement.{statement}
 use Rattle.identities.proofs.value_id.Tie as tie
-use Rattle.identities.proofs.value_id.Reads as reads
-use Rattle.identities.proofs.value_id.Lts as lts
-use Rattle.identities.proofs.column_of.Reads as column-of-reads
-use Rattle.identities.proofs.size.Reads as size-reads
 
--- src/lib.rt:212:17
 size-requires : tie.Need-size-requires
 size-requires c κs = search needs
 
--- src/lib.rt:212:17
 cast-m : tie.Need-cast-m
 cast-m c = search needs
 
--- src/lib.rt:214:47
 slice-aggregate-column-of : tie.Need-slice-aggregate-column-of
 slice-aggregate-column-of c = search needs
 
--- src/lib.rt:214:37
 column-of-requires : tie.Need-column-of-requires
 column-of-requires c κs = search needs
 
--- src/lib.rt:214:9
 returns : tie.Need-returns
 returns c = value-base (c .before .before .before .before .before .args .ids) (c .before .before .before .before .before .args .n) _ _ (c .before .before .before .before .if1 .taken) (c .before .before .before .size .ensures) (c .column-of .ensures)
 
--- src/lib.rt:216:29
 cast-t12 : tie.Need-cast-t12
 cast-t12 c = search needs
 
--- src/lib.rt:208:1
 returns-2 : tie.Need-returns-2
 returns-2 c = value-derived (c .before .args .ids) (c .before .args .n) (c .if1 .left)
 
