@@ -7,7 +7,9 @@ use lib.Dec.{eqb}
 use lib.ListN.{getD}
 use Rattle.lists.specs.Ranges.{allFrom, anyFrom, countFrom}
 use Rattle.plan.specs.declared.Plan.{Plan}
-use Rattle.plan_rules.specs.Rules.{scansOf}
+use Rattle.plan_rules.specs.Rules.{recordOk, itemOk, listsOk, exprOkOf, operatorOkOf, scansOf, countsWithin, planOk}
+use Rattle.kinds.specs.Rows.{lineOf, rowOf}
+use Rattle.kinds.specs.Records.{bitsOk, handleOk, countOf, moreOf}
 use Rattle.identities.specs.declared.ValueId.the-variants.{Base, Derived}
 use Rattle.identities.specs.Places.{firstFrom}
 use Rattle.identities.specs.Identities.{tableIn, tableOf, byKey, baseOf, numberBy, valueBy, numberOf, valueIdOf}
@@ -32,6 +34,11 @@ sample =
           };
       items = record { count = 7; a = 0 ∷ 1 ∷ 2 ∷ 3 ∷ 4 ∷ 3 ∷ 5 ∷ []; b = [] };
     }
+
+-- it keeps the rules of a plan
+rules-kept : planOk sample ≡ true
+unfolding planOk countsWithin allFrom anyFrom countFrom exprOkOf operatorOkOf recordOk listsOk itemOk scansOf bitsOk handleOk countOf moreOf rowOf lineOf
+rules-kept = refl
 
 -- the tables: a column that no Scan lists is past every table
 tables : allFrom (λ (c : ℕ). eqb (tableOf sample c) (getD (7 ∷ 7 ∷ 7 ∷ 2 ∷ 65536 ∷ 7 ∷ []) c 0)) 0 6 ≡ true

@@ -36,8 +36,12 @@ table-of-none p c h =
 -- Derived numbers go by column
 pub derived-order : (c d : ℕ) → ltb c d ≡ ltb (derivedOf c) (derivedOf d)
 derived-order c d =
-    by-test (ltb c d) (λ e. e ∙ sym (lt-ltb (64 + c) (64 + d) (omega (arith, ltb-true c d e))))
-    (λ e. e ∙ sym (le-ltb (64 + c) (64 + d) (omega (arith, ltb-false c d e))))
+    by-test (ltb c d) (λ e. e ∙ sym (lt-ltb (derivedOf c) (derivedOf d) (omega (arith, ltb-true c d e))))
+    (λ e. e ∙ sym (le-ltb (derivedOf c) (derivedOf d) (omega (arith, ltb-false c d e))))
+
+-- the columns of a plan whose counts are within the sizes are all of its columns
+pub columns-all : (p : Plan) → p .columns .count ≤ 64 → columnsOf p ≡ p .columns .count
+columns-all p h = omega arith
 
 module _ (p : Plan) where
   -- ---- Base: by table, then name, then column number

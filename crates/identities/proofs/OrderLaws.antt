@@ -64,4 +64,4 @@ module _ (key : ℕ → ℕ) (rest : ℕ → ℕ → Bool) where
 
 -- the order of a plan's columns
 pub columns-ordered : (p : Plan) → Strict (before p)
-columns-ordered p = keyed (tableOf p) (byKey (nameOf p) ltb) (keyed (nameOf p) ltb numbers)
+columns-ordered p = keyed _ _ (keyed _ _ numbers)
