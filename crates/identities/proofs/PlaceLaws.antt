@@ -35,11 +35,13 @@ module _ (f : ℕ → Bool) (g : ℕ → ℕ) (d : ℕ) where
   unfolding firstFrom
   first-step i e lt = rw (left-one i e lt, add-one)
 
-  pub first-found : (i e : ℕ) → i < e → f i ≡ true → firstFrom f g d i (e - i) ≡ g i
-  first-found i e lt q = rw (first-step i e lt, q)
+  -- t is what the code's test said
+  pub first-found : (i e : ℕ) (t : Bool) → i < e → t ≡ f i → t ≡ true → firstFrom f g d i (e - i) ≡ g i
+  first-found i e t lt p q = rw (first-step i e lt, ← p, q)
 
-  pub first-missed : (i e : ℕ) → i < e → f i ≡ false → firstFrom f g d i (e - i) ≡ firstFrom f g d (i + 1) (e - (i + 1))
-  first-missed i e lt q = rw (first-step i e lt, q)
+  pub first-missed :
+      (i e : ℕ) (t : Bool) → i < e → t ≡ f i → t ≡ false → firstFrom f g d i (e - i) ≡ firstFrom f g d (i + 1) (e - (i + 1))
+  first-missed i e t lt p q = rw (first-step i e lt, ← p, q)
 
   pub first-done : (i e : ℕ) → e ≤ i → firstFrom f g d i (e - i) ≡ d
   unfolding firstFrom

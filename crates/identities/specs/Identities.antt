@@ -7,7 +7,6 @@ use lib.Dec.{ltb, eqb}
 use lib.ListN.{getD}
 use Rattle.lists.specs.Ranges.{countFrom}
 use Rattle.plan.specs.declared.Plan.{Plan}
-use Rattle.plan.specs.declared.Column.{Column}
 use Rattle.plan_rules.specs.Rules.{scansOf}
 use Rattle.identities.specs.Places.{firstFrom, filled}
 use Rattle.identities.specs.declared.ValueId.{ValueId}
@@ -45,6 +44,18 @@ sizeOf n = min n 64
 abbrev pub columnsOf : Plan → ℕ
 columnsOf p = sizeOf (p .columns .count)
 
+-- "Base before Derived; Base by table, then name, then column number; Derived by column": the first identity is the smaller
+unfoldable pub smaller : Plan → ValueId → ValueId → Bool
+smaller p (Base a) (Base b) = before p (a .0) (b .0)
+smaller p (Base a) (Derived b) = true
+smaller p (Derived a) (Base b) = false
+smaller p (Derived a) (Derived b) = ltb (a .0) (b .0)
+
+-- an identity that a value of the plan can have: Base of one of its columns, or Derived of any of 64
+unfoldable pub ofPlan : Plan → ValueId → Bool
+ofPlan p (Base c) = ltb (c .0) (columnsOf p)
+ofPlan p (Derived c) = ltb (c .0) 64
+
 -- the number of a Base identity: how many of the plan's columns come before its column
 unfoldable pub baseOf : Plan → ℕ → ℕ
 baseOf p c = countFrom (λ (b : ℕ). before p b c) 0 (columnsOf p)
@@ -81,21 +92,9 @@ numberIn ids v = numberBy (λ (c : ℕ). getD (ids .base) c 0) (sizeOf (ids .col
 abbrev pub valueIn : Identities → ℕ → ValueId
 valueIn ids k = valueBy (λ (c : ℕ). getD (ids .base) c 0) (sizeOf (ids .columns)) k
 
--- the order and the rank of a column, from a table of tables and one of names
+-- what the code counts with: the order and the rank of a column, from a table of tables and one of names
 abbrev pub beforeIn : List ℕ → List ℕ → ℕ → ℕ → Bool
 beforeIn tables names a b = beforeBy (λ (c : ℕ). getD tables c 0) (λ (c : ℕ). getD names c 0) a b
 
 unfoldable pub rankIn : List ℕ → List ℕ → ℕ → ℕ → ℕ
 rankIn tables names n c = countFrom (λ (b : ℕ). beforeIn tables names b c) 0 n
-
--- "Base before Derived; Base by table, then name, then column number; Derived by column": the first identity is the smaller
-unfoldable pub smaller : Plan → ValueId → ValueId → Bool
-smaller p (Base a) (Base b) = before p (a .0) (b .0)
-smaller p (Base a) (Derived b) = true
-smaller p (Derived a) (Base b) = false
-smaller p (Derived a) (Derived b) = ltb (a .0) (b .0)
-
--- an identity that a value of the plan can have: Base of one of its columns, or Derived of any of 64
-unfoldable pub ofPlan : Plan → ValueId → Bool
-ofPlan p (Base c) = ltb (c .0) (columnsOf p)
-ofPlan p (Derived c) = ltb (c .0) 64

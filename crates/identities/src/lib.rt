@@ -2,11 +2,10 @@
 use plan::Column;
 use plan::Plan;
 ghost use mathlib.Core.Path.{_≡_};
-ghost use mathlib.Core.Bool.{cond};
 ghost use Prim.Native.Nat.{ℕ, _+_, _≤_};
 ghost use lib.Dec.{eqb};
 ghost use lib.ListN.{getD};
-ghost use Rattle.lists.specs.Ranges.{anyFrom, countFrom};
+ghost use Rattle.lists.specs.Ranges.{anyFrom};
 ghost use Rattle.plan_rules.specs.Rules.{scansOf};
 ghost use Rattle.identities.specs.Places.{firstFrom, filled};
 ghost use Rattle.identities.specs.Identities.{tableIn, beforeIn, rankIn, sizeOf, identitiesOf, numberIn, valueIn};

@@ -1,8 +1,8 @@
-use mathlib.Core.Bool.{Bool}
+use mathlib.Core.Bool.{Bool, true, false}
 use borrow.Author.Tests.{eq-eqb, ne-eqb}
 use borrow.Author.Needs.{needs}
 use Prim.Native.Nat.{ℕ, _-_, _≤_}
-use mathlib.Core.Path.{_≡_, sym, ap, _∙_}
+use mathlib.Core.Path.{_≡_, refl, sym, ap, _∙_}
 use native.Mathlib.Omega.{arith}
 use native.Mathlib.Nat.{sub-zero}
 use denote.Ref.{now}
@@ -37,7 +37,7 @@ returns c =
     let a = c .before .before .before .before .before .args in
     let f : ℕ → Bool = λ j. eqb (getD (now (a .base)) j 0) (a .number) in
     let g : ℕ → ℕ = λ j. j in
-    sym (c .before .before .before .loop .inv .1 ∙ first-found f g 0 (c .before .before .before .loop .c) (a .n) (c .before .before .loop-test .taken) (eq-eqb _ _ (sym (c .before .at8 .ensures) ∙ c .if1 .taken)))
+    sym (c .before .before .before .loop .inv .1 ∙ first-found f g 0 (c .before .before .before .loop .c) (a .n) true (c .before .before .loop-test .taken) (sym (eq-eqb _ _ (sym (c .before .at8 .ensures) ∙ c .if1 .taken))) refl)
 
 add-c : tie.Need-add-c Inv-loop μ-loop
 add-c c = search needs
@@ -50,7 +50,7 @@ loop-again c =
     let a = c .before .before .before .before .before .args in
     let f : ℕ → Bool = λ j. eqb (getD (now (a .base)) j 0) (a .number) in
     let g : ℕ → ℕ = λ j. j in
-    (omega arith, c .before .before .before .loop .inv .1 ∙ first-missed f g 0 (c .before .before .before .loop .c) (a .n) (c .before .before .loop-test .taken) (ne-eqb _ _ (λ e. c .if1 .left (c .before .at8 .ensures ∙ e))))
+    (omega arith, c .before .before .before .loop .inv .1 ∙ first-missed f g 0 (c .before .before .before .loop .c) (a .n) false (c .before .before .loop-test .taken) (sym (ne-eqb _ _ (λ e. c .if1 .left (c .before .at8 .ensures ∙ e)))) refl)
 
 returns-2 : tie.Need-returns-2 Inv-loop μ-loop
 returns-2 c =

@@ -40,7 +40,7 @@ returns c =
     let a = c .before .before .before .before .before .before .before .before .before .before .args in
     let f = scansOf (now (a .kind)) (now (a .b)) (now (a .start)) (now (a .items)) (a .c) in
     let g : ℕ → ℕ = λ j. getD (now (a .a)) j 0 in
-    c .at16 .ensures ∙ sym (c .before .before .before .before .loop .inv .1 ∙ first-found f g 65536 (c .before .before .before .before .loop .i) (a .np) (c .before .before .before .loop-test .taken) (sym (c .before .before .scan-lists .ensures) ∙ c .before .if1 .taken))
+    c .at16 .ensures ∙ sym (c .before .before .before .before .loop .inv .1 ∙ first-found f g 65536 (c .before .before .before .before .loop .i) (a .np) (c .before .before .scan-lists .result) (c .before .before .before .loop-test .taken) (c .before .before .scan-lists .ensures) (c .before .if1 .taken))
 
 add-i : tie.Need-add-i Inv-loop μ-loop
 add-i c = search needs
@@ -53,7 +53,7 @@ loop-again c =
     let a = c .before .before .before .before .before .before .before .before .before .args in
     let f = scansOf (now (a .kind)) (now (a .b)) (now (a .start)) (now (a .items)) (a .c) in
     let g : ℕ → ℕ = λ j. getD (now (a .a)) j 0 in
-    (omega arith, c .before .before .before .loop .inv .1 ∙ first-missed f g 65536 (c .before .before .before .loop .i) (a .np) (c .before .before .loop-test .taken) (sym (c .before .scan-lists .ensures) ∙ c .if1 .left))
+    (omega arith, c .before .before .before .loop .inv .1 ∙ first-missed f g 65536 (c .before .before .before .loop .i) (a .np) (c .before .scan-lists .result) (c .before .before .loop-test .taken) (c .before .scan-lists .ensures) (c .if1 .left))
 
 returns-2 : tie.Need-returns-2 Inv-loop μ-loop
 returns-2 c =
