@@ -2,10 +2,8 @@
 use plan::Column;
 use plan::Plan;
 ghost use mathlib.Core.Path.{_≡_};
-ghost use Prim.Native.Nat.{ℕ, _+_, _≤_};
-ghost use lib.Dec.{eqb};
+ghost use Prim.Native.Nat.{ℕ};
 ghost use lib.ListN.{getD};
-ghost use Rattle.lists.specs.Ranges.{anyFrom};
 ghost use Rattle.plan_rules.specs.Rules.{scansOf};
 ghost use Rattle.identities.specs.Places.{firstFrom, filled};
 ghost use Rattle.identities.specs.Identities.{tableIn, beforeIn, rankIn, sizeOf, identitiesOf, numberIn, valueIn};
@@ -23,44 +21,6 @@ pub struct Identities {
     pub columns: usize,
 }
 
-// Whether column c is among the n items from `from` on.
-fn lists_column(items: &[u16], c: u16, from: usize, n: usize) -> bool
-    requires { ⌜ from + n ≤ 1000000 ⌝ }
-    ensures { λ r. ⌜ r ≡ anyFrom (λ (j : ℕ). eqb (getD (now (items .entry)) j 0) c) from n ⌝ }
-{
-    let end = from + n;
-    let mut j = from;
-    while j < end {
-        if lists::at16(items, j) == c {
-            return true;
-        }
-        j += 1;
-    }
-    false
-}
-
-// Whether operator i is a Scan that lists column c.
-fn scan_lists<'a>(
-    kind: &'a [u8],
-    b: &'a [u16],
-    start: &'a [u16],
-    items: &'a [u16],
-    c: u16,
-    i: usize,
-) -> bool
-    ensures { λ r. ⌜ r ≡ scansOf (now (kind .entry)) (now (b .entry)) (now (start .entry)) (now (items .entry)) c i ⌝ }
-{
-    if lists::at8(kind, i) == 0x30 {
-        return lists_column(
-            items,
-            c,
-            lists::at16(start, i) as usize,
-            lists::at16(b, i) as usize,
-        );
-    }
-    false
-}
-
 // The table of the first of the np operators that is a Scan of column c.
 fn table_of<'a>(
     kind: &'a [u8],
@@ -75,7 +35,7 @@ fn table_of<'a>(
 {
     let mut i: usize = 0;
     while i < np {
-        if scan_lists(kind, b, start, items, c, i) {
+        if plan_rules::scan_lists(kind, b, start, items, c, i) {
             return lists::at16(a, i) as u64;
         }
         i += 1;

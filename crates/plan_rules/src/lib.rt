@@ -221,7 +221,7 @@ fn lists_column(items: &[u16], c: u16, from: usize, n: usize) -> bool
 }
 
 // Whether operator i is a Scan that lists column c.
-fn scan_lists<'a>(
+pub fn scan_lists<'a>(
     kind: &'a [u8],
     b: &'a [u16],
     start: &'a [u16],
