@@ -2,7 +2,8 @@
 use plan::Column;
 use plan::Plan;
 ghost use mathlib.Core.Path.{_≡_};
-ghost use Prim.Native.Nat.{ℕ};
+ghost use Prim.Native.Nat.{ℕ, _≤_};
+ghost use lib.Dec.{eqb};
 ghost use lib.ListN.{getD};
 ghost use Rattle.plan_rules.specs.Rules.{scansOf};
 ghost use Rattle.identities.specs.Places.{firstFrom, filled};
