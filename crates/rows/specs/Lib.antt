@@ -1,4 +1,5 @@
 pub mod Compare
+pub mod InOrder
 pub mod Values
 pub mod Typing
 pub mod Cells

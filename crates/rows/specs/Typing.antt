@@ -1,7 +1,7 @@
 -- Typed expressions: what an operand of And, Or and Not must be, and no Negate. Assumes nothing.
 use mathlib.Core.Bool.{Bool, true, false, _&&_}
-use mathlib.Core.List.{List, [], _∷_, _++_}
-use Prim.Native.Nat.{ℕ, zero, suc}
+use mathlib.Core.List.{List}
+use Prim.Native.Nat.{ℕ, suc}
 use lib.ListN.{getD}
 use Rattle.truth.specs.Truth.{every}
 use Rattle.scalar.specs.Kinds.{kindOf, kindOfCode, sameKind}
@@ -13,6 +13,7 @@ use Rattle.plan_data.specs.declared.UnaryOp.{UnaryOp}
 use Rattle.plan_data.specs.declared.UnaryOp.the-variants.{Not, IsNull, IsNotNull, Negate}
 use Rattle.plan_data.specs.declared.ExprData.{ExprData}
 use Rattle.plan_data.specs.declared.ExprData.the-variants.{Literal, ColumnRef, Unary, Binary, Nary}
+use Rattle.rows.specs.InOrder.{inOrder}
 
 -- a node's kind is its literal's or its column's, else Boolean; the columns' kinds are codes
 abbrev pub kindOfNode : List ℕ → ExprData → Kind
@@ -51,14 +52,14 @@ nodeTyped typed boolean run (Nary op es) = every (wanted typed boolean) (run es)
 abbrev pub flagged : List Bool → ℕ → Bool
 flagged l e = getD l e false
 
-abbrev pub typingsMore : List ℕ → (ℕ → ExprData) → List ℕ → ExprData → List Bool → List Bool
-typingsMore columns node items e l = l ++ (nodeTyped (flagged l) (booleanAt columns node) (operandsOf items) e ∷ [])
+-- the node h is typed, by the flags of those before it
+abbrev pub typingNext : List ℕ → (ℕ → ExprData) → List ℕ → List Bool → ℕ → Bool
+typingNext columns node items l h = nodeTyped (flagged l) (booleanAt columns node) (operandsOf items) (node h)
 
 -- which of the first n expressions are typed
 unfoldable pub typings : List ℕ → (ℕ → ExprData) → List ℕ → ℕ → List Bool
-typings columns node items zero = []
-typings columns node items (suc n) = typingsMore columns node items (node n) (typings columns node items n)
+typings columns node items n = inOrder (typingNext columns node items) n
 
--- the expression h and all that it is made of is typed
+-- the expression h is typed, with all that it is made of
 abbrev pub typedAt : List ℕ → (ℕ → ExprData) → List ℕ → ℕ → Bool
 typedAt columns node items h = flagged (typings columns node items (suc h)) h

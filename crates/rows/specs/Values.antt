@@ -1,7 +1,7 @@
 -- The value of each expression on a row, in handle order. Assumes nothing.
 use mathlib.Core.Bool.{not}
-use mathlib.Core.List.{List, [], _∷_, _++_}
-use Prim.Native.Nat.{ℕ, zero, suc}
+use mathlib.Core.List.{List, [], _∷_}
+use Prim.Native.Nat.{ℕ, suc}
 use lib.ListN.{getD}
 use Rattle.truth.specs.Truth.{andT, orT, notT, allOf, anyOf}
 use Rattle.scalar.specs.Kinds.{isNull}
@@ -16,6 +16,7 @@ use Rattle.plan_data.specs.declared.NaryOp.{NaryOp}
 use Rattle.plan_data.specs.declared.NaryOp.the-variants.{And, Or}
 use Rattle.plan_data.specs.declared.ExprData.{ExprData}
 use Rattle.plan_data.specs.declared.ExprData.the-variants.{Literal, ColumnRef, Unary, Binary, Nary}
+use Rattle.rows.specs.InOrder.{inOrder}
 use Rattle.rows.specs.Compare.{compareOf, truthOf, ofTruth}
 
 -- a unary operation on the value of its operand; Negate is never asked for, since nothing that has one is typed
@@ -56,14 +57,13 @@ nodeValue cell value run (Nary op es) = ofTruth (naryOf op (truths value (run es
 abbrev pub valueIn : List ScalarValue → ℕ → ScalarValue
 valueIn vs h = getD vs h (S.Null K.Boolean)
 
--- one value more: that of the next node, over those before it
-abbrev pub valuesMore : (ℕ → ScalarValue) → List ℕ → ExprData → List ScalarValue → List ScalarValue
-valuesMore cell items e vs = vs ++ (nodeValue cell (valueIn vs) (operandsOf items) e ∷ [])
+-- the value of the node h over those before it
+abbrev pub valueNext : (ℕ → ScalarValue) → (ℕ → ExprData) → List ℕ → List ScalarValue → ℕ → ScalarValue
+valueNext cell node items vs h = nodeValue cell (valueIn vs) (operandsOf items) (node h)
 
 -- the values of the first n expressions
 unfoldable pub values : (ℕ → ScalarValue) → (ℕ → ExprData) → List ℕ → ℕ → List ScalarValue
-values cell node items zero = []
-values cell node items (suc n) = valuesMore cell items (node n) (values cell node items n)
+values cell node items n = inOrder (valueNext cell node items) n
 
 -- the value of the expression h
 abbrev pub valueAt : (ℕ → ScalarValue) → (ℕ → ExprData) → List ℕ → ℕ → ScalarValue

@@ -1,0 +1,4 @@
+pub mod PartLaws
+pub mod InOrderLaws
+pub mod ValueLaws
+pub mod TypingLaws
