@@ -2,3 +2,4 @@ pub mod PartLaws
 pub mod InOrderLaws
 pub mod ValueLaws
 pub mod TypingLaws
+pub mod AnswerLaws

@@ -48,12 +48,14 @@ module _ (columns : List ℕ) (node : ℕ → ExprData) (items : List ℕ) where
       now-typed =
           p ∙ ap (λ (g : ℕ → Bool). nodeTyped g (booleanAt columns node) (operandsOf items) (node i)) (fun-ext (f .each))
           ∙ sym (typing-step (i + 1) i (omega arith))
+
       older : (e : ℕ) → (e ≡ i → ⊥) → flagged (typings columns node items i) e ≡ flagged (typings columns node items (i + 1)) e
       older e ne = late (ltb e i) refl
         where
           late : (b : Bool) → ltb e i ≡ b → flagged (typings columns node items i) e ≡ flagged (typings columns node items (i + 1)) e
           late true q = typing-in i e (ltb-true e i q) ∙ sym (typing-in (i + 1) e (omega (arith, ltb-true e i q)))
           late false q = typing-past i e (ltb-false e i q) ∙ sym (typing-past (i + 1) e (omega (arith, ltb-false e i q, ne)))
+
       go : (e : ℕ) (b : Bool) → eqb e i ≡ b → getD (set flags i t) e false ≡ flagged (typings columns node items (i + 1)) e
       go e true q = let s : e ≡ i = eqb-true e i q in rw s (getD-set-same flags i t false (omega (arith, f .size)) ∙ now-typed)
       go e false q = getD-set-other flags i e t false (eqb-false e i q) ∙ f .each e ∙ older e (eqb-false e i q)

@@ -99,6 +99,6 @@ module _ (value : ℕ → ScalarValue) (items : List ℕ) (op : NaryOp) (at n : 
         record {
           code = rw pu (join-code op t x);
           whole =
-            g .whole
-            ∙ rw (part-more items j left p h, ← pe, ← pv, ← px, pu) (nary-more op t x (truths value (take (left - 1) (drop (j + 1) items))));
+              g .whole
+              ∙ rw (part-more items j left p h, ← pe, ← pv, ← px, pu) (nary-more op t x (truths value (take (left - 1) (drop (j + 1) items))));
         }

@@ -18,8 +18,8 @@ ghost use Rattle.plan_data.specs.Nodes.{nodeOf, operandsOf};
 ghost use Rattle.rows.specs.Compare.{known, compared, compareOf, truthOf, ofTruth};
 ghost use Rattle.rows.specs.Values.{unaryOf, noneOf, joinOf, naryOf, truths, valueIn, values};
 ghost use Rattle.rows.specs.Typing.{kindOfNode, booleanAt, unaryTyped, flagged, wanted, nodeTyped, typedAt};
-ghost use Rattle.rows.specs.Cells.{cellOf, cellOk, cellAtOk};
-ghost use Rattle.rows.specs.Evaluate.{evaluateOf};
+ghost use Rattle.rows.specs.Cells.{cellOf, cellOk, cellAtOk, rowOk};
+ghost use Rattle.rows.specs.Evaluate.{valueOn, typed, evaluateOf};
 
 // A value for every column, as the three numbers of a literal's record.
 pub struct Row {
@@ -521,42 +521,48 @@ fn cells_ok<'a>(
     true
 }
 
-// The value of an expression of a plan on a row; or NoSuch, Untyped or BadRow, tested in that order.
-pub fn evaluate(p: Plan, e: Expr, row: Row) -> Evaluation
-    ensures { λ r. ⌜ r ≡ evaluateOf p e row ⌝ }
+// Whether an expression of a plan is typed, and the whole Boolean.
+fn typed(p: Plan, e: Expr) -> bool
+    requires { ⌜ e .0 < 1024 ⌝ }
+    ensures { λ r. ⌜ r ≡ typed p (e .0) ⌝ }
 {
     let c = p.columns;
     let x = p.expressions;
     let t = p.items;
-    let n = x.count;
     let h = e.0 as usize;
-    let columns = c.count as usize;
-    if !plan_rules::plan_ok(p) {
-        return Evaluation::NoSuch;
+    if boolean_at(&x.kind, &x.code, &x.a, &x.b, &x.bits, &x.start, &c.kind, h) {
+        return typed_at(
+            &x.kind,
+            &x.code,
+            &x.a,
+            &x.b,
+            &x.bits,
+            &x.start,
+            &t.a,
+            &c.kind,
+            h,
+        );
     }
-    if n as usize <= h {
-        return Evaluation::NoSuch;
-    }
-    if !boolean_at(&x.kind, &x.code, &x.a, &x.b, &x.bits, &x.start, &c.kind, h) {
-        return Evaluation::Untyped;
-    }
-    if !typed_at(
-        &x.kind,
-        &x.code,
-        &x.a,
-        &x.b,
-        &x.bits,
-        &x.start,
-        &t.a,
-        &c.kind,
-        h,
-    ) {
-        return Evaluation::Untyped;
-    }
-    if !cells_ok(&c.kind, &row.case, &row.code, &row.bits, columns) {
-        return Evaluation::BadRow;
-    }
-    Evaluation::Value(value_of(
+    false
+}
+
+// Whether a row has a value for every column of a plan, used or not.
+pub fn row_ok(p: Plan, row: Row) -> bool
+    ensures { λ r. ⌜ r ≡ rowOk p row ⌝ }
+{
+    let c = p.columns;
+    let n = c.count as usize;
+    cells_ok(&c.kind, &row.case, &row.code, &row.bits, n)
+}
+
+// The value of an expression of a plan on a row.
+fn value_on(p: Plan, row: Row, e: Expr) -> ScalarValue
+    ensures { λ r. ⌜ r ≡ valueOn p row (e .0) ⌝ }
+{
+    let x = p.expressions;
+    let t = p.items;
+    let h = e.0 as usize;
+    value_of(
         &x.kind,
         &x.code,
         &x.a,
@@ -569,5 +575,26 @@ pub fn evaluate(p: Plan, e: Expr, row: Row) -> Evaluation
         &row.bits,
         h + 1,
         h,
-    ))
+    )
+}
+
+// The value of an expression of a plan on a row; or NoSuch, Untyped or BadRow, tested in that order.
+pub fn evaluate(p: Plan, e: Expr, row: Row) -> Evaluation
+    ensures { λ r. ⌜ r ≡ evaluateOf p e row ⌝ }
+{
+    let x = p.expressions;
+    let n = x.count;
+    if !plan_rules::plan_ok(p) {
+        return Evaluation::NoSuch;
+    }
+    if n <= e.0 {
+        return Evaluation::NoSuch;
+    }
+    if !typed(p, e) {
+        return Evaluation::Untyped;
+    }
+    if !row_ok(p, row) {
+        return Evaluation::BadRow;
+    }
+    Evaluation::Value(value_on(p, row, e))
 }

@@ -12,10 +12,6 @@ use lib.ListN.{take, drop}
 use mathlib.Core.Path.{_≡_, refl, sym, ap, _∙_}
 use Rattle.rows.proofs.all_wanted.Statement.{statement}
 use Rattle.rows.proofs.all_wanted.Tie as tie
-use Rattle.rows.proofs.all_wanted.Reads as reads
-use Rattle.rows.proofs.all_wanted.Lts as lts
-use Rattle.lists.proofs.at16.Reads as at16-reads
-use Rattle.rows.proofs.wanted.Reads as wanted-reads
 
 -- what is asked of each operand
 abbrev test : List ℕ → List ℕ → List ℕ → List ℕ → List ℕ → List ℕ → List ℕ → List Bool → ℕ → Bool

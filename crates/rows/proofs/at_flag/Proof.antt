@@ -4,8 +4,6 @@ use lib.ListN.{List·getD-eq-default}
 use borrow.Author.Needs.{needs}
 use Rattle.rows.proofs.at_flag.Statement.{statement}
 use Rattle.rows.proofs.at_flag.Tie as tie
-use Rattle.rows.proofs.at_flag.Reads as reads
-use Rattle.rows.proofs.at_flag.Lts as lts
 
 shared-slice-read-result : tie.Need-shared-slice-read-result
 shared-slice-read-result c = search needs

@@ -1,11 +1,6 @@
 use borrow.Author.Needs.{needs}
 use Rattle.rows.proofs.boolean_at.Statement.{statement}
 use Rattle.rows.proofs.boolean_at.Tie as tie
-use Rattle.rows.proofs.boolean_at.Reads as reads
-use Rattle.rows.proofs.boolean_at.Lts as lts
-use Rattle.plan_data.proofs.node_at.Reads as node-at-reads
-use Rattle.rows.proofs.kind_of_node.Reads as kind-of-node-reads
-use Rattle.scalar.proofs.same_kind.Reads as same-kind-reads
 
 node-at-requires : tie.Need-node-at-requires
 node-at-requires c κs = search needs

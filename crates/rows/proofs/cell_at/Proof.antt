@@ -1,11 +1,6 @@
 use borrow.Author.Needs.{needs}
 use Rattle.rows.proofs.cell_at.Statement.{statement}
 use Rattle.rows.proofs.cell_at.Tie as tie
-use Rattle.rows.proofs.cell_at.Reads as reads
-use Rattle.rows.proofs.cell_at.Lts as lts
-use Rattle.lists.proofs.at64.Reads as at64-reads
-use Rattle.lists.proofs.at8.Reads as at8-reads
-use Rattle.scalar.proofs.scalar_of.Reads as scalar-of-reads
 
 at8-requires : tie.Need-at8-requires
 at8-requires c κs = search needs

@@ -1,11 +1,6 @@
 use borrow.Author.Needs.{needs}
 use Rattle.rows.proofs.cell_at_ok.Statement.{statement}
 use Rattle.rows.proofs.cell_at_ok.Tie as tie
-use Rattle.rows.proofs.cell_at_ok.Reads as reads
-use Rattle.rows.proofs.cell_at_ok.Lts as lts
-use Rattle.lists.proofs.at64.Reads as at64-reads
-use Rattle.lists.proofs.at8.Reads as at8-reads
-use Rattle.rows.proofs.cell_ok.Reads as cell-ok-reads
 
 at8-requires : tie.Need-at8-requires
 at8-requires c κs = search needs

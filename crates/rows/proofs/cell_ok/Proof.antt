@@ -2,16 +2,6 @@ use Rattle.rows.specs.Cells.{cellOk, listedLiteral}
 use borrow.Author.Needs.{needs}
 use Rattle.rows.proofs.cell_ok.Statement.{statement}
 use Rattle.rows.proofs.cell_ok.Tie as tie
-use Rattle.rows.proofs.cell_ok.Reads as reads
-use Rattle.rows.proofs.cell_ok.Lts as lts
-use Rattle.kinds.proofs.bits_ok.Reads as bits-ok-reads
-use Rattle.kinds.proofs.code_ok.Reads as code-ok-reads
-use Rattle.kinds.proofs.row_of.Reads as row-of-reads
-use Rattle.scalar.proofs.is_null.Reads as is-null-reads
-use Rattle.scalar.proofs.kind_of.Reads as kind-of-reads
-use Rattle.scalar.proofs.kind_of_code.Reads as kind-of-code-reads
-use Rattle.scalar.proofs.same_kind.Reads as same-kind-reads
-use Rattle.scalar.proofs.scalar_of.Reads as scalar-of-reads
 
 row-of-requires : tie.Need-row-of-requires
 row-of-requires c κs = search needs

@@ -10,9 +10,6 @@ use Prim.Native.Nat.{_-_, _≤_}
 use mathlib.Core.Path.{_≡_, sym, ap, _∙_}
 use Rattle.rows.proofs.cells_ok.Statement.{statement}
 use Rattle.rows.proofs.cells_ok.Tie as tie
-use Rattle.rows.proofs.cells_ok.Reads as reads
-use Rattle.rows.proofs.cells_ok.Lts as lts
-use Rattle.rows.proofs.cell_at_ok.Reads as cell-at-ok-reads
 
 abbrev Inv-loop : tie.InvT-loop
 Inv-loop columns case code bits n i₀ i = (i ≤ n) × (allFrom (cellAtOk columns case code bits) 0 n ≡ allFrom (cellAtOk columns case code bits) i (n - i))

@@ -2,14 +2,6 @@ use Rattle.rows.specs.Compare.{compareOf}
 use borrow.Author.Needs.{needs}
 use Rattle.rows.proofs.compare.Statement.{statement}
 use Rattle.rows.proofs.compare.Tie as tie
-use Rattle.rows.proofs.compare.Reads as reads
-use Rattle.rows.proofs.compare.Lts as lts
-use Rattle.comparison.proofs.is_ordinary.Reads as is-ordinary-reads
-use Rattle.rows.proofs.compared.Reads as compared-reads
-use Rattle.rows.proofs.known.Reads as known-reads
-use Rattle.scalar.proofs.is_null.Reads as is-null-reads
-use Rattle.scalar.proofs.kind_of.Reads as kind-of-reads
-use Rattle.scalar.proofs.same_kind.Reads as same-kind-reads
 
 is-ordinary-requires : tie.Need-is-ordinary-requires
 is-ordinary-requires c κs = search needs

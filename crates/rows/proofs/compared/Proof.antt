@@ -1,10 +1,6 @@
 use borrow.Author.Needs.{needs}
 use Rattle.rows.proofs.compared.Statement.{statement}
 use Rattle.rows.proofs.compared.Tie as tie
-use Rattle.rows.proofs.compared.Reads as reads
-use Rattle.rows.proofs.compared.Lts as lts
-use Rattle.scalar.proofs.equal.Reads as equal-reads
-use Rattle.scalar.proofs.less.Reads as less-reads
 
 enum-told : tie.Need-enum-told
 enum-told c = search needs

@@ -1,10 +1,6 @@
 use borrow.Author.Needs.{needs}
 use Rattle.rows.proofs.join.Statement.{statement}
 use Rattle.rows.proofs.join.Tie as tie
-use Rattle.rows.proofs.join.Reads as reads
-use Rattle.rows.proofs.join.Lts as lts
-use Rattle.truth.proofs.and3.Reads as and3-reads
-use Rattle.truth.proofs.or3.Reads as or3-reads
 
 enum-told : tie.Need-enum-told
 enum-told c = search needs

@@ -1,11 +1,6 @@
 use borrow.Author.Needs.{needs}
 use Rattle.rows.proofs.kind_of_node.Statement.{statement}
 use Rattle.rows.proofs.kind_of_node.Tie as tie
-use Rattle.rows.proofs.kind_of_node.Reads as reads
-use Rattle.rows.proofs.kind_of_node.Lts as lts
-use Rattle.lists.proofs.at8.Reads as at8-reads
-use Rattle.scalar.proofs.kind_of.Reads as kind-of-reads
-use Rattle.scalar.proofs.kind_of_code.Reads as kind-of-code-reads
 
 enum-known-e : tie.Need-enum-known-e
 enum-known-e c = search needs

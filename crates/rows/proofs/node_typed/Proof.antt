@@ -1,13 +1,6 @@
 use borrow.Author.Needs.{needs}
 use Rattle.rows.proofs.node_typed.Statement.{statement}
 use Rattle.rows.proofs.node_typed.Tie as tie
-use Rattle.rows.proofs.node_typed.Reads as reads
-use Rattle.rows.proofs.node_typed.Lts as lts
-use Rattle.plan_data.proofs.node_at.Reads as node-at-reads
-use Rattle.rows.proofs.all_wanted.Reads as all-wanted-reads
-use Rattle.rows.proofs.at_flag.Reads as at-flag-reads
-use Rattle.rows.proofs.boolean_at.Reads as boolean-at-reads
-use Rattle.rows.proofs.unary_typed.Reads as unary-typed-reads
 
 node-at-requires : tie.Need-node-at-requires
 node-at-requires c κs = search needs

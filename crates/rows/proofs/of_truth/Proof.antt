@@ -1,8 +1,6 @@
 use borrow.Author.Tests.{ne-eqb}
 use Rattle.rows.proofs.of_truth.Statement.{statement}
 use Rattle.rows.proofs.of_truth.Tie as tie
-use Rattle.rows.proofs.of_truth.Reads as reads
-use Rattle.rows.proofs.of_truth.Lts as lts
 
 returns : tie.Need-returns
 returns c = rw (c .if1 .taken)

@@ -6,9 +6,6 @@ use Rattle.plan_data.specs.Nodes.{nodeOf}
 use Rattle.rows.proofs.TypingLaws.{Flags, flags-none, flags-more, flags-at}
 use Rattle.rows.proofs.typed_at.Statement.{statement}
 use Rattle.rows.proofs.typed_at.Tie as tie
-use Rattle.rows.proofs.typed_at.Reads as reads
-use Rattle.rows.proofs.typed_at.Lts as lts
-use Rattle.rows.proofs.node_typed.Reads as node-typed-reads
 
 abbrev Inv-loop : tie.InvT-loop
 Inv-loop kind code a b bits start items columns h flags₀ i₀ flags i = (i ≤ h + 1) × Flags columns (nodeOf kind code a b bits start) items flags i

@@ -1,12 +1,6 @@
 use borrow.Author.Needs.{needs}
 use Rattle.rows.proofs.unary.Statement.{statement}
 use Rattle.rows.proofs.unary.Tie as tie
-use Rattle.rows.proofs.unary.Reads as reads
-use Rattle.rows.proofs.unary.Lts as lts
-use Rattle.rows.proofs.of_truth.Reads as of-truth-reads
-use Rattle.rows.proofs.truth_of.Reads as truth-of-reads
-use Rattle.scalar.proofs.is_null.Reads as is-null-reads
-use Rattle.truth.proofs.not3.Reads as not3-reads
 
 enum-told : tie.Need-enum-told
 enum-told c = search needs

@@ -1,8 +1,6 @@
 use borrow.Author.Needs.{needs}
 use Rattle.rows.proofs.unary_typed.Statement.{statement}
 use Rattle.rows.proofs.unary_typed.Tie as tie
-use Rattle.rows.proofs.unary_typed.Reads as reads
-use Rattle.rows.proofs.unary_typed.Lts as lts
 
 enum-told : tie.Need-enum-told
 enum-told c = search needs

@@ -1,10 +1,6 @@
 use borrow.Author.Needs.{needs}
 use Rattle.rows.proofs.wanted.Statement.{statement}
 use Rattle.rows.proofs.wanted.Tie as tie
-use Rattle.rows.proofs.wanted.Reads as reads
-use Rattle.rows.proofs.wanted.Lts as lts
-use Rattle.rows.proofs.at_flag.Reads as at-flag-reads
-use Rattle.rows.proofs.boolean_at.Reads as boolean-at-reads
 
 at-flag-requires : tie.Need-at-flag-requires
 at-flag-requires c κs = search needs
