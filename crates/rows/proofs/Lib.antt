@@ -3,3 +3,5 @@ pub mod InOrderLaws
 pub mod ValueLaws
 pub mod TypingLaws
 pub mod AnswerLaws
+pub mod CompareLaws
+pub mod Cases
