@@ -1,0 +1,5 @@
+pub mod Compare
+pub mod Values
+pub mod Typing
+pub mod Cells
+pub mod Evaluate
