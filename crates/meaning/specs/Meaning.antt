@@ -1,0 +1,46 @@
+-- A row, when a predicate is TRUE of it, and when it meets facts. Assumes nothing.
+use mathlib.Core.Path.{_≡_}
+use mathlib.Core.List.{List, [], _∷_}
+use Prim.Native.Nat.{ℕ, _<_, _^_}
+use lib.Dec.{T}
+use lib.ListN.{getD}
+use Rattle.scalar.specs.Scalars.{Typed}
+use Rattle.scalar.specs.declared.ScalarValue.{ScalarValue}
+use Rattle.constraints.specs.Meets.{Meets}
+use Rattle.plan.specs.declared.Plan.{Plan}
+use Rattle.plan.specs.declared.Expr.{Expr}
+use Rattle.plan_data.specs.Nodes.{nodeAt}
+use Rattle.plan_data.specs.declared.ExprData.{ExprData}
+use Rattle.predicates.specs.Facts.{hasLineage, identityOf}
+use Rattle.predicates.specs.Entries.{applyPredicate}
+use Rattle.predicates.specs.declared.LogicalFacts.{LogicalFacts}
+use Rattle.predicates.specs.declared.Outcome.{Outcome}
+use Rattle.predicates.specs.declared.Outcome.the-variants.{Accepted}
+use Rattle.rows.specs.Compare.{truthOf}
+use Rattle.rows.specs.Values.{valueAt}
+
+-- a row gives a value to every column and every identity
+pub record WholeRow : Type 0 where
+  pub cols : ℕ → ScalarValue
+  pub ids : ℕ → ScalarValue
+
+-- it is consistent with a lineage where each column there has its identity's value; an Int32 holds 32 bits, and so on
+pub record Consistent (lineage : List ℕ) (row : WholeRow) : Type 0 where
+  pub typed : (i : ℕ) → Typed (row .ids i)
+  pub same : (c : ℕ) → T (hasLineage lineage c) → row .cols c ≡ row .ids (identityOf lineage c)
+
+-- the expression h is TRUE of a row (2 is the code of TRUE)
+abbrev pub OnNodes : (ℕ → ExprData) → List ℕ → WholeRow → ℕ → Type 0
+OnNodes node items row h = truthOf (valueAt (row .cols) node items h) ≡ 2
+
+abbrev pub On : Plan → WholeRow → ℕ → Type 0
+On p row h = OnNodes (nodeAt p) (p .items .a) row h
+
+-- a row meets facts
+abbrev pub MeetsFacts : Plan → WholeRow → LogicalFacts → Type 0
+MeetsFacts p row f = Meets (On p row) (row .ids) (f .constraints)
+
+-- each member of a list has a property
+pub AllOf : {A : Type 0} → (A → Type 0) → List A → Type 0
+AllOf P [] = Unit {0}
+AllOf P (x ∷ l) = P x × AllOf P l
