@@ -41,6 +41,6 @@ abbrev pub MeetsFacts : Plan → WholeRow → LogicalFacts → Type 0
 MeetsFacts p row f = Meets (On p row) (row .ids) (f .constraints)
 
 -- each member of a list has a property
-pub AllOf : {A : Type 0} → (A → Type 0) → List A → Type 0
+abbrev pub AllOf : {A : Type 0} → (A → Type 0) → List A → Type 0
 AllOf P [] = Unit {0}
 AllOf P (x ∷ l) = P x × AllOf P l
