@@ -4,3 +4,4 @@ pub mod Readings
 pub mod Conjunctions
 pub mod Comparisons
 pub mod Applying
+pub mod PlanNodes

@@ -44,3 +44,7 @@ MeetsFacts p row f = Meets (On p row) (row .ids) (f .constraints)
 abbrev pub AllOf : {A : Type 0} → (A → Type 0) → List A → Type 0
 AllOf P [] = Unit {0}
 AllOf P (x ∷ l) = P x × AllOf P l
+
+-- payloads are numbers of 64 bits, as the type of a plan's table says
+abbrev pub Wide : Plan → Type 0
+Wide p = (h : ℕ) → getD (p .expressions .bits) h 0 < 2 ^ 64
