@@ -5,3 +5,5 @@ pub mod Conjunctions
 pub mod Comparisons
 pub mod Applying
 pub mod PlanNodes
+pub mod Predicates
+pub mod Answers

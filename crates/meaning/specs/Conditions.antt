@@ -1,20 +1,29 @@
 -- What is asked of a plan and of a row where facts say all that a predicate says. Nothing of this is asked where they say no more than it. Assumes nothing.
 use mathlib.Core.Path.{_≡_}
-use mathlib.Core.Bool.{Bool, not, _||_}
+use mathlib.Core.Bool.{Bool, true, false, not, _||_}
 use mathlib.Core.List.{List}
-use Prim.Native.Nat.{ℕ}
+use Prim.Native.Nat.{ℕ, _<_}
 use lib.Dec.{T}
-use Rattle.scalar.specs.Kinds.{kindOf, isNull, sameKind}
+use lib.ListN.{getD}
+use Rattle.scalar.specs.Kinds.{kindOf, isNull, sameKind, kindOfCode}
 use Rattle.scalar.specs.declared.Kind.{Kind}
+use Rattle.scalar.specs.declared.Kind.the-variants as K
 use Rattle.scalar.specs.declared.ScalarValue.{ScalarValue}
 use Rattle.comparison.specs.Operators.{bounding}
 use Rattle.comparison.specs.declared.BinaryOp.{BinaryOp}
 use Rattle.constraints.specs.Values.{isNaN}
+use Rattle.plan.specs.declared.Plan.{Plan}
+use Rattle.plan.specs.declared.Expr.{Expr}
+use Rattle.plan_data.specs.Nodes.{nodeAt}
 use Rattle.plan_data.specs.declared.ExprData.{ExprData}
 use Rattle.plan_data.specs.declared.ExprData.the-variants.{Literal, ColumnRef, Unary, Binary, Nary}
+use Rattle.predicates.specs.Facts.{hasLineage, identityOf}
+use Rattle.predicates.specs.Conjuncts.{conjunctsOf}
 use Rattle.predicates.specs.Apply.{seenOf}
 use Rattle.predicates.specs.declared.Seen.{Seen}
 use Rattle.predicates.specs.declared.Seen.the-variants.{Identity, Constant, Unseen}
+use Rattle.rows.specs.Typing.{kindAt}
+use Rattle.meaning.specs.Meaning.{AllOf}
 
 -- ---- of one row: no NaN is compared with itself, and a value that is bounded by a literal is NULL or of the literal's kind
 abbrev pub OneKind : ScalarValue → BinaryOp → ScalarValue → Type 0
@@ -38,6 +47,10 @@ ExactNode v lineage node (Unary op e) = Unit {0}
 ExactNode v lineage node (Binary op l r) = ExactSeen v op (seenOf lineage (node (l .0))) (seenOf lineage (node (r .0)))
 ExactNode v lineage node (Nary op es) = Unit {0}
 
+-- the same of each conjunct of a predicate
+abbrev pub ExactPredicate : Plan → List ℕ → (ℕ → ScalarValue) → ℕ → Type 0
+ExactPredicate p lineage v e = AllOf (λ (h : ℕ). ExactNode v lineage (nodeAt p) (nodeAt p h)) (conjunctsOf (nodeAt p) (p .items .a) e)
+
 -- ---- of a plan and all its rows: every identity has a kind
 -- NULL, or of the kind
 abbrev pub ofKind : Kind → ScalarValue → Bool
@@ -48,21 +61,23 @@ pub record Kinded (kinds : ℕ → Kind) (v : ℕ → ScalarValue) : Type 0 wher
   pub of : (i : ℕ) → T (ofKind (kinds i) (v i))
   pub number : (i : ℕ) → T (not (isNaN (v i)))
 
--- a comparison that bounds an identity by a literal has one kind on both sides
-abbrev pub PlainSeen : (ℕ → Kind) → BinaryOp → Seen → Seen → Type 0
-PlainSeen kinds op (Identity i) (Identity j) = Unit {0}
-PlainSeen kinds op (Identity i) (Constant l) = T (bounding op) → T (ofKind (kinds i) l)
-PlainSeen kinds op (Identity i) Unseen = Unit {0}
-PlainSeen kinds op (Constant l) (Identity j) = T (bounding op) → T (ofKind (kinds j) l)
-PlainSeen kinds op (Constant l) (Constant m) = Unit {0}
-PlainSeen kinds op (Constant l) Unseen = Unit {0}
-PlainSeen kinds op Unseen (Identity j) = Unit {0}
-PlainSeen kinds op Unseen (Constant m) = Unit {0}
-PlainSeen kinds op Unseen Unseen = Unit {0}
+-- a comparison has one kind on both sides
+abbrev pub OneKinded : List ℕ → (ℕ → ExprData) → ExprData → Type 0
+OneKinded columns node (Literal l) = Unit {0}
+OneKinded columns node (ColumnRef c) = Unit {0}
+OneKinded columns node (Unary op e) = Unit {0}
+OneKinded columns node (Binary op l r) = T (sameKind (kindAt columns node (l .0)) (kindAt columns node (r .0)))
+OneKinded columns node (Nary op es) = Unit {0}
 
-abbrev pub PlainNode : (ℕ → Kind) → List ℕ → (ℕ → ExprData) → ExprData → Type 0
-PlainNode kinds lineage node (Literal l) = Unit {0}
-PlainNode kinds lineage node (ColumnRef c) = Unit {0}
-PlainNode kinds lineage node (Unary op e) = Unit {0}
-PlainNode kinds lineage node (Binary op l r) = PlainSeen kinds op (seenOf lineage (node (l .0))) (seenOf lineage (node (r .0)))
-PlainNode kinds lineage node (Nary op es) = Unit {0}
+-- each column with lineage is of its identity's kind, and each comparison of the plan has one kind on both sides
+pub record OneKindPlan (p : Plan) (lineage : List ℕ) (kinds : ℕ → Kind) : Type 0 where
+  pub columns : (c : ℕ) → T (hasLineage lineage c) → T (sameKind (kindOfCode (getD (p .columns .kind) c 0)) (kinds (identityOf lineage c)))
+  pub comparisons : (h : ℕ) → h < p .expressions .count → OneKinded (p .columns .kind) (nodeAt p) (nodeAt p h)
+
+-- ---- the two kinds for which nothing is asked of the values but that they are of their kinds
+abbrev pub intOrBoolean : Kind → Bool
+intOrBoolean K.Boolean = true
+intOrBoolean K.Int32 = true
+intOrBoolean K.Int64 = false
+intOrBoolean K.Float64 = false
+intOrBoolean K.Date32 = false

@@ -3,10 +3,11 @@ use mathlib.Core.Path.{_≡_}
 use mathlib.Core.List.{List, [], _∷_}
 use Prim.Native.Nat.{ℕ, _<_, _^_}
 use lib.Dec.{T}
-use lib.ListN.{getD}
+use lib.ListN.{getD, length}
 use Rattle.scalar.specs.Scalars.{Typed}
 use Rattle.scalar.specs.declared.ScalarValue.{ScalarValue}
-use Rattle.constraints.specs.Meets.{Meets}
+use Rattle.constraints.specs.Sets.{emptySet}
+use Rattle.constraints.specs.Meets.{Meets, Good}
 use Rattle.plan.specs.declared.Plan.{Plan}
 use Rattle.plan.specs.declared.Expr.{Expr}
 use Rattle.plan_data.specs.Nodes.{nodeAt}
@@ -48,3 +49,21 @@ AllOf P (x ∷ l) = P x × AllOf P l
 -- payloads are numbers of 64 bits, as the type of a plan's table says
 abbrev pub Wide : Plan → Type 0
 Wide p = (h : ℕ) → getD (p .expressions .bits) h 0 < 2 ^ 64
+
+-- facts as the operations make them: a lineage with an entry for each of the 64 columns, and a set that the operations made
+pub record GoodFacts (f : LogicalFacts) : Type 0 where
+  pub long : length (f .lineage) ≡ 64
+  pub set : Good (f .constraints)
+
+-- facts with nothing recorded
+abbrev pub freshFacts : List ℕ → List ℕ → LogicalFacts
+freshFacts lineage definitions = record { lineage = lineage; definitions = definitions; constraints = emptySet }
+
+-- predicates applied to f one after the other, each of them accepted, give g
+abbrev pub AcceptedAll : Plan → LogicalFacts → List Expr → LogicalFacts → Type 0
+AcceptedAll p f [] g = f ≡ g
+AcceptedAll p f (e ∷ es) g = (applyPredicate p f e .outcome ≡ Accepted) × AcceptedAll p (applyPredicate p f e .facts) es g
+
+-- each of them is TRUE of a row
+abbrev pub AllOn : Plan → WholeRow → List Expr → Type 0
+AllOn p row es = AllOf (λ (e : Expr). On p row (e .0)) es
