@@ -7,3 +7,5 @@ pub mod Applying
 pub mod PlanNodes
 pub mod Predicates
 pub mod Answers
+pub mod Plain
+pub mod Merging
