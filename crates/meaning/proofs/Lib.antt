@@ -9,3 +9,4 @@ pub mod Predicates
 pub mod Answers
 pub mod Plain
 pub mod Merging
+pub mod Examples
