@@ -12,17 +12,18 @@ use lib.Ieee.Bits.{is-true}
 use borrow.Author.Tests.{ltb-true, leb-true, eqb-true}
 use Rattle.lists.specs.Ranges.{allFrom}
 use Rattle.lists.proofs.RangeLaws.{and-left, and-right, all-at}
-use Rattle.constraints.specs.Sets.{emptySet}
-use Rattle.constraints.specs.Meets.{Meets, Good}
+use Rattle.constraints.specs.Sets.{emptySet, entryAt, setOk}
+use Rattle.constraints.specs.Meets.{Meets, Good, SoundEntry}
 use Rattle.constraints.specs.declared.ConstraintSet.{ConstraintSet}
 use Rattle.constraints.specs.declared.Applied.{Applied}
 use Rattle.constraints.proofs.Empty.{empty-good, empty-meets}
 use Rattle.constraints.proofs.Operations.{no-row}
+use Rattle.constraints.proofs.Rules.{Shaped, ok-good}
 use Rattle.plan.specs.declared.Plan.{Plan}
 use Rattle.plan.specs.declared.Expr.{Expr}
 use Rattle.plan_rules.specs.Rules.{planOk, countsWithin}
 use Rattle.plan_rules.proofs.RuleLaws.{Rules, rules}
-use Rattle.predicates.specs.Facts.{refusalOf, withConstraints, hasLineage, identityOf, lineageOk, factsOk}
+use Rattle.predicates.specs.Facts.{refusalOf, withConstraints, hasLineage, identityOf, lineageOk, definitionOk, factsOk}
 use Rattle.predicates.specs.Entries.{answered, refused, accepted, predicateApplied, applyPredicate}
 use Rattle.predicates.specs.declared.LogicalFacts.{LogicalFacts}
 use Rattle.predicates.specs.declared.FactsAnswer.{FactsAnswer}
@@ -48,9 +49,6 @@ pub apply-parts : (p : Plan) (f : LogicalFacts) (e : Expr) → applyPredicate p 
 unfolding applyPredicate
 apply-parts p f e = go (planOk p && (ltb (e .0) (p .expressions .count) && factsOk p f)) refl
   where
-    a : Applied
-    a = predicateApplied p (f .lineage) (f .constraints) (e .0)
-
     made : (r : Bool) → T (not r) → cond r (refused f Residuals) (accepted (withConstraints f (predicateApplied p (f .lineage) (f .constraints) (e .0) .constraints))) .facts ≡ withConstraints f (predicateApplied p (f .lineage) (f .constraints) (e .0) .constraints)
     made true t = absurd t
     made false t = refl
@@ -104,11 +102,20 @@ facts-within p f ok e long c t = elim (decLt c 64) [
   | no l ↦ absurd (T-not (eqb (getD (f .lineage) c 0) 0) t (subst (λ (k : ℕ). T (eqb k 0)) (sym (List·getD-eq-default (f .lineage) 0 (subst (λ (k : ℕ). k ≤ c) (sym long) (omega arith)))) tt))
 ]
 
+-- facts that pass the test, whose arrays have their lengths, whose literals hold values of their types and whose bounds are numbers, are good.
+-- Assumes nothing
+set-right : (p : Plan) (f : LogicalFacts) → factsOk p f ≡ true → setOk (f .constraints) ≡ true
+unfolding factsOk
+set-right p f e =
+    let u = and-right (allFrom (lineageOk (f .lineage) (p .columns .count)) 0 64) _ e in
+    and-left (setOk (f .constraints)) _ (and-right (allFrom (definitionOk (f .definitions) (p .columns .count) (p .expressions .count)) 0 64) _ u)
+
+pub facts-good : (p : Plan) (f : LogicalFacts) → factsOk p f ≡ true → length (f .lineage) ≡ 64 → Shaped (f .constraints)
+    → ((i : ℕ) → i < 128 → SoundEntry (entryAt (f .constraints) i)) → GoodFacts f
+facts-good p f e long shaped sound = record { long = long; set = ok-good (f .constraints) (set-right p f e) shaped sound }
+
 -- ---- one predicate
 module _ (p : Plan) (wide : Wide p) (f : LogicalFacts) (good : GoodFacts f) (e : Expr) (yes-said : applyPredicate p f e .outcome ≡ Accepted) where
-  abbrev g : LogicalFacts
-  g = applyPredicate p f e .facts
-
   parts : Parts p f e
   parts = apply-parts p f e yes-said
 
@@ -167,7 +174,6 @@ module _ (p : Plan) (wide : Wide p) (row : WholeRow) where
   pub reached : (es : List Expr) (f g : LogicalFacts) → GoodFacts f → Consistent (f .lineage) row → AcceptedAll p f es g → Reached f g es
   reached [] f g k c q = reached-self f g k q
   reached (e ∷ es) f g k c q =
-      let h = applyPredicate p f e .facts in
       let same = apply-lineage p wide f k e (q .0) in
       let r = reached es (applyPredicate p f e .facts) g (apply-good p wide f k e (q .0)) (subst (λ (l : List ℕ). Consistent l row) (sym same) c) (q .1) in
       record {
@@ -182,17 +188,17 @@ module _ (p : Plan) (wide : Wide p) (row : WholeRow) where
       }
 
 -- ---- from fresh facts
-fresh-good : (lineage definitions : List ℕ) → length lineage ≡ 64 → GoodFacts (freshFacts lineage definitions)
+pub fresh-good : (lineage definitions : List ℕ) → length lineage ≡ 64 → GoodFacts (freshFacts lineage definitions)
 fresh-good lineage definitions long = record { long = long; set = empty-good }
 
 module _ (p : Plan) (wide : Wide p) (lineage definitions : List ℕ) (long : length lineage ≡ 64) (es : List Expr) (g : LogicalFacts)
     (q : AcceptedAll p (freshFacts lineage definitions) es g) (row : WholeRow) (c : Consistent lineage row) where
-  all : Reached p wide row (freshFacts lineage definitions) g es
-  all = reached p wide row es (freshFacts lineage definitions) g (fresh-good lineage definitions long) c q
+  pub all-reached : Reached p wide row (freshFacts lineage definitions) g es
+  all-reached = reached p wide row es (freshFacts lineage definitions) g (fresh-good lineage definitions long) c q
 
   -- every consistent row of which all of them are TRUE meets the facts, whatever the kinds. Assumes nothing else
   pub sequence-sound : AllOn p row es → MeetsFacts p row g
-  sequence-sound o = all .sound (empty-meets (On p row) (row .ids)) o
+  sequence-sound o = all-reached .sound (empty-meets (On p row) (row .ids)) o
 
   -- a set flag means that there is no such row. Assumes nothing else
   pub sequence-none : g .constraints .contradictory ≡ true → AllOn p row es → ⊥
@@ -200,4 +206,4 @@ module _ (p : Plan) (wide : Wide p) (lineage definitions : List ℕ) (long : len
 
   -- exactly those rows meet the facts. Assumes the conditions
   pub sequence-exact : ExactAll p wide row lineage es → MeetsFacts p row g ↔ AllOn p row es
-  sequence-exact x = (all .exact x, sequence-sound)
+  sequence-exact x = (all-reached .exact x, sequence-sound)

@@ -348,12 +348,6 @@ module _ (node : ℕ → ExprData) (items : List ℕ) (typed : (h : ℕ) → Typ
   run-step [] b a u = (u, λ g. step-none (a .constraints) (Unit {0}) g)
   run-step (h ∷ hs) b a u = go (a .refused) (λ t. t) (λ t. t) (run-step hs (b .1) a) (run-step hs (b .1) (conjunctApplied lineage node (a .constraints) h)) u
     where
-      apply : List ℕ → Applied → Applied
-      apply = allApplied (conjunctApplied lineage node)
-
-      next : Applied
-      next = conjunctApplied lineage node (a .constraints) h
-
       go : (x : Bool) → (T x → T (a .refused)) → (T (not x) → T (not (a .refused))) → Runs hs a → Runs hs (conjunctApplied lineage node (a .constraints) h)
           → T (not (allApplied (conjunctApplied lineage node) hs (cond x a (conjunctApplied lineage node (a .constraints) h)) .refused))
           → T (not (a .refused))

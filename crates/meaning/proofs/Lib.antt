@@ -10,3 +10,4 @@ pub mod Answers
 pub mod Plain
 pub mod Merging
 pub mod Examples
+pub mod Evaluations

@@ -22,7 +22,9 @@ use Rattle.predicates.specs.declared.LogicalFacts.{LogicalFacts}
 use Rattle.predicates.specs.declared.FactsAnswer.{FactsAnswer}
 use Rattle.predicates.specs.declared.Outcome.{Outcome}
 use Rattle.predicates.specs.declared.Outcome.the-variants.{Accepted, Residuals, NoSuch}
-use Rattle.meaning.specs.Meaning.{WholeRow, On, MeetsFacts, GoodFacts}
+use Rattle.plan.specs.declared.Expr.{Expr}
+use Rattle.meaning.specs.Meaning.{WholeRow, Consistent, On, MeetsFacts, Wide, GoodFacts, freshFacts, AcceptedAll, AllOn}
+use Rattle.meaning.proofs.Answers.{Reached, ExactAll, all-reached, sequence-sound, sequence-exact}
 
 other-outcome : {X : Type 0} (o : Outcome) → (refusalOf o ≡ 0 → ⊥) → o ≡ Accepted → X
 other-outcome o f e = absurd (f (ap refusalOf e))
@@ -121,3 +123,31 @@ pub keep-exact : (p : Plan) (f g : LogicalFacts) → mergeInputs p f g false .ou
 keep-exact p f g q row =
     let e = joined p f g false q .set in
     (subst (Meets (On p row) (row .ids)) e, subst (Meets (On p row) (row .ids)) (sym e))
+
+-- two runs of accepted predicates from fresh facts, merged: every row that is consistent with both lineages and of which all are TRUE meets the facts, and
+-- a set flag means that there is no such row. Assumes nothing else
+module _ (p : Plan) (wide : Wide p) (l m d e : List ℕ) (ll : length l ≡ 64) (ml : length m ≡ 64) (es ds : List Expr) (f g : LogicalFacts)
+    (a : AcceptedAll p (freshFacts l d) es f) (b : AcceptedAll p (freshFacts m e) ds g) (q : mergeInputs p f g true .outcome ≡ Accepted)
+    (row : WholeRow) (c : Consistent l row) (k : Consistent m row) where
+  left : Reached p wide row (freshFacts l d) f es
+  left = all-reached p wide l d ll es f a row c
+
+  right : Reached p wide row (freshFacts m e) g ds
+  right = all-reached p wide m e ml ds g b row k
+
+  pub merged-sound : AllOn p row es → AllOn p row ds → MeetsFacts p row (mergeInputs p f g true .facts)
+  merged-sound x y =
+      merge-exact p f g (left .good) (right .good) q row (c .typed) .1
+      (sequence-sound p wide l d ll es f a row c x, sequence-sound p wide m e ml ds g b row k y)
+
+  pub merged-none : mergeInputs p f g true .facts .constraints .contradictory ≡ true → AllOn p row es → AllOn p row ds → ⊥
+  merged-none t x y = no-row (On p row) (row .ids) (mergeInputs p f g true .facts .constraints) t (merged-sound x y)
+
+  -- and exactly those rows, under the conditions of exactness
+  pub merged-exact : ExactAll p wide row l es → ExactAll p wide row m ds → MeetsFacts p row (mergeInputs p f g true .facts) ↔ (AllOn p row es × AllOn p row ds)
+  merged-exact x y = (
+    λ n.
+        let i = merge-exact p f g (left .good) (right .good) q row (c .typed) .0 n in
+        (sequence-exact p wide l d ll es f a row c x .0 (i .0), sequence-exact p wide m e ml ds g b row k y .0 (i .1)),
+    λ n. merged-sound (n .0) (n .1),
+  )

@@ -16,7 +16,7 @@ use Rattle.predicates.specs.Facts.{hasLineage, identityOf}
 use Rattle.predicates.specs.Entries.{applyPredicate}
 use Rattle.predicates.specs.declared.LogicalFacts.{LogicalFacts}
 use Rattle.predicates.specs.declared.Outcome.{Outcome}
-use Rattle.predicates.specs.declared.Outcome.the-variants.{Accepted, Residuals}
+use Rattle.predicates.specs.declared.Outcome.the-variants.{Accepted}
 use Rattle.rows.specs.Compare.{truthOf}
 use Rattle.rows.specs.Values.{valueAt}
 
