@@ -63,14 +63,14 @@ abbrev comparison : Expr
 comparison = record { 0 = 2 }
 
 -- the column is the identity 0
-abbrev lineage : List ℕ
+abbrev pub lineage : List ℕ
 lineage = 1 ∷ replicate 63 0
 
-abbrev fresh : LogicalFacts
+abbrev pub fresh : LogicalFacts
 fresh = freshFacts lineage (replicate 64 0)
 
 -- the same value everywhere
-abbrev everywhere : ScalarValue → WholeRow
+abbrev pub everywhere : ScalarValue → WholeRow
 everywhere v = record { cols = λ c. v; ids = λ i. v }
 
 -- ---- x = x on a Float64 column

@@ -11,3 +11,4 @@ pub mod Plain
 pub mod Merging
 pub mod Examples
 pub mod Evaluations
+pub mod Between
