@@ -1,0 +1,1 @@
+// What facts say of rows. There is no code here: definitions stand in specs/, theorems in proofs/.
