@@ -6,32 +6,28 @@ use mathlib.Core.Logic.{_↔_}
 use Prim.Native.Nat.{ℕ, _+_, _-_, _<_, _≤_}
 use native.Mathlib.Decide.{decLt}
 use native.Mathlib.Omega.{arith}
-use lib.Dec.{T, T-not, not-T, ltb, leb, eqb}
+use lib.Dec.{T, T-not, ltb, leb, eqb}
 use lib.ListN.{getD, length, List·getD-eq-default}
-use lib.Ieee.Bits.{is-true}
-use borrow.Author.Tests.{ltb-true, leb-true, eqb-true}
+use borrow.Author.Tests.{ltb-true, leb-true}
 use Rattle.lists.specs.Ranges.{allFrom}
 use Rattle.lists.proofs.RangeLaws.{and-left, and-right, all-at}
-use Rattle.constraints.specs.Sets.{emptySet, entryAt, setOk}
-use Rattle.constraints.specs.Meets.{Meets, Good, SoundEntry}
-use Rattle.constraints.specs.declared.ConstraintSet.{ConstraintSet}
-use Rattle.constraints.specs.declared.Applied.{Applied}
+use Rattle.constraints.specs.Sets.{entryAt, setOk}
+use Rattle.constraints.specs.Meets.{SoundEntry}
 use Rattle.constraints.proofs.Empty.{empty-good, empty-meets}
 use Rattle.constraints.proofs.Operations.{no-row}
 use Rattle.constraints.proofs.Rules.{Shaped, ok-good}
 use Rattle.plan.specs.declared.Plan.{Plan}
 use Rattle.plan.specs.declared.Expr.{Expr}
 use Rattle.plan_rules.specs.Rules.{planOk, countsWithin}
-use Rattle.plan_rules.proofs.RuleLaws.{Rules, rules}
+use Rattle.plan_rules.proofs.RuleLaws.{rules}
 use Rattle.predicates.specs.Facts.{refusalOf, withConstraints, hasLineage, identityOf, lineageOk, definitionOk, factsOk}
 use Rattle.predicates.specs.Entries.{answered, refused, accepted, predicateApplied, applyPredicate}
 use Rattle.predicates.specs.declared.LogicalFacts.{LogicalFacts}
-use Rattle.predicates.specs.declared.FactsAnswer.{FactsAnswer}
 use Rattle.predicates.specs.declared.Outcome.{Outcome}
 use Rattle.predicates.specs.declared.Outcome.the-variants.{Accepted, Residuals, NoSuch}
 use Rattle.meaning.specs.Meaning.{WholeRow, Consistent, On, MeetsFacts, AllOf, Wide, GoodFacts, freshFacts, AcceptedAll, AllOn}
 use Rattle.meaning.specs.Conditions.{ExactPredicate}
-use Rattle.meaning.proofs.Applying.{Within, Step}
+use Rattle.meaning.proofs.Applying.{Within}
 use Rattle.meaning.proofs.Predicates.{predicate-good, predicate-sound, predicate-back, predicate-exact}
 
 -- ---- what an accepted answer was made of

@@ -3,7 +3,7 @@
 use mathlib.Core.Path.{_≡_, refl, sym, ap, ap₂, _∙_, subst}
 use mathlib.Core.Bool.{Bool, true, false, cond, not, _&&_, _||_}
 use mathlib.Core.List.{List, [], _∷_}
-use mathlib.Core.Logic.{_↔_, _⊎_, inl, inr}
+use mathlib.Core.Logic.{_↔_, inl, inr}
 use Prim.Native.Nat.{ℕ, _<_}
 use native.Mathlib.Omega.{arith}
 use lib.Dec.{T, T-not}
@@ -15,13 +15,13 @@ use Rattle.scalar.specs.declared.ScalarValue.{ScalarValue}
 use Rattle.scalar.specs.declared.ScalarValue.the-variants as S
 use Rattle.scalar.specs.declared.Number.{Number}
 use Rattle.scalar.specs.declared.Number.the-variants.{Of, Nothing}
-use Rattle.scalar.proofs.NumberLaws.{Converts, converts}
+use Rattle.scalar.proofs.NumberLaws.{converts}
 use Rattle.comparison.specs.Operators.{ordinary, bounding, reversedOp}
 use Rattle.comparison.specs.declared.BinaryOp.{BinaryOp}
 use Rattle.comparison.specs.declared.BinaryOp.the-variants.{Eq, NotEq, Lt, LtEq, Gt, GtEq, IsNotDistinctFrom}
 use Rattle.constraints.specs.Values.{same, equals, placeOf, okRange, isNaN}
 use Rattle.constraints.specs.Sets.{withFlag, unionValues, addNonNull, addLiteral, boundsBy, addBound, addRange, roomFor, pushResidual, addResidual, done, refusedWith}
-use Rattle.constraints.specs.Meets.{Core, Like, Meets, Good}
+use Rattle.constraints.specs.Meets.{Like, Meets, Good}
 use Rattle.constraints.specs.declared.ConstraintSet.{ConstraintSet}
 use Rattle.constraints.specs.declared.Ranged.{Ranged}
 use Rattle.constraints.specs.declared.Applied.{Applied}
@@ -36,13 +36,13 @@ use Rattle.predicates.specs.Facts.{hasLineage, identityOf}
 use Rattle.predicates.specs.Apply.{seenOf, isNullLiteral, pairApplied, rangeApplied, boundApplied, boundReversed, operandsApplied, comparisonApplied, literalApplied, nodeApplied, conjunctApplied, allApplied}
 use Rattle.predicates.specs.declared.Seen.{Seen}
 use Rattle.predicates.specs.declared.Seen.the-variants.{Identity, Constant, Unseen}
-use Rattle.rows.specs.Compare.{compareOf, truthOf, ofTruth}
+use Rattle.rows.specs.Compare.{compareOf, truthOf}
 use Rattle.rows.specs.Values.{nodeValue, valueIn, values, valueAt}
 use Rattle.meaning.specs.Meaning.{WholeRow, Consistent, OnNodes, AllOf}
 use Rattle.meaning.specs.Conditions.{OneKind, ExactSeen, ExactNode}
 use Rattle.meaning.proofs.Readings.{value-here, value-before}
 use Rattle.meaning.proofs.Conjunctions.{OperandsBelow, truth-back}
-use Rattle.meaning.proofs.Comparisons.{Compared, compared-of, of-compared, null-left, null-right, eq-iff, distinct-iff, turned, turned-back, reversed-bounding, bounding-ordinary, tests-bound}
+use Rattle.meaning.proofs.Comparisons.{compared-of, of-compared, null-left, null-right, eq-iff, distinct-iff, turned, turned-back, bounding-ordinary, tests-bound}
 
 -- a literal holds a value of its type
 abbrev pub TypedNode : ExprData → Type 0

@@ -1,21 +1,16 @@
 -- Facts that no row meets though their flag is clear: x > 3 and x < 4 on an Int32 column. Assumes nothing.
-use mathlib.Core.Path.{_≡_, refl, sym, subst}
-use mathlib.Core.Bool.{Bool, true, false}
-use mathlib.Core.List.{List, [], _∷_}
-use mathlib.Core.Logic.{_↔_}
-use Prim.Native.Nat.{ℕ, zero, suc, _<_, _^_}
+use mathlib.Core.Path.{_≡_, refl}
+use mathlib.Core.Bool.{false}
+use mathlib.Core.List.{[], _∷_}
 use native.Mathlib.Omega.{arith}
 use lib.Dec.{T, ltb→lt}
 use lib.IntN.{ℤ, pos, negsuc}
 use lib.Signed.{ltZ}
-use lib.ListN.{getD, replicate}
-use lib.Ieee.{lt, eq, ofInt, binary64}
-use mir.Syntax.{w32}
-use mir.Val.{SFits}
+use lib.ListN.{replicate}
+use lib.Ieee.{lt, eq, ofInt}
 use Rattle.lists.specs.Ranges.{allFrom, anyFrom, countFrom}
 use Rattle.kinds.specs.Rows.{lineOf, rowOf}
 use Rattle.kinds.specs.Records.{bitsOk, handleOk, countOf, moreOf}
-use Rattle.scalar.specs.declared.ScalarValue.{ScalarValue}
 use Rattle.scalar.specs.declared.ScalarValue.the-variants as S
 use Rattle.comparison.specs.declared.BinaryOp.the-variants.{Gt, Lt}
 use Rattle.value_classes.specs.Parents.{parentIn, climb, rootOf, parentsOk, each}
@@ -24,18 +19,18 @@ use Rattle.constraints.specs.Sets.{emptySet, setOk, putNonNull, layRange, putRa
 use Rattle.plan.specs.declared.Plan.{Plan}
 use Rattle.plan.specs.declared.Expr.{Expr}
 use Rattle.plan_rules.specs.Rules.{recordOk, itemOk, listsOk, exprOkOf, operatorOkOf, scansOf, countsWithin, planOk}
-use Rattle.plan_data.specs.Nodes.{exprData, nodeAt}
-use Rattle.predicates.specs.Facts.{hasLineage, lineageOk, definitionOk, factsOk}
+use Rattle.plan_data.specs.Nodes.{exprData}
+use Rattle.predicates.specs.Facts.{lineageOk, definitionOk, factsOk}
 use Rattle.predicates.specs.Conjuncts.{joinedOf, conjunctsTo}
 use Rattle.predicates.specs.Apply.{comparisonApplied, conjunctApplied, allApplied}
 use Rattle.predicates.specs.Entries.{predicateApplied, applyPredicate}
 use Rattle.predicates.specs.declared.LogicalFacts.{LogicalFacts}
 use Rattle.predicates.specs.declared.Outcome.the-variants.{Accepted}
-use Rattle.rows.specs.Compare.{compareOf, truthOf}
-use Rattle.rows.specs.Values.{values, valueAt}
-use Rattle.meaning.specs.Meaning.{WholeRow, Consistent, On, AllOn, AcceptedAll}
+use Rattle.rows.specs.Compare.{compareOf}
+use Rattle.rows.specs.Values.{values}
+use Rattle.meaning.specs.Meaning.{AllOn}
 use Rattle.meaning.proofs.Conjunctions.{truth-back}
-use Rattle.meaning.proofs.Comparisons.{Compared, compared-of}
+use Rattle.meaning.proofs.Comparisons.{compared-of}
 use Rattle.meaning.proofs.Examples.{fresh, everywhere}
 
 abbrev plan : Plan

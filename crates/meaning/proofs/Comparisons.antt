@@ -1,17 +1,13 @@
 -- When a comparison of two values is TRUE. Assumes nothing.
-use mathlib.Core.Path.{_≡_, refl, sym, ap, ap₂, _∙_, subst}
+use mathlib.Core.Path.{_≡_, refl, sym, ap, _∙_, subst}
 use mathlib.Core.Bool.{Bool, true, false, cond, not, _&&_, _||_, Bool·beq}
 use mathlib.Core.Logic.{_↔_, _⊎_, inl, inr}
-use Prim.Native.Nat.{ℕ}
-use lib.Dec.{T, T-not, eqb, eqb→eq}
-use lib.IntN.{ℤ}
+use lib.Dec.{T, T-not, eqb→eq}
 use lib.Ieee.{Float, eq}
 use lib.Ieee.Fits.{and-i, and-l, and-r, eq→eqb}
-use lib.Ieee.Bits.{is-true}
 use Rattle.scalar.specs.Exact.{eqZ}
 use Rattle.scalar.specs.Kinds.{kindCode, kindOf, isNull, sameKind}
 use Rattle.scalar.specs.Scalars.{sameScalar, lessScalar, Typed, scalarToF64}
-use Rattle.scalar.specs.declared.Kind.{Kind}
 use Rattle.scalar.specs.declared.ScalarValue.{ScalarValue}
 use Rattle.scalar.specs.declared.Number.the-variants.{Of}
 use Rattle.scalar.proofs.WholeLaws.{iff}
@@ -22,7 +18,7 @@ use Rattle.comparison.specs.declared.BinaryOp.the-variants.{Eq, NotEq, Lt, LtEq
 use Rattle.constraints.specs.Values.{same, equals, placeOf, okRange}
 use Rattle.constraints.specs.Sets.{boundsBy}
 use Rattle.constraints.proofs.Pairs.{by-pairs}
-use Rattle.constraints.proofs.ValueLaws.{or-elim, or-left, or-right, same-null, same-sym}
+use Rattle.constraints.proofs.ValueLaws.{same-null, same-sym}
 use Rattle.constraints.proofs.Bounding.{Tested, tested}
 use Rattle.rows.specs.Compare.{known, compared, compareOf}
 

@@ -1,12 +1,12 @@
 -- An expression is TRUE of a row exactly where each of its conjuncts is, in a plan whose operands stand before their node. Assumes nothing.
 use mathlib.Core.Path.{_≡_, refl, sym, ap, _∙_, subst}
-use mathlib.Core.Bool.{Bool, true, false, cond, _&&_}
-use mathlib.Core.List.{List, [], _∷_, _++_}
+use mathlib.Core.Bool.{Bool, true, false, cond}
+use mathlib.Core.List.{List, [], _∷_}
 use mathlib.Core.Logic.{_↔_}
-use Prim.Native.Nat.{ℕ, zero, suc, _<_, _≤_}
+use Prim.Native.Nat.{ℕ, _<_, _≤_}
 use native.Mathlib.Decide.{decLt}
 use native.Mathlib.Omega.{arith}
-use lib.Dec.{T, eqb, eqb→eq}
+use lib.Dec.{T, eqb→eq}
 use lib.ListN.{getD}
 use lib.Ieee.Fits.{and-i, and-l, and-r, eq→eqb}
 use Rattle.scalar.specs.declared.Kind.the-variants as K
@@ -15,13 +15,12 @@ use Rattle.scalar.specs.declared.ScalarValue.the-variants as S
 use Rattle.truth.specs.Truth.{isFalse, isTrue, allOf, every}
 use Rattle.truth.proofs.TruthLaws.{all-true}
 use Rattle.plan_data.specs.Nodes.{operandsOf}
-use Rattle.plan_data.specs.declared.Run.{Run}
 use Rattle.plan_data.specs.declared.NaryOp.the-variants as N
 use Rattle.plan_data.specs.declared.ExprData.{ExprData}
 use Rattle.plan_data.specs.declared.ExprData.the-variants.{Literal, ColumnRef, Unary, Binary, Nary}
 use Rattle.predicates.specs.Conjuncts.{joinedOf, conjunctsBy, conjunctsTo, conjunctsOf}
 use Rattle.rows.specs.Compare.{truthOf, ofTruth}
-use Rattle.rows.specs.Values.{truths, nodeValue, valueIn, values, valueAt}
+use Rattle.rows.specs.Values.{truths, nodeValue, valueIn, values}
 use Rattle.meaning.specs.Meaning.{WholeRow, OnNodes, AllOf}
 use Rattle.meaning.proofs.Tables.{before-all}
 use Rattle.meaning.proofs.Members.{all-append, all-left, all-right, all-map}

@@ -1,5 +1,5 @@
 -- What the evaluator answers of a row is what facts take for the truth of a predicate. Assumes nothing.
-use mathlib.Core.Path.{_≡_, refl, sym, ap, _∙_}
+use mathlib.Core.Path.{_≡_, sym, ap, _∙_}
 use mathlib.Core.Bool.{Bool, true, false, cond, _&&_}
 use mathlib.Core.Logic.{_↔_}
 use Prim.Native.Nat.{ℕ}
@@ -15,7 +15,7 @@ use Rattle.rows.specs.Evaluate.{valueOn, typed, evaluateOf, refusalOf, valueFou
 use Rattle.rows.specs.declared.Row.{Row}
 use Rattle.rows.specs.declared.Evaluation.{Evaluation}
 use Rattle.rows.specs.declared.Evaluation.the-variants.{Value, NoSuch, Untyped, BadRow}
-use Rattle.meaning.specs.Meaning.{WholeRow, On}
+use Rattle.meaning.specs.Meaning.{On}
 
 -- an evaluated predicate is TRUE of a row exactly where the evaluator answers TRUE. Assumes nothing
 pub evaluated-on : (p : Plan) (e : Expr) (row : Row) (ids : ℕ → ScalarValue) (v : ScalarValue) → evaluateOf p e row ≡ Value v

@@ -1,27 +1,24 @@
 -- Plans on which the conditions of exactness hold, and plans on which one of them fails and the facts say less than the predicate. Assumes nothing.
-use mathlib.Core.Path.{_≡_, refl, sym, ap, _∙_, subst}
-use mathlib.Core.Bool.{Bool, true, false}
+use mathlib.Core.Path.{_≡_, refl, sym, _∙_, subst}
 use mathlib.Core.List.{List, [], _∷_}
 use mathlib.Core.Logic.{_↔_}
 use Prim.Native.Nat.{ℕ, zero, suc, _<_, _^_}
 use native.Mathlib.Omega.{arith}
-use lib.Dec.{T, T-not, eqb, ltb, ltb→lt}
+use lib.Dec.{T, T-not, eqb, ltb→lt}
 use lib.IntN.{ℤ, pos}
-use lib.ListN.{getD, length, replicate}
-use lib.Ieee.{Float, nan, binary64, eq, fits, ofInt, ofBits}
+use lib.ListN.{getD, replicate}
+use lib.Ieee.{nan, binary64, eq, ofInt}
 use Rattle.lists.specs.Ranges.{allFrom, anyFrom, countFrom}
 use Rattle.kinds.specs.Rows.{lineOf, rowOf}
 use Rattle.kinds.specs.Records.{bitsOk, handleOk, countOf, moreOf}
 use mir.Syntax.{w32}
 use mir.Val.{SFits}
 use Rattle.scalar.specs.Kinds.{sameKind, kindOfCode}
-use Rattle.scalar.specs.Scalars.{Typed}
-use Rattle.scalar.specs.declared.Kind.{Kind}
 use Rattle.scalar.specs.declared.Kind.the-variants as K
 use Rattle.scalar.specs.declared.ScalarValue.{ScalarValue}
 use Rattle.scalar.specs.declared.ScalarValue.the-variants as S
 use Rattle.comparison.specs.declared.BinaryOp.the-variants.{Lt}
-use Rattle.value_classes.specs.Parents.{parentIn, climb, rootOf, parentsOk, each}
+use Rattle.value_classes.specs.Parents.{parentsOk, each}
 use Rattle.value_classes.specs.Classes.{emptyClasses}
 use Rattle.constraints.specs.Sets.{emptySet, setOk, unionValues, addNonNull, addBound, addRange}
 use Rattle.constraints.specs.Meets.{Meets}
@@ -37,8 +34,8 @@ use Rattle.predicates.specs.Entries.{predicateApplied, applyPredicate}
 use Rattle.predicates.specs.declared.LogicalFacts.{LogicalFacts}
 use Rattle.predicates.specs.declared.Outcome.the-variants.{Accepted}
 use Rattle.rows.specs.Compare.{compareOf, truthOf}
-use Rattle.rows.specs.Values.{truths, values, valueAt}
-use Rattle.meaning.specs.Meaning.{WholeRow, Consistent, On, MeetsFacts, AllOf, Wide, freshFacts, AcceptedAll, AllOn}
+use Rattle.rows.specs.Values.{values, valueAt}
+use Rattle.meaning.specs.Meaning.{WholeRow, On, MeetsFacts, Wide, freshFacts, AllOn}
 use Rattle.meaning.specs.Conditions.{OneKinded, OneKindPlan}
 use Rattle.meaning.proofs.Plain.{sequence-whole}
 

@@ -19,7 +19,6 @@ use Rattle.plan_rules.specs.Rules.{planOk}
 use Rattle.predicates.specs.Facts.{refusalOf, withConstraints, factsOk}
 use Rattle.predicates.specs.Entries.{answered, refused, accepted, override, overridden, inputsMerged, mergeInputs}
 use Rattle.predicates.specs.declared.LogicalFacts.{LogicalFacts}
-use Rattle.predicates.specs.declared.FactsAnswer.{FactsAnswer}
 use Rattle.predicates.specs.declared.Outcome.{Outcome}
 use Rattle.predicates.specs.declared.Outcome.the-variants.{Accepted, Residuals, NoSuch}
 use Rattle.plan.specs.declared.Expr.{Expr}

@@ -1,12 +1,12 @@
 -- Where every identity has a kind, its values are NULL or of it and no NaN, and every comparison has one kind on both sides, the facts of accepted
 -- predicates say exactly that they are all TRUE. Assumes nothing.
-use mathlib.Core.Path.{_≡_, refl, sym, _∙_, subst}
-use mathlib.Core.Bool.{Bool, true, false, cond, not, _||_}
+use mathlib.Core.Path.{_≡_, refl, sym, _∙_}
+use mathlib.Core.Bool.{Bool, true, false, cond, not}
 use mathlib.Core.List.{List, [], _∷_}
 use mathlib.Core.Logic.{_↔_}
 use Prim.Native.Nat.{ℕ, _<_, _≤_}
 use native.Mathlib.Omega.{arith}
-use lib.Dec.{T, T-not, eqb, eqb→eq}
+use lib.Dec.{T, T-not, eqb→eq}
 use lib.ListN.{getD, length}
 use lib.Ieee.{nan, inf, fin}
 use lib.Ieee.Fits.{eq→eqb}
@@ -36,7 +36,7 @@ use Rattle.meaning.specs.Meaning.{WholeRow, Consistent, On, MeetsFacts, 
 use Rattle.meaning.specs.Conditions.{OneKind, ExactSeen, ExactNode, ExactPredicate, ofKind, Kinded, OneKinded, OneKindPlan, intOrBoolean}
 use Rattle.meaning.proofs.Members.{all-map}
 use Rattle.meaning.proofs.Conjunctions.{conjuncts-within}
-use Rattle.meaning.proofs.Answers.{Parts, apply-parts, apply-exact, sequence-exact}
+use Rattle.meaning.proofs.Answers.{apply-parts, apply-exact, sequence-exact}
 
 -- ---- kinds
 same-through : (k l m : Kind) → T (sameKind k l) → T (sameKind l m) → T (sameKind k m)

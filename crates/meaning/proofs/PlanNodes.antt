@@ -1,28 +1,24 @@
 -- In a plan that keeps the rules the operands of a node stand before it, and its literals hold values of their types. Assumes nothing.
-use mathlib.Core.Path.{_≡_, refl, sym, ap, _∙_, subst}
+use mathlib.Core.Path.{_≡_, refl, subst}
 use mathlib.Core.Bool.{Bool, true, false, cond, _&&_}
 use mathlib.Core.List.{List}
 use Prim.Native.Nat.{ℕ, suc, _+_, _<_, _^_}
 use native.Mathlib.Omega.{arith}
-use lib.Dec.{T, leb, ltb, eqb, eqb→eq}
+use lib.Dec.{T, leb, eqb, eqb→eq}
 use lib.ListN.{getD}
 use borrow.Author.Tests.{ltb-true}
 use Rattle.lists.specs.Ranges.{allFrom}
 use Rattle.lists.proofs.RangeLaws.{and-left, and-right, all-at}
-use Rattle.scalar.specs.Coded.{scalarOf}
 use Rattle.scalar.proofs.CodedLaws.{scalar-of-typed}
 use Rattle.kinds.specs.declared.Record.{Record}
 use Rattle.kinds.specs.Rows.{lineOf, rowOf}
 use Rattle.kinds.specs.Records.{codeOk, bitsOk, handleOk, handlesOk, countOf, moreOf}
 use Rattle.plan.specs.declared.Plan.{Plan}
-use Rattle.plan.specs.Records.{exprRecord, exprStart, itemRecordOf}
-use Rattle.plan_rules.specs.Rules.{recordOk, itemOk, listsOk, exprOkOf, exprOk, planOk}
-use Rattle.plan_rules.proofs.RuleLaws.{Rules, rules}
-use Rattle.plan_data.specs.Codes.{unaryOpOf, naryOpOf}
-use Rattle.comparison.specs.Operators.{binaryOpOf}
-use Rattle.plan_data.specs.Nodes.{runOf, exprData, nodeAt}
+use Rattle.plan.specs.Records.{exprRecord, exprStart}
+use Rattle.plan_rules.specs.Rules.{recordOk, itemOk, listsOk, exprOkOf, planOk}
+use Rattle.plan_rules.proofs.RuleLaws.{rules}
+use Rattle.plan_data.specs.Nodes.{exprData, nodeAt}
 use Rattle.plan_data.specs.declared.ExprData.{ExprData}
-use Rattle.plan_data.specs.declared.ExprData.the-variants.{Literal, ColumnRef, Unary, Binary, Nary}
 use Rattle.meaning.specs.Meaning.{Wide}
 use Rattle.meaning.proofs.Members.{all-run}
 use Rattle.meaning.proofs.Conjunctions.{OperandsBelow}

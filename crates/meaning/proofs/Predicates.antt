@@ -1,24 +1,22 @@
 -- What applying a predicate of a plan makes of a set, for rows. Assumes nothing.
-use mathlib.Core.Path.{_≡_, refl, sym, subst}
-use mathlib.Core.Bool.{Bool, true, false, not}
+use mathlib.Core.Path.{_≡_, refl}
+use mathlib.Core.Bool.{true, not}
 use mathlib.Core.List.{List}
 use mathlib.Core.Logic.{_↔_}
 use Prim.Native.Nat.{ℕ, _<_, _≤_}
 use native.Mathlib.Omega.{arith}
 use lib.Dec.{T}
 use Rattle.scalar.specs.declared.Kind.the-variants as K
-use Rattle.scalar.specs.declared.ScalarValue.{ScalarValue}
 use Rattle.scalar.specs.declared.ScalarValue.the-variants as S
 use Rattle.constraints.specs.Sets.{done}
 use Rattle.constraints.specs.Meets.{Meets, Good}
 use Rattle.constraints.specs.declared.ConstraintSet.{ConstraintSet}
-use Rattle.constraints.specs.declared.Applied.{Applied}
 use Rattle.constraints.proofs.Operations.{no-row}
 use Rattle.plan.specs.declared.Plan.{Plan}
 use Rattle.plan_rules.specs.Rules.{planOk}
 use Rattle.plan_data.specs.Nodes.{nodeAt}
 use Rattle.predicates.specs.Conjuncts.{conjunctsOf}
-use Rattle.predicates.specs.Apply.{conjunctApplied, allApplied}
+use Rattle.predicates.specs.Apply.{conjunctApplied}
 use Rattle.predicates.specs.Entries.{predicateApplied}
 use Rattle.meaning.specs.Meaning.{WholeRow, Consistent, On, AllOf, Wide}
 use Rattle.meaning.specs.Conditions.{ExactNode, ExactPredicate}

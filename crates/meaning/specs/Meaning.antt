@@ -15,7 +15,6 @@ use Rattle.plan_data.specs.declared.ExprData.{ExprData}
 use Rattle.predicates.specs.Facts.{hasLineage, identityOf}
 use Rattle.predicates.specs.Entries.{applyPredicate}
 use Rattle.predicates.specs.declared.LogicalFacts.{LogicalFacts}
-use Rattle.predicates.specs.declared.Outcome.{Outcome}
 use Rattle.predicates.specs.declared.Outcome.the-variants.{Accepted}
 use Rattle.rows.specs.Compare.{truthOf}
 use Rattle.rows.specs.Values.{valueAt}
