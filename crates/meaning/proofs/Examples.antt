@@ -34,6 +34,7 @@ use Rattle.predicates.specs.Entries.{predicateApplied, applyPredicate}
 use Rattle.predicates.specs.declared.LogicalFacts.{LogicalFacts}
 use Rattle.predicates.specs.declared.Outcome.the-variants.{Accepted}
 use Rattle.rows.specs.Compare.{compareOf, truthOf}
+use Rattle.rows.specs.InOrder.{inOrder}
 use Rattle.rows.specs.Values.{values, valueAt}
 use Rattle.meaning.specs.Meaning.{WholeRow, On, MeetsFacts, Wide, freshFacts, AllOn}
 use Rattle.meaning.specs.Conditions.{OneKinded, OneKindPlan}
@@ -86,7 +87,7 @@ self-meets : MeetsFacts selfPlan (everywhere (S.Float64 nan)) (applyPredicate se
 self-meets = subst (Meets (On selfPlan (everywhere (S.Float64 nan))) nans) (sym self-facts) (nan-meets (On selfPlan (everywhere (S.Float64 nan))))
 
 self-truth : truthOf (valueAt (λ c. S.Float64 nan) (nodeAt selfPlan) (selfPlan .items .a) 2) ≡ 0
-unfolding values exprData compareOf eq
+unfolding values inOrder exprData compareOf eq
 self-truth = refl
 
 -- x = x is accepted, and a row with a NaN meets its facts, which say that x is not NULL, though x = x is not TRUE of it. Assumes nothing
@@ -107,7 +108,7 @@ unfolding applyPredicate planOk countsWithin allFrom exprOkOf recordOk listsOk r
 mixed-facts = refl
 
 mixed-truth : truthOf (valueAt (λ c. S.Int64 (pos 3)) (nodeAt mixedPlan) (mixedPlan .items .a) 2) ≡ 1
-unfolding values exprData compareOf
+unfolding values inOrder exprData compareOf
 mixed-truth = refl
 
 -- z < 5 is accepted, and a row with an Int64 3 meets its bound, though the comparison of two kinds is UNKNOWN. Assumes nothing
@@ -117,7 +118,7 @@ mixed-case = (
   mixed-accepted,
   (
     subst (Meets (On mixedPlan (everywhere (S.Int64 (pos 3)))) threes) (sym mixed-facts) (mixed-meets (On mixedPlan (everywhere (S.Int64 (pos 3))))),
-    λ e. let z = sym mixed-truth ∙ e in absurd (omega (arith, z))
+    λ e. let z = sym mixed-truth ∙ e in absurd (omega (arith, z)),
   ),
 )
 
@@ -162,14 +163,14 @@ plain-case n w =
 
 -- one does, and one does not. Assumes nothing
 pub plain-three : MeetsFacts plainPlan (everywhere (S.Int32 (pos 3))) (applyPredicate plainPlan fresh comparison .facts)
-unfolding values exprData compareOf
+unfolding values inOrder exprData compareOf
 plain-three = plain-case (pos 3) (record { sfits = omega arith }) .1 (holds, tt)
   where
     holds : On plainPlan (everywhere (S.Int32 (pos 3))) 2
     holds = refl
 
 pub plain-nine : MeetsFacts plainPlan (everywhere (S.Int32 (pos 9))) (applyPredicate plainPlan fresh comparison .facts) → ⊥
-unfolding values exprData compareOf
+unfolding values inOrder exprData compareOf
 plain-nine m = let z = sym fails ∙ plain-case (pos 9) (record { sfits = omega arith }) .0 m .0 in absurd (omega (arith, z))
   where
     fails : truthOf (valueAt (λ c. S.Int32 (pos 9)) (nodeAt plainPlan) (plainPlan .items .a) 2) ≡ 0

@@ -9,6 +9,7 @@ use Rattle.scalar.specs.declared.ScalarValue.the-variants as S
 use Rattle.plan_data.specs.Nodes.{operandsOf}
 use Rattle.plan_data.specs.declared.ExprData.{ExprData}
 use Rattle.predicates.specs.Conjuncts.{conjunctsBy, conjunctsTo, conjunctsOf}
+use Rattle.rows.specs.InOrder.{inOrder}
 use Rattle.rows.specs.Values.{nodeValue, valueIn, values, valueAt}
 use Rattle.meaning.proofs.Tables.{table-last, table-at, table-past}
 
@@ -17,11 +18,11 @@ module _ (cell : ℕ → ScalarValue) (node : ℕ → ExprData) (items : List �
   nextValue n = nodeValue cell (valueIn (values cell node items n)) (operandsOf items) (node n)
 
   starts : values cell node items 0 ≡ []
-  unfolding values
+  unfolding values inOrder
   starts = refl
 
   grows : (n : ℕ) → values cell node items (suc n) ≡ values cell node items n ++ (nextValue n ∷ [])
-  unfolding values
+  unfolding values inOrder
   grows n = refl
 
   -- an expression has the value of its node, over the values before it. Assumes nothing
