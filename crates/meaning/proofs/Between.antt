@@ -27,6 +27,7 @@ use Rattle.predicates.specs.Entries.{predicateApplied, applyPredicate}
 use Rattle.predicates.specs.declared.LogicalFacts.{LogicalFacts}
 use Rattle.predicates.specs.declared.Outcome.the-variants.{Accepted}
 use Rattle.rows.specs.Compare.{compareOf}
+use Rattle.rows.specs.InOrder.{inOrder}
 use Rattle.rows.specs.Values.{values}
 use Rattle.meaning.specs.Meaning.{AllOn}
 use Rattle.meaning.proofs.Conjunctions.{truth-back}
@@ -75,7 +76,7 @@ gap (negsuc k) a b = absurd a
 
 -- of no Int32 are both TRUE. Assumes nothing
 pub between-none : (n : ℤ) → AllOn plan (everywhere (S.Int32 n)) (above ∷ below ∷ []) → ⊥
-unfolding values exprData
+unfolding values inOrder exprData
 between-none n o =
     gap n (compared-of Gt (S.Int32 n) (S.Int32 (pos 3)) tt (truth-back (compareOf Gt (S.Int32 n) (S.Int32 (pos 3))) .0 (o .0)) .holds)
     (compared-of Lt (S.Int32 n) (S.Int32 (pos 4)) tt (truth-back (compareOf Lt (S.Int32 n) (S.Int32 (pos 4))) .0 (o .1 .0)) .holds)
