@@ -1,2 +1,3 @@
 pub mod ByteStrings
 pub mod ListItems
+pub mod Writing
