@@ -6,3 +6,4 @@ pub mod RulesRead
 pub mod Layouts
 pub mod Segments
 pub mod Written
+pub mod Sequences
