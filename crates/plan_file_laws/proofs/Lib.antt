@@ -7,3 +7,4 @@ pub mod Layouts
 pub mod Segments
 pub mod Written
 pub mod Sequences
+pub mod Cuts

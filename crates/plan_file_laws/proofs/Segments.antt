@@ -111,9 +111,10 @@ module _ (t : List ℕ) where
 
   -- ---- a part that was put is read back
   first-of : (at v : ℕ) (u : List ℕ) → drop at t ≡ v ∷ u → (getD t at 0 ≡ v) × (drop (at + 1) t ≡ u)
-  first-of at v u e =
-      (ap (λ (n : ℕ). getD t n 0) (sym (add-zero at)) ∙ sym (getD-drop at t 0 0) ∙ ap (λ (l : List ℕ). getD l 0 0) e,
-      sym (drop-drop 1 at t) ∙ ap (drop 1) e)
+  first-of at v u e = (
+    ap (λ (n : ℕ). getD t n 0) (sym (add-zero at)) ∙ sym (getD-drop at t 0 0) ∙ ap (λ (l : List ℕ). getD l 0 0) e,
+    sym (drop-drop 1 at t) ∙ ap (drop 1) e,
+  )
 
   got2 : (at v : ℕ) (u : List ℕ) → drop at t ≡ put2 v u → (word2 t at ≡ v) × (drop (at + 2) t ≡ u)
   got2 at v u e =

@@ -98,7 +98,7 @@ all-snoc : (P : Record → Type 0) (xs : List Record) (x : Record) → All P xs 
 all-snoc P [] x a p = more p none
 all-snoc P (y ∷ xs) x (more q a) p = more q (all-snoc P xs x a p)
 
-put-snoc : (xs : List Record) (x : Record) (u : List ℕ) → putRecords (xs ++ (x ∷ [])) u ≡ putRecords xs (putRecord x u)
+pub put-snoc : (xs : List Record) (x : Record) (u : List ℕ) → putRecords (xs ++ (x ∷ [])) u ≡ putRecords xs (putRecord x u)
 unfolding putRecords
 put-snoc xs x u = put-append xs (x ∷ []) u
 
@@ -232,11 +232,11 @@ unfolding startState
 reads-whole xs q begin = refl
 reads-whole xs q (next x t r k) = taken-at _ x t (k .way) .1
 
-all-left : (P : Record → Type 0) (xs ys : List Record) → All P (xs ++ ys) → All P xs
+pub all-left : (P : Record → Type 0) (xs ys : List Record) → All P (xs ++ ys) → All P xs
 all-left P [] ys a = none
 all-left P (x ∷ xs) ys (more p a) = more p (all-left P xs ys a)
 
-all-last : (P : Record → Type 0) (xs : List Record) (x : Record) → All P (xs ++ (x ∷ [])) → P x
+pub all-last : (P : Record → Type 0) (xs : List Record) (x : Record) → All P (xs ++ (x ∷ [])) → P x
 all-last P [] x (more p a) = p
 all-last P (y ∷ xs) x (more p a) = all-last P xs x a
 
