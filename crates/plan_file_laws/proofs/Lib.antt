@@ -8,3 +8,5 @@ pub mod Segments
 pub mod Written
 pub mod Sequences
 pub mod Cuts
+pub mod Parts
+pub mod OneToOne

@@ -165,7 +165,7 @@ unfolding moreOf
 second-same r x y c = rw c
 
 -- a column has no list
-no-list : (r : Row) (x : Record) → ColumnRow r → countOf r x + moreOf r x ≡ 0
+pub no-list : (r : Row) (x : Record) → ColumnRow r → countOf r x + moreOf r x ≡ 0
 unfolding countOf moreOf
 no-list r x c = rw (ne-eqb (r .a) 6 (c .a), ne-eqb (r .b) 6 (c .b), ne-eqb (r .c) 6 (c .c))
 
@@ -206,6 +206,27 @@ only-new n i a b = omega arith
 none-new : (n i : ℕ) → n ≤ i → i < n → ⊥
 none-new n i a b = omega arith
 
+-- the list of a new record, as the table has it
+pub expr-open :
+    (p : Plan) (x : Record) → Sized p → p .expressions .count < 1024 → rowOf (x .kind) .sort ≡ 2
+    → Open (listOf (rowOf (x .kind)) x) (exprRecord (withExpr p x (p .items .count)) (p .expressions .count)) (exprStart (withExpr p x (p .items .count)) (p .expressions .count)) (p .items .count)
+expr-open p x z h s =
+    subst (λ (st : ℕ). Open (listOf (rowOf (x .kind)) x) (exprRecord (withExpr p x (p .items .count)) (p .expressions .count)) st (p .items .count)) (sym (new-expr-start p x (p .items .count) z h))
+    (subst (λ (y : Record). Open (listOf (rowOf (x .kind)) x) y (p .items .count) (p .items .count)) (sym (new-expr p x (p .items .count) z h))
+    (open-new x (exprPart x) (p .items .count) refl (first-same (rowOf (x .kind)) x (exprPart x) refl refl)
+    (second-none (rowOf (x .kind)) (exprPart x) (expr-row (x .kind) s .c) ∙ sym (second-none (rowOf (x .kind)) x (expr-row (x .kind) s .c)))))
+
+pub operator-open :
+    (p : Plan) (x : Record) → Sized p → p .operators .count < 128
+    → Open (listOf (rowOf (x .kind)) x) (operatorRecord (withOperator p x (p .items .count)) (p .operators .count)) (operatorStart (withOperator p x (p .items .count)) (p .operators .count)) (p .items .count)
+operator-open p x z h =
+    subst (λ (st : ℕ). Open (listOf (rowOf (x .kind)) x) (operatorRecord (withOperator p x (p .items .count)) (p .operators .count)) st (p .items .count)) (sym (new-operator-start p x (p .items .count) z h))
+    (subst (λ (y : Record). Open (listOf (rowOf (x .kind)) x) y (p .items .count) (p .items .count)) (sym (new-operator p x (p .items .count) z h))
+    (open-new x (operatorPart x) (p .items .count) refl (first-same (rowOf (x .kind)) x (operatorPart x) refl refl) (second-same (rowOf (x .kind)) x (operatorPart x) refl)))
+
+none-yet : (st n k : ℕ) → st ≡ n → st + k < n → ⊥
+none-yet st n k e h = omega arith
+
 module _ (p : Plan) (x : Record) (r : RulesTo p (p .expressions .count) (p .operators .count)) where
   pub phase-column : p .columns .count < 64 → rowOf (x .kind) .sort ≡ 1 → codeOk (rowOf (x .kind)) x ≡ true → Phase (listOf (rowOf (x .kind)) x) (withColumn p x)
   phase-column h s c =
@@ -225,20 +246,15 @@ module _ (p : Plan) (x : Record) (r : RulesTo p (p .expressions .count) (p .oper
   phase-expr h s g =
       let v = r .within in
       let q = withExpr p x (p .items .count) in
-      let i = p .expressions .count in
-      let w = listOf (rowOf (x .kind)) x in
       open-expr (p .expressions .count) (add-one _)
       (rules-grow p q _ _ (expr-longer p x (p .items .count)) (expr-longer-sized p x (p .items .count) (r .sized))
       (record { columns = v .columns; exprs = omega arith; operators = v .operators; items = v .items })
       (λ i a b. absurd (none-new _ _ a b)) r)
-      (subst (λ (st : ℕ). OpenAt w q 2 (exprRecord q i) st (p .columns .count) i (p .operators .count) (suc i) (p .operators .count)) (sym (new-expr-start p x (p .items .count) (r .sized) h))
-      (subst (λ (y : Record). OpenAt w q 2 y (p .items .count) (p .columns .count) i (p .operators .count) (suc i) (p .operators .count)) (sym (new-expr p x (p .items .count) (r .sized) h))
       (record {
-        record-ok = expr-right x _ _ _ s g;
-        list = open-new x (exprPart x) (p .items .count) refl (first-same (rowOf (x .kind)) x (exprPart x) refl refl)
-            (second-none (rowOf (x .kind)) (exprPart x) (expr-row (x .kind) s .c) ∙ sym (second-none (rowOf (x .kind)) x (expr-row (x .kind) s .c)));
-        so-far = λ k a b. absurd (omega arith);
-      })))
+        record-ok = subst (λ (y : Record). recordOk 2 y (p .columns .count) (p .expressions .count) (p .operators .count) ≡ true) (sym (new-expr p x (p .items .count) (r .sized) h)) (expr-right x _ _ _ s g);
+        list = expr-open p x (r .sized) h s;
+        so-far = λ k a b. absurd (none-yet _ _ k (new-expr-start p x (p .items .count) (r .sized) h) b);
+      })
 
   pub phase-operator :
       p .operators .count < 128 → rowOf (x .kind) .sort ≡ 3 → Right x (p .columns .count) (p .expressions .count) (p .operators .count)
@@ -246,19 +262,15 @@ module _ (p : Plan) (x : Record) (r : RulesTo p (p .expressions .count) (p .oper
   phase-operator h s g =
       let v = r .within in
       let q = withOperator p x (p .items .count) in
-      let i = p .operators .count in
-      let w = listOf (rowOf (x .kind)) x in
       open-operator (p .operators .count) (add-one _)
       (rules-grow p q _ _ (operator-longer p x (p .items .count)) (operator-longer-sized p x (p .items .count) (r .sized))
       (record { columns = v .columns; exprs = v .exprs; operators = omega arith; items = v .items })
       (λ i a b. absurd (none-new _ _ a b)) r)
-      (subst (λ (st : ℕ). OpenAt w q 3 (operatorRecord q i) st (p .columns .count) (p .expressions .count) i (p .expressions .count) i) (sym (new-operator-start p x (p .items .count) (r .sized) h))
-      (subst (λ (y : Record). OpenAt w q 3 y (p .items .count) (p .columns .count) (p .expressions .count) i (p .expressions .count) i) (sym (new-operator p x (p .items .count) (r .sized) h))
       (record {
-        record-ok = operator-right x _ _ _ s g;
-        list = open-new x (operatorPart x) (p .items .count) refl (first-same (rowOf (x .kind)) x (operatorPart x) refl refl) (second-same (rowOf (x .kind)) x (operatorPart x) refl);
-        so-far = λ k a b. absurd (omega arith);
-      })))
+        record-ok = subst (λ (y : Record). recordOk 3 y (p .columns .count) (p .expressions .count) (p .operators .count) ≡ true) (sym (new-operator p x (p .items .count) (r .sized) h)) (operator-right x _ _ _ s g);
+        list = operator-open p x (r .sized) h;
+        so-far = λ k a b. absurd (none-yet _ _ k (new-operator-start p x (p .items .count) (r .sized) h) b);
+      })
 
 -- one item more in the list that is read
 module _ (w : Wanted) (p : Plan) (x : Record) (s : Sized p) (room : p .items .count < 2048) (z : kindWanted w ≡ 0 → ⊥) where

@@ -43,7 +43,7 @@ pub record Kept (q : State) : Type 0 where
   pub phase : Phase (q .wanted) (q .plan)
   pub marks : Marks (q .scans) (q .plan)
 
-rules-in : (w : Wanted) (p : Plan) → Phase w p → Sized p × Within p
+pub rules-in : (w : Wanted) (p : Plan) → Phase w p → Sized p × Within p
 rules-in w p (closed n r) = (r .sized, r .within)
 rules-in w p (open-expr i e r o) = (r .sized, r .within)
 rules-in w p (open-operator i e r o) = (r .sized, r .within)
