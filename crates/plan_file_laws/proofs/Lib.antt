@@ -10,3 +10,5 @@ pub mod Sequences
 pub mod Cuts
 pub mod Parts
 pub mod OneToOne
+pub mod Copies
+pub mod CopyRuns

@@ -93,11 +93,11 @@ marks-operator p x scans s room m =
     }
 
 -- ---- a Scan's record: its count is its second number, its items are columns
-scan-first : (y : Record) → y .kind ≡ 0x30 → firstOf y ≡ y .b
+pub scan-first : (y : Record) → y .kind ≡ 0x30 → firstOf y ≡ y .b
 unfolding countOf rowOf lineOf
 scan-first y e = rw e
 
-scan-second : (y : Record) → y .kind ≡ 0x30 → secondOf y ≡ 0
+pub scan-second : (y : Record) → y .kind ≡ 0x30 → secondOf y ≡ 0
 unfolding moreOf rowOf lineOf
 scan-second y e = rw e
 
@@ -109,7 +109,7 @@ scan-items : (y : Record) (k : ℕ) → y .kind ≡ 0x30 → itemKind y k ≡ 0x
 unfolding rowOf lineOf
 scan-items y k e = either (ltb k (firstOf y)) _ (ap (λ (v : ℕ). rowOf v .item) e)
 
-scan-sort : rowOf 0x30 .sort ≡ 3
+pub scan-sort : rowOf 0x30 .sort ≡ 3
 unfolding rowOf lineOf
 scan-sort = refl
 
