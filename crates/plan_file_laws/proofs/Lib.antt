@@ -12,3 +12,4 @@ pub mod Parts
 pub mod OneToOne
 pub mod Copies
 pub mod CopyRuns
+pub mod WriteBack
