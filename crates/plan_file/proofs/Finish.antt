@@ -34,7 +34,7 @@ done-refused : (n : ℕ) (q : State) (k : Reading) → isWhole k ≡ false → i
 done-refused n q k e = rw e
 
 -- a taken record is two bytes long at least, and ends in the file
-taken-at : (q : State) (x : Record) (t : State) → Way q x t → (t .at ≡ q .at + rowOf (x .kind) .length) × (t .reading ≡ Whole) × (0 < rowOf (x .kind) .sort)
+pub taken-at : (q : State) (x : Record) (t : State) → Way q x t → (t .at ≡ q .at + rowOf (x .kind) .length) × (t .reading ≡ Whole) × (0 < rowOf (x .kind) .sort)
 taken-at q x t (a-column a b c) = (refl, refl, omega arith)
 taken-at q x t (an-expr a b c) = (refl, refl, omega arith)
 taken-at q x t (an-operator a b c) = (refl, refl, omega arith)

@@ -194,7 +194,7 @@ step-cases P s q f same refused taken =
 abbrev Wanting : State → Type 0
 Wanting q = Wants (q .wanted)
 
-wants-way : (q : State) (x : Record) (t : State) → Wanting q → Way q x t → Wanting t
+pub wants-way : (q : State) (x : Record) (t : State) → Wants (q .wanted) → Way q x t → Wants (t .wanted)
 wants-way q x t f (a-column a b c) = wants-list (x .kind) x
 wants-way q x t f (an-expr a b c) = wants-list (x .kind) x
 wants-way q x t f (an-operator a b c) = wants-list (x .kind) x

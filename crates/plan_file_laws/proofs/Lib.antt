@@ -1,0 +1,15 @@
+pub mod RowFacts
+pub mod OpenLists
+pub mod Phases
+pub mod Marks
+pub mod RulesRead
+pub mod Layouts
+pub mod Segments
+pub mod Written
+pub mod Sequences
+pub mod Cuts
+pub mod Parts
+pub mod OneToOne
+pub mod Copies
+pub mod CopyRuns
+pub mod WriteBack

@@ -1,0 +1,4 @@
+pub mod ByteStrings
+pub mod ListItems
+pub mod Writing
+pub mod PlanRecords
