@@ -53,6 +53,24 @@ differ : unionValues (addLiteral (addLiteral emptySet 1 (S.Int32 (pos 5))) 5 (S.
 unfolding unionValues unionOf joined normalized nonNullsMoved literalsMoved rangesMoved stepsTo addLiteral putNonNull putLiteral putRange layRange crossCheck anyFrom emptySet emptyClasses rootOf climb parentIn each lt eq ofInt inFloat
 differ = refl
 
+-- a literal outside the bounds sets the flag: 7 is not below 7, and is at most 7
+below-seven : addLiteral (addBound emptySet 0 Lt (ofInt binary64 (pos 7))) 0 (S.Int32 (pos 7)) .contradictory ≡ true
+unfolding addBound addLiteral putNonNull putLiteral putRange layRange crossCheck anyFrom emptySet emptyClasses rootOf climb parentIn each lt eq ofInt inFloat
+below-seven = refl
+
+at-most-seven : addLiteral (addBound emptySet 0 LtEq (ofInt binary64 (pos 7))) 0 (S.Int32 (pos 7)) .contradictory ≡ false
+unfolding addBound addLiteral putNonNull putLiteral putRange layRange crossCheck anyFrom emptySet emptyClasses rootOf climb parentIn each lt eq ofInt inFloat
+at-most-seven = refl
+
+-- 3 below x below 4 is not empty, 4 below x below 4 is
+between : addBound (addBound emptySet 0 Gt (ofInt binary64 (pos 3))) 0 Lt (ofInt binary64 (pos 4)) .contradictory ≡ false
+unfolding addBound addLiteral putNonNull putLiteral putRange layRange crossCheck anyFrom emptySet emptyClasses rootOf climb parentIn each lt eq ofInt inFloat
+between = refl
+
+nothing-between : addBound (addBound emptySet 0 Gt (ofInt binary64 (pos 4))) 0 Lt (ofInt binary64 (pos 4)) .contradictory ≡ true
+unfolding addBound addLiteral putNonNull putLiteral putRange layRange crossCheck anyFrom emptySet emptyClasses rootOf climb parentIn each lt eq ofInt inFloat
+nothing-between = refl
+
 -- a comparison that gives no bound makes an entry without bounds
 bare : entryAt (addRange emptySet 0 NotEq (S.Int32 (pos 5)) .constraints) 0 ≡ entryOf unboundedRange
 unfolding addRange addBound putNonNull putRange layRange crossCheck anyFrom emptySet emptyClasses rootOf climb parentIn each lt eq ofInt

@@ -28,11 +28,11 @@ use Rattle.constraints.proofs.Operations.{meets-by, normalize-meets, un
 
 module _ (b : ConstraintSet) (g : Good b) where
   -- ---- each step keeps a set good
-  member-good : (r : ℕ) → r < 128 → (i : ℕ) → i < 128 → (t : ConstraintSet) → Good t → Good (joinMember b r i t)
+  member-good : (r : ℕ) → r < 128 → (i : ℕ) → i < 128 → (t : ConstraintSet) → Good t → Good (joinMember (b .«equivalence_classes») r i t)
   member-good r hr i hi t f = pick-has Good (eqb (canonicalAt b i) r && not (eqb i r)) (unionValues t r i) t (λ c. union-good t r i hr hi f) f
 
-  class-good : (r : ℕ) → r < 128 → (t : ConstraintSet) → Good t → Good (joinClass b r t)
-  class-good r hr t f = steps-good Good (joinMember b r) 128 (member-good r hr) 128 (omega arith) t f
+  class-good : (r : ℕ) → r < 128 → (t : ConstraintSet) → Good t → Good (joinClass (b .«equivalence_classes») r t)
+  class-good r hr t f = steps-good Good (joinMember (b .«equivalence_classes») r) 128 (member-good r hr) 128 (omega arith) t f
 
   literal-step-good : (i : ℕ) → i < 128 → (t : ConstraintSet) → Good t → Good (mergeLiteral b i t)
   literal-step-good i hi t f =
@@ -57,7 +57,7 @@ module _ (b : ConstraintSet) (g : Good b) where
 
     classes-merged-good : Good (mergeClasses a b)
     unfolding mergeClasses
-    classes-merged-good = steps-good Good (joinClass b) 128 class-good 128 (omega arith) start start-good
+    classes-merged-good = steps-good Good (joinClass (b .«equivalence_classes»)) 128 class-good 128 (omega arith) start start-good
 
     abbrev t1 : ConstraintSet
     t1 = mergeClasses a b
@@ -94,11 +94,11 @@ module _ (b : ConstraintSet) (g : Good b) where
     abbrev Pair : ℕ → ℕ → Type 0
     Pair r i = T (eqb (canonicalAt b i) r && not (eqb i r)) → Like v r i
 
-    member-iff : (r : ℕ) → r < 128 → (i : ℕ) → i < 128 → (t : ConstraintSet) → Good t → Meets on v (joinMember b r i t) ↔ (Meets on v t × Pair r i)
+    member-iff : (r : ℕ) → r < 128 → (i : ℕ) → i < 128 → (t : ConstraintSet) → Good t → Meets on v (joinMember (b .«equivalence_classes») r i t) ↔ (Meets on v t × Pair r i)
     member-iff r hr i hi t f = pick-if (Meets on v) (eqb (canonicalAt b i) r && not (eqb i r)) (Like v r i) (unionValues t r i) t (λ c. union-iff t r i hr hi f on v tv)
 
-    class-iff : (r : ℕ) → r < 128 → (t : ConstraintSet) → Good t → Meets on v (joinClass b r t) ↔ (Meets on v t × ((i : ℕ) → i < 128 → Pair r i))
-    class-iff r hr t f = steps-iff Good (Meets on v) (joinMember b r) (Pair r) 128 (member-good r hr) (member-iff r hr) 128 (omega arith) t f
+    class-iff : (r : ℕ) → r < 128 → (t : ConstraintSet) → Good t → Meets on v (joinClass (b .«equivalence_classes») r t) ↔ (Meets on v t × ((i : ℕ) → i < 128 → Pair r i))
+    class-iff r hr t f = steps-iff Good (Meets on v) (joinMember (b .«equivalence_classes») r) (Pair r) 128 (member-good r hr) (member-iff r hr) 128 (omega arith) t f
 
     pairs-together : ((r : ℕ) → r < 128 → (i : ℕ) → i < 128 → Pair r i) → Together v (parentsOf b)
     pairs-together q i h = elim (ℕ-discrete i (canonicalAt b i)) [
@@ -167,7 +167,7 @@ module _ (b : ConstraintSet) (g : Good b) where
 
       classes-iff : Meets on v (mergeClasses a b) ↔ (Meets on v (flagIf (b .contradictory) a) × ((r : ℕ) → r < 128 → (i : ℕ) → i < 128 → Pair r i))
       unfolding mergeClasses
-      classes-iff = steps-iff Good (Meets on v) (joinClass b) (λ (r : ℕ). (i : ℕ) → i < 128 → Pair r i) 128 class-good class-iff 128 (omega arith) (flagIf (b .contradictory) a) (start-good a ga)
+      classes-iff = steps-iff Good (Meets on v) (joinClass (b .«equivalence_classes»)) (λ (r : ℕ). (i : ℕ) → i < 128 → Pair r i) 128 class-good class-iff 128 (omega arith) (flagIf (b .contradictory) a) (start-good a ga)
 
       values-iff : Meets on v (mergeValues a b) ↔ (Meets on v a × (Core v b × Together v (parentsOf b)))
       unfolding mergeLiterals mergeRanges mergeNonNulls

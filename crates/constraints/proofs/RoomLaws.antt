@@ -154,9 +154,9 @@ module _ (b : ConstraintSet) where
       (λ c. same-through a t (layRange t (canonicalAt t i) (entryAt b i .range)) m (beside-same t (layRange t (canonicalAt t i) (entryAt b i .range)) (beside-lay t t (beside-self t) (canonicalAt t i) (entryAt b i .range)))) m) 128 (omega arith) _
       (steps-good (SameList a) (mergeLiteral b) 128
       (λ i h t m. pick-has (SameList a) (literalAt b i .present) (addLiteral t i (literalAt b i .value)) t (λ c. same-through a t (addLiteral t i (literalAt b i .value)) m (same-addLiteral t i (literalAt b i .value))) m) 128 (omega arith) _
-      (steps-good (SameList a) (joinClass b) 128
+      (steps-good (SameList a) (joinClass (b .«equivalence_classes»)) 128
       (λ r hr t m.
-      steps-good (SameList a) (joinMember b r) 128
+      steps-good (SameList a) (joinMember (b .«equivalence_classes») r) 128
       (λ i h u k. pick-has (SameList a) (eqb (canonicalAt b i) r && not (eqb i r)) (unionValues u r i) u (λ c. same-through a u (unionValues u r i) k (same-union u r i)) k) 128 (omega arith) t m)
       128 (omega arith) (flagIf (b .contradictory) a) (same-flag a _))))
 

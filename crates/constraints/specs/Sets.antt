@@ -268,12 +268,12 @@ unfoldable pub addResidual : ConstraintSet → ℕ → Applied
 addResidual s h = cond (roomFor s h) (done (pushResidual s h)) (refusedWith s)
 
 -- ---- `merge_from`
--- the classes of b in the order of their representatives, each member with the first, which is the representative
-abbrev pub joinMember : ConstraintSet → ℕ → ℕ → ConstraintSet → ConstraintSet
-joinMember b r i t = cond (eqb (canonicalAt b i) r && not (eqb i r)) (unionValues t r i) t
+-- the classes in the order of their representatives, each member with the first, which is the representative
+abbrev pub joinMember : ValueEquivalenceClasses → ℕ → ℕ → ConstraintSet → ConstraintSet
+joinMember c r i t = cond (eqb (canonicalOf c i) r && not (eqb i r)) (unionValues t r i) t
 
-abbrev pub joinClass : ConstraintSet → ℕ → ConstraintSet → ConstraintSet
-joinClass b r t = stepsTo (joinMember b r) 128 t
+abbrev pub joinClass : ValueEquivalenceClasses → ℕ → ConstraintSet → ConstraintSet
+joinClass c r t = stepsTo (joinMember c r) 128 t
 
 abbrev pub mergeLiteral : ConstraintSet → ℕ → ConstraintSet → ConstraintSet
 mergeLiteral b i t = cond (literalAt b i .present) (addLiteral t i (literalAt b i .value)) t
@@ -289,7 +289,7 @@ mergeResidual b k t = pushResidual t (handleAt b k)
 
 -- the five loops, one after the other
 unfoldable pub mergeClasses : ConstraintSet → ConstraintSet → ConstraintSet
-mergeClasses a b = stepsTo (joinClass b) 128 (flagIf (b .contradictory) a)
+mergeClasses a b = stepsTo (joinClass (b .«equivalence_classes»)) 128 (flagIf (b .contradictory) a)
 
 unfoldable pub mergeLiterals : ConstraintSet → ConstraintSet → ConstraintSet
 mergeLiterals t b = stepsTo (mergeLiteral b) 128 t

@@ -1,0 +1,210 @@
+-- Going from member to member unites what going through all identities does, and pushing handles by themselves is pushing them in a set. Assumes nothing.
+use mathlib.Core.Path.{_≡_, refl, sym, ap, _∙_, subst}
+use mathlib.Core.Bool.{Bool, true, false, not, cond, _&&_, _||_}
+use mathlib.Core.List.{List}
+use Prim.Native.Nat.{ℕ, zero, suc, _+_, _-_, _≤_, _<_, min}
+use native.Mathlib.Decide.{decLt, ℕ-discrete}
+use native.Mathlib.Omega.{arith}
+use native.Mathlib.Numerals.{add-one}
+use borrow.Author.Tests.{lt-ltb, le-ltb, eq-eqb, ne-eqb}
+use lib.Dec.{eqb, ltb}
+use lib.ListN.{getD, set}
+use Rattle.value_classes.specs.Parents.{rootOf}
+use Rattle.value_classes.specs.Classes.{unionOf}
+use Rattle.value_classes.specs.Listed.{firstMember, nextMember, membersOf}
+use Rattle.value_classes.specs.declared.ValueEquivalenceClasses.{ValueEquivalenceClasses}
+use Rattle.value_classes.specs.declared.Members.{Members}
+use Rattle.value_classes.proofs.RootLaws.{each-at}
+use Rattle.value_classes.proofs.MemberLaws.{first-at-least, first-at-most, first-member, first-skips}
+use Rattle.value_classes.proofs.Unions.{left-out}
+use Rattle.constraints.specs.Sets.{handles, handleAt, withResiduals, unionValues, hasHandle, roomFor, pushResidual, done, refusedWith, addResidual, stepsTo, joinMember, joinClass, mergeResidual, mergeClasses, mergeLiterals, mergeRanges, mergeNonNulls, mergeValues, normalized, mergedSet, roomTo, mergeRoom, mergeFrom}
+use Rattle.constraints.specs.declared.ConstraintSet.{ConstraintSet}
+use Rattle.constraints.specs.declared.Applied.{Applied}
+use Rattle.constraints.proofs.Steps.{steps-skip}
+use Rattle.constraints.proofs.Operations.{union-one}
+use Rattle.constraints.proofs.Merge.{merge-done, merge-refused}
+use Rattle.constraint_set.specs.Chained.{secondOf, chained}
+use Rattle.constraint_set.specs.Kept.{hasIn, keptBy, residualsKept}
+use Rattle.constraint_set.specs.declared.Kept.{Kept}
+use Rattle.constraint_set.proofs.Loops.{steps-next}
+
+-- one identity united with itself
+union-self : (t : ConstraintSet) (r : ℕ) → unionValues t r r ≡ t
+unfolding unionValues
+union-self t r = elim (decLt r 128) [
+  | yes h ↦ union-one t r r h h refl
+  | no h ↦ rw (← left-out (t .«equivalence_classes») r r (omega arith))
+]
+
+-- past the identities there is no member
+pub chained-past : (ms : Members) (r n m : ℕ) (t : ConstraintSet) → 128 ≤ m → t ≡ chained ms r n m t
+unfolding chained
+chained-past ms r zero m t h = refl
+chained-past ms r (suc n) m t h = rw (le-ltb _ _ h)
+
+pub chained-none : (ms : Members) (r n m : ℕ) (t : ConstraintSet) → n ≡ 0 → t ≡ chained ms r n m t
+unfolding chained
+chained-none ms r n m t e = rw e
+
+pub chained-step : (ms : Members) (r n m : ℕ) (t u : ConstraintSet) → 0 < n → m < 128 → u ≡ unionValues t r m → chained ms r (n - 1) (getD (ms .next) m 0) u ≡ chained ms r n m t
+unfolding chained
+chained-step ms r zero m t u z h e = absurd (omega arith)
+chained-step ms r (suc n) m t u z h e = let d : suc n - 1 ≡ n = omega arith in rw (d, lt-ltb _ _ h, e)
+
+module _ (c : ValueEquivalenceClasses) (r : ℕ) where
+  abbrev p : List ℕ
+  p = c .parents
+
+  abbrev ms : Members
+  ms = membersOf c
+
+  abbrev f : ℕ → ConstraintSet → ConstraintSet
+  f = joinMember c r
+
+  next-at : (m : ℕ) → m < 128 → getD (ms .next) m 0 ≡ nextMember p m
+  unfolding membersOf
+  next-at m h = each-at (λ (i : ℕ). nextMember (c .parents) i) 128 m h
+
+  first-at : r < 128 → getD (ms .first) r 0 ≡ firstMember p r 0
+  unfolding membersOf
+  first-at h = each-at (λ (i : ℕ). firstMember (c .parents) i 0) 128 r h
+
+  idle : (j : ℕ) (t : ConstraintSet) → (rootOf p j ≡ r → ⊥) → f j t ≡ t
+  idle j t d = rw (ne-eqb _ _ d)
+
+  joins : (m : ℕ) (t : ConstraintSet) → rootOf p m ≡ r → f m t ≡ unionValues t r m
+  joins m t e = elim (ℕ-discrete m r) [
+    | yes d ↦ rw (eq-eqb _ _ e, eq-eqb _ _ d, d) (sym (union-self t r))
+    | no d ↦ rw (eq-eqb _ _ e, ne-eqb _ _ d)
+  ]
+
+  -- from a member to the next
+  to-next : (m : ℕ) (t : ConstraintSet) → m < 128 → rootOf p m ≡ r → unionValues (stepsTo f m t) r m ≡ stepsTo f (nextMember p m) t
+  unfolding stepsTo
+  to-next m t h e =
+      let lo : suc m ≤ nextMember p m = omega (arith, first-at-least p (rootOf p m) (m + 1)) in
+      sym (joins m (stepsTo f m t) e)
+      ∙ sym (steps-skip f t (nextMember p m) (suc m) lo (λ j a b u. idle j u (λ d. first-skips p (rootOf p m) (m + 1) j (omega arith) b (d ∙ sym e))))
+
+  chain-all : (n m : ℕ) (t : ConstraintSet) → 128 ≤ m + n → m ≤ 128 → (m < 128 → rootOf p m ≡ r) → chained ms r n m (stepsTo f m t) ≡ stepsTo f 128 t
+  unfolding chained
+  chain-all zero m t lo hi e = let d : m ≡ 128 = omega arith in rw d
+  chain-all (suc n) m t lo hi e = elim (decLt m 128) [
+    | yes h ↦ (let g = e h in
+        rw (lt-ltb _ _ h, next-at m h, to-next m t h g)
+        (chain-all n (nextMember p m) t (omega (arith, first-at-least p (rootOf p m) (m + 1))) (first-at-most p (rootOf p m) (m + 1) (omega arith)) (λ b. first-member p (rootOf p m) (m + 1) (omega arith) b ∙ g)))
+    | no h ↦ (let d : m ≡ 128 = omega arith in rw (le-ltb m 128 (omega arith), d))
+  ]
+
+  none-before : (m : ℕ) (t : ConstraintSet) → ((j : ℕ) → j < m → rootOf p j ≡ r → ⊥) → stepsTo f m t ≡ t
+  none-before m t d = steps-skip f t m 0 (omega arith) (λ j a b u. idle j u (d j b)) ∙ (unfold stepsTo in refl)
+
+  -- the whole class, from its second member on
+  chain-class : r < 128 → (t : ConstraintSet) → chained ms r 128 (secondOf ms r) t ≡ joinClass c r t
+  chain-class h t = elim (ℕ-discrete (firstMember p r 0) r) [
+    | yes e ↦ (let own = subst (λ (x : ℕ). rootOf p x ≡ r) e (first-member p r 0 (omega arith) (omega arith)) in
+        let start : stepsTo f (nextMember p r) t ≡ t = sym (to-next r t h own) ∙ ap (λ (u : ConstraintSet). unionValues u r r) (none-before r t (λ j b d. first-skips p r 0 j (omega arith) (omega arith) d)) ∙ union-self t r in
+        rw (first-at h, eq-eqb _ _ e, next-at r h)
+        (subst (λ (u : ConstraintSet). chained ms r 128 (nextMember p r) u ≡ joinClass c r t) start
+        (chain-all 128 (nextMember p r) t (omega arith) (first-at-most p (rootOf p r) (r + 1) (omega arith)) (λ b. first-member p (rootOf p r) (r + 1) (omega arith) b ∙ own))))
+    | no d ↦ rw (first-at h, ne-eqb _ _ d)
+        (subst (λ (u : ConstraintSet). chained ms r 128 (firstMember p r 0) u ≡ joinClass c r t) (none-before (firstMember p r 0) t (λ j b g. first-skips p r 0 j (omega arith) b g))
+        (chain-all 128 (firstMember p r 0) t (omega arith) (first-at-most p r 0 (omega arith)) (λ b. first-member p r 0 (omega arith) b)))
+  ]
+
+-- one class as the code goes through it
+abbrev pub joinChain : Members → ℕ → ConstraintSet → ConstraintSet
+joinChain ms r t = chained ms r 128 (secondOf ms r) t
+
+-- all classes
+pub classes-joined : (c : ValueEquivalenceClasses) (s : ConstraintSet) (n : ℕ) → n ≤ 128 → stepsTo (joinChain (membersOf c)) n s ≡ stepsTo (joinClass c) n s
+unfolding stepsTo
+classes-joined c s zero h = refl
+classes-joined c s (suc n) h = chain-class c n (omega arith) (stepsTo (joinChain (membersOf c)) n s) ∙ ap (joinClass c n) (classes-joined c s n (omega arith))
+
+-- ---- residuals
+module _ (s : ConstraintSet) (h : ℕ) where
+  abbrev k : Kept
+  k = keptBy (handles s) (s .residuals) h
+
+  -- by whether it is there, and whether there is room
+  abbrev by : Bool → Bool → Kept
+  by a b =
+      cond a (record { list = handles s; count = s .residuals; refused = false })
+      (cond b (record { list = set (handles s) (s .residuals) h; count = s .residuals + 1; refused = false }) (record { list = handles s; count = s .residuals; refused = true }))
+
+  -- a handle pushed by itself
+  pub kept-set : withResiduals s (k .list) (k .count) ≡ pushResidual s h
+  unfolding keptBy pushResidual
+  kept-set = go (hasHandle s h) (ltb (s .residuals) 64)
+    where
+      go : (a b : Bool) → withResiduals s (by a b .list) (by a b .count) ≡ cond a s (cond b (withResiduals s (set (handles s) (s .residuals) h) (s .residuals + 1)) s)
+      go true b = refl
+      go false true = refl
+      go false false = refl
+
+  pub kept-refused : k .refused ≡ not (roomFor s h)
+  unfolding keptBy
+  kept-refused = go (hasHandle s h) (ltb (s .residuals) 64)
+    where
+      go : (a b : Bool) → by a b .refused ≡ not (a || b)
+      go true b = refl
+      go false true = refl
+      go false false = refl
+
+-- `add_residual` is a handle pushed, with whether there was room
+added : (s : ConstraintSet) (h : ℕ) → record { constraints = pushResidual s h; refused = not (roomFor s h) } ≡ addResidual s h
+unfolding addResidual pushResidual
+added s h = go (hasHandle s h) (ltb (s .residuals) 64)
+  where
+    push : Bool → Bool → ConstraintSet
+    push a b = cond a s (cond b (withResiduals s (set (handles s) (s .residuals) h) (s .residuals + 1)) s)
+
+    go : (a b : Bool) → record { constraints = push a b; refused = not (a || b) } ≡ cond (a || b) (done (push a b)) (refusedWith s)
+    go true b = refl
+    go false true = refl
+    go false false = refl
+
+pub residual-added : (s : ConstraintSet) (h : ℕ) (k : Kept) → k ≡ keptBy (handles s) (s .residuals) h → record { constraints = withResiduals s (k .list) (k .count); refused = k .refused } ≡ addResidual s h
+residual-added s h k e = rw e (λ i. record { constraints = kept-set s h i; refused = kept-refused s h i }) ∙ added s h
+
+-- one turn of the loop over the residuals of b
+module _ (t b : ConstraintSet) (i : ℕ) (list : List ℕ) (count : ℕ) (refused : Bool) (k : Kept)
+    (es : withResiduals t list count ≡ stepsTo (mergeResidual b) i t) (er : refused ≡ not (roomTo t b i)) (ek : k ≡ keptBy list count (handleAt b i)) where
+  abbrev u : ConstraintSet
+  u = withResiduals t list count
+
+  pub handle-pushed : withResiduals t (k .list) (k .count) ≡ stepsTo (mergeResidual b) (i + 1) t
+  handle-pushed = steps-next (mergeResidual b) t i u (withResiduals t (k .list) (k .count)) es (rw ek (kept-set u (handleAt b i)))
+
+  pub handle-refused : (refused || k .refused) ≡ not (roomTo t b (i + 1))
+  unfolding roomTo
+  handle-refused =
+      rw (add-one, er, ek, ← es, kept-refused u (handleAt b i)) (turn (roomTo t b i) (roomFor u (handleAt b i)))
+    where
+      turn : (x y : Bool) → (not x || not y) ≡ not (x && y)
+      turn true y = refl
+      turn false y = refl
+
+-- ---- the parts of a merge put together
+module _ (a b t1 t2 t3 t4 : ConstraintSet) (m : Applied)
+    (e1 : t1 ≡ mergeClasses a b) (e2 : t2 ≡ mergeLiterals t1 b) (e3 : t3 ≡ mergeRanges t2 b) (e4 : t4 ≡ mergeNonNulls t3 b) (em : m ≡ residualsKept t4 b) where
+  whole : m ≡ residualsKept (mergeValues a b) b
+  whole = rw (em, e4, e3, e2, e1)
+
+  room : (x : Bool) → m .refused ≡ not x → mergeRoom a b ≡ x
+  unfolding mergeRoom residualsKept
+  room x e = turn (roomTo (mergeValues a b) b (min (b .residuals) 64)) x (sym (ap (λ (y : Applied). y .refused) whole) ∙ e)
+    where
+      turn : (y x : Bool) → not y ≡ not x → y ≡ x
+      turn true true e = refl
+      turn true false e = sym e
+      turn false true e = sym e
+      turn false false e = refl
+
+  pub told-refused : m .refused ≡ true → refusedWith a ≡ mergeFrom a b
+  told-refused e = sym (merge-refused a b (room false e))
+
+  pub told-done : m .refused ≡ false → (n : ConstraintSet) → n ≡ normalized (m .constraints) → done n ≡ mergeFrom a b
+  unfolding mergedSet residualsKept
+  told-done e n en = ap done (en ∙ ap (λ (y : Applied). normalized (y .constraints)) whole) ∙ sym (merge-done a b (room true e))

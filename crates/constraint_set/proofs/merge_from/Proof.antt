@@ -1,0 +1,41 @@
+use Rattle.constraint_set.proofs.Merging.{told-refused, told-done}
+use borrow.Author.Needs.{needs}
+use Rattle.constraint_set.proofs.merge_from.Statement.{statement}
+use Rattle.constraint_set.proofs.merge_from.Tie as tie
+
+merge-classes-requires : tie.Need-merge-classes-requires
+merge-classes-requires c κs = search needs
+
+merge-literals-requires : tie.Need-merge-literals-requires
+merge-literals-requires c κs = search needs
+
+merge-ranges-requires : tie.Need-merge-ranges-requires
+merge-ranges-requires c κs = search needs
+
+merge-non-nulls-requires : tie.Need-merge-non-nulls-requires
+merge-non-nulls-requires c κs = search needs
+
+merge-residuals-requires : tie.Need-merge-residuals-requires
+merge-residuals-requires c κs = search needs
+
+returns : tie.Need-returns
+returns c = told-refused (c .before .before .before .before .before .before .args .a) (c .before .before .before .before .before .before .args .b) _ _ _ _ (c .before .merge-residuals .result) (c .before .before .before .before .before .merge-classes .ensures) (c .before .before .before .before .merge-literals .ensures) (c .before .before .before .merge-ranges .ensures) (c .before .before .merge-non-nulls .ensures) (c .before .merge-residuals .ensures) (c .if1 .taken)
+
+normalize-requires : tie.Need-normalize-requires
+normalize-requires c κs = search needs
+
+returns-2 : tie.Need-returns-2
+returns-2 c = told-done (c .before .before .before .before .before .before .before .before .args .a) (c .before .before .before .before .before .before .before .before .args .b) _ _ _ _ (c .before .before .before .merge-residuals .result) (c .before .before .before .before .before .before .before .merge-classes .ensures) (c .before .before .before .before .before .before .merge-literals .ensures) (c .before .before .before .before .before .merge-ranges .ensures) (c .before .before .before .before .merge-non-nulls .ensures) (c .before .before .before .merge-residuals .ensures) (c .before .before .if1 .left) _ (c .normalize .ensures)
+
+pub merge-from-spec : {M : Type 1} → statement M
+merge-from-spec =
+    tie.close
+    (tie.spec
+    merge-classes-requires
+    merge-literals-requires
+    merge-ranges-requires
+    merge-non-nulls-requires
+    merge-residuals-requires
+    returns
+    normalize-requires
+    returns-2)

@@ -1,0 +1,98 @@
+use Rattle.constraints.specs.Sets.{entryOf}
+use Rattle.constraint_set.proofs.Loops.{steps-next, range-laid, range-left}
+use Rattle.value_classes.proofs.RootLaws.{root-below}
+use lib.ListN.{length}
+use mathlib.Core.Logic.{⊎-elim}
+use Prim.Native.Nat.{_<_}
+use borrow.Author.Needs.{needs}
+use Rattle.constraints.specs.Sets.{withRanges, stepsTo, mergeRange, mergeRanges}
+use native.Mathlib.Omega.{arith}
+use mathlib.Core.Path.{_≡_, refl, ap, _∙_}
+use Prim.Native.Nat.{_≤_, _-_}
+use Rattle.constraint_set.proofs.merge_ranges.Statement.{statement}
+use Rattle.constraint_set.proofs.merge_ranges.Tie as tie
+
+abbrev Inv-loop : tie.InvT-loop
+Inv-loop t b classes ranges₀ i₀ ranges i = (i ≤ 128) × (withRanges t ranges ≡ stepsTo (mergeRange b) i t)
+
+abbrev μ-loop : tie.MeasureT-loop
+μ-loop t b classes ranges₀ i₀ ranges i = 128 - i
+
+long : (c : tie.Start Inv-loop μ-loop) → length (c .args .t .«equivalence_classes» .parents) ≡ 128
+long c = search needs
+
+small : (c : tie.After-canonical Inv-loop μ-loop) → c .canonical .result < 128
+small c = root-below _ 128 _ _ (long (c .before .before .before .before .before .before .before .before)) (c .canonical .ensures) (omega arith)
+
+loop-holds : tie.Need-loop-holds Inv-loop μ-loop
+unfolding stepsTo
+loop-holds c = (omega arith, refl)
+
+mul-e : tie.Need-mul-e Inv-loop μ-loop
+mul-e c = search needs
+
+element-copy-out-e : tie.Need-element-copy-out-e Inv-loop μ-loop
+element-copy-out-e c = search needs
+
+canonical-requires : tie.Need-canonical-requires Inv-loop μ-loop
+canonical-requires c κs = search needs
+
+mul-was : tie.Need-mul-was Inv-loop μ-loop
+mul-was c = omega (arith, small c)
+
+array-copy-out-was : tie.Need-array-copy-out-was Inv-loop μ-loop
+array-copy-out-was c = small c
+
+tightened-requires : tie.Need-tightened-requires Inv-loop μ-loop
+tightened-requires c κs = search needs
+
+entry-of-requires : tie.Need-entry-of-requires Inv-loop μ-loop
+entry-of-requires c κs = search needs
+
+mul-ranges : tie.Need-mul-ranges Inv-loop μ-loop
+mul-ranges c = omega (arith, small (c .before .before .before))
+
+array-set-from-ranges : tie.Need-array-set-from-ranges Inv-loop μ-loop
+array-set-from-ranges c = small (c .before .before .before)
+
+add-i : tie.Need-add-i Inv-loop μ-loop
+add-i c = search needs
+
+loop-less : tie.Need-loop-less Inv-loop μ-loop
+loop-less c = search needs
+
+loop-again : tie.Need-loop-again Inv-loop μ-loop
+loop-again c =
+    let v = c .before .before .before .loop .inv in
+    ⊎-elim
+    (λ w. (
+      omega arith,
+      rw (w .6) (steps-next (mergeRange (c .before .before .before .before .before .before .args .t2)) _ (c .before .before .before .loop .i) _ _ (v .1) (range-laid (c .before .before .before .before .before .before .args .t) (c .before .before .before .loop .i) (c .before .before .before .before .before .before .args .t2) (c .before .before .before .loop .ranges) _ _ (w .0 .taken) (w .2 .ensures) (w .5 .ensures ∙ ap entryOf (w .4 .ensures)))),
+    ))
+    (λ w. (omega arith, rw (w .1) (steps-next (mergeRange (c .before .before .before .before .before .before .args .t2)) _ (c .before .before .before .loop .i) _ _ (v .1) (range-left (c .before .before .before .before .before .before .args .t) (c .before .before .before .loop .i) (c .before .before .before .before .before .before .args .t2) (c .before .before .before .loop .ranges) (w .0 .left)))))
+    (c .if1 .came)
+
+returns : tie.Need-returns Inv-loop μ-loop
+unfolding mergeRanges
+returns c = let e : c .before .loop .i ≡ 128 = omega arith in rw e at (c .before .loop .inv .1)
+
+pub merge-ranges-spec : {M : Type 1} → statement M
+merge-ranges-spec =
+    tie.close
+    (tie.spec
+    Inv-loop
+    μ-loop
+    loop-holds
+    mul-e
+    element-copy-out-e
+    canonical-requires
+    mul-was
+    array-copy-out-was
+    tightened-requires
+    entry-of-requires
+    mul-ranges
+    array-set-from-ranges
+    add-i
+    loop-less
+    loop-again
+    returns)

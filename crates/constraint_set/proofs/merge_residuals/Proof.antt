@@ -1,0 +1,67 @@
+use borrow.Author.Needs.{needs}
+use Rattle.constraint_set.specs.Kept.{residualsKept}
+use Rattle.constraints.specs.Sets.{withResiduals, stepsTo, mergeResidual, mergeResiduals, roomTo}
+use native.Mathlib.Omega.{arith}
+use mathlib.Core.Logic.{⊎-elim}
+use mathlib.Core.Bool.{not}
+use Prim.Native.Nat.{_≤_, _-_, min}
+use Rattle.constraint_set.proofs.Merging.{handle-pushed, handle-refused}
+use mathlib.Core.Path.{_≡_, refl}
+use Rattle.constraint_set.proofs.merge_residuals.Statement.{statement}
+use Rattle.constraint_set.proofs.merge_residuals.Tie as tie
+
+abbrev Inv-loop : tie.InvT-loop
+Inv-loop t b all n list₀ count₀ refused₀ i₀ list count refused i = (i ≤ n) × (n ≡ min all 64) × (withResiduals t list count ≡ stepsTo (mergeResidual b) i t) × (refused ≡ not (roomTo t b i))
+
+abbrev μ-loop : tie.MeasureT-loop
+μ-loop t b all n list₀ count₀ refused₀ i₀ list count refused i = n - i
+
+loop-holds : tie.Need-loop-holds Inv-loop μ-loop
+unfolding stepsTo roomTo
+loop-holds c = (omega arith, ⊎-elim (λ w. omega arith) (λ w. omega arith) (c .before .if1 .came), refl, refl)
+
+mul-h : tie.Need-mul-h Inv-loop μ-loop
+mul-h c = search needs
+
+element-copy-out-h : tie.Need-element-copy-out-h Inv-loop μ-loop
+element-copy-out-h c = search needs
+
+push-handle-requires : tie.Need-push-handle-requires Inv-loop μ-loop
+push-handle-requires c κs = search needs
+
+add-i : tie.Need-add-i Inv-loop μ-loop
+add-i c = search needs
+
+loop-less : tie.Need-loop-less Inv-loop μ-loop
+loop-less c = search needs
+
+loop-again : tie.Need-loop-again Inv-loop μ-loop
+loop-again c =
+    let v = c .before .before .before .before .loop .inv in (
+      omega arith,
+      v .1,
+      handle-pushed (c .before .before .before .before .before .before .before .args .t) (c .before .before .before .before .before .before .before .args .t2) (c .before .before .before .before .loop .i) (c .before .before .before .before .loop .list) (c .before .before .before .before .loop .count) (c .before .before .before .before .loop .refused) (c .before .push-handle .result) (v .2) (v .3) (c .before .push-handle .ensures),
+      handle-refused (c .before .before .before .before .before .before .before .args .t) (c .before .before .before .before .before .before .before .args .t2) (c .before .before .before .before .loop .i) (c .before .before .before .before .loop .list) (c .before .before .before .before .loop .count) (c .before .before .before .before .loop .refused) (c .before .push-handle .result) (v .2) (v .3) (c .before .push-handle .ensures),
+    )
+
+returns : tie.Need-returns Inv-loop μ-loop
+unfolding residualsKept mergeResiduals
+returns c =
+    let v = c .before .loop .inv in
+    let e : c .before .loop .i ≡ min (c .before .before .before .before .args .t2 .residuals) 64 = omega arith in
+    λ k. record { constraints = (rw e at (v .2)) k; refused = (rw e at (v .3)) k }
+
+pub merge-residuals-spec : {M : Type 1} → statement M
+merge-residuals-spec =
+    tie.close
+    (tie.spec
+    Inv-loop
+    μ-loop
+    loop-holds
+    mul-h
+    element-copy-out-h
+    push-handle-requires
+    add-i
+    loop-less
+    loop-again
+    returns)

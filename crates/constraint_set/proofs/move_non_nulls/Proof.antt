@@ -1,0 +1,70 @@
+use Rattle.constraint_set.proofs.Loops.{null-moved, null-idle, nulls-done}
+use Rattle.value_classes.proofs.RootLaws.{root-below}
+use lib.ListN.{length}
+use Prim.Native.Nat.{_<_}
+use mathlib.Core.Logic.{⊎-elim}
+use Rattle.constraint_set.proofs.Loops.{nullsAfter}
+use borrow.Author.Needs.{needs}
+use Rattle.constraints.specs.Sets.{withNonNulls, stepsTo}
+use native.Mathlib.Omega.{arith}
+use mathlib.Core.Path.{_≡_, refl, _∙_}
+use Prim.Native.Nat.{_≤_, _-_}
+use Rattle.constraint_set.proofs.move_non_nulls.Statement.{statement}
+use Rattle.constraint_set.proofs.move_non_nulls.Tie as tie
+
+abbrev Inv-loop : tie.InvT-loop
+Inv-loop s classes old flags₀ i₀ flags i = (i ≤ 128) × (withNonNulls s flags ≡ nullsAfter s i)
+
+abbrev μ-loop : tie.MeasureT-loop
+μ-loop s classes old flags₀ i₀ flags i = 128 - i
+
+long : (c : tie.Start Inv-loop μ-loop) → length (c .args .s .«equivalence_classes» .parents) ≡ 128
+long c = search needs
+
+small : (c : tie.After-canonical Inv-loop μ-loop) → c .canonical .result < 128
+small c = root-below _ 128 _ _ (long (c .before .before .before .before .before .before)) (c .canonical .ensures) (omega arith)
+
+loop-holds : tie.Need-loop-holds Inv-loop μ-loop
+unfolding nullsAfter stepsTo
+loop-holds c = (omega arith, refl)
+
+array-read-if1 : tie.Need-array-read-if1 Inv-loop μ-loop
+array-read-if1 c = search needs
+
+canonical-requires : tie.Need-canonical-requires Inv-loop μ-loop
+canonical-requires c κs = search needs
+
+array-write-flags : tie.Need-array-write-flags Inv-loop μ-loop
+array-write-flags c = small c
+
+add-i : tie.Need-add-i Inv-loop μ-loop
+add-i c = search needs
+
+loop-less : tie.Need-loop-less Inv-loop μ-loop
+loop-less c = search needs
+
+loop-again : tie.Need-loop-again Inv-loop μ-loop
+loop-again c =
+    let v = c .before .before .loop .inv in
+    ⊎-elim
+    (λ w. (omega arith, rw (w .2) (null-moved (c .before .before .before .before .before .args .s) (c .before .before .loop .i) (c .before .before .loop .flags) _ (v .1) (w .0 .taken) (w .1 .ensures))))
+    (λ w. (omega arith, rw (w .1) (null-idle (c .before .before .before .before .before .args .s) (c .before .before .loop .i) _ (v .1) (w .0 .left))))
+    (c .if1 .came)
+
+returns : tie.Need-returns Inv-loop μ-loop
+returns c = c .before .loop .inv .1 ∙ nulls-done (c .before .before .before .before .args .s) (c .before .loop .i) (omega arith)
+
+pub move-non-nulls-spec : {M : Type 1} → statement M
+move-non-nulls-spec =
+    tie.close
+    (tie.spec
+    Inv-loop
+    μ-loop
+    loop-holds
+    array-read-if1
+    canonical-requires
+    array-write-flags
+    add-i
+    loop-less
+    loop-again
+    returns)

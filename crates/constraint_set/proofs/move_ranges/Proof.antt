@@ -1,0 +1,105 @@
+use Rattle.constraint_set.proofs.Loops.{range-moved, range-idle, ranges-done}
+use Rattle.value_classes.proofs.RootLaws.{root-below}
+use lib.ListN.{length}
+use Prim.Native.Nat.{_<_}
+use mathlib.Core.Logic.{⊎-elim}
+use Rattle.constraint_set.proofs.Loops.{rangesAfter}
+use borrow.Author.Needs.{needs}
+use Rattle.constraints.specs.Sets.{withFlag, withRanges, stepsTo}
+use native.Mathlib.Omega.{arith}
+use mathlib.Core.Path.{_≡_, _∙_}
+use Prim.Native.Nat.{_≤_, _-_}
+use Rattle.constraint_set.proofs.move_ranges.Statement.{statement}
+use Rattle.constraint_set.proofs.move_ranges.Tie as tie
+
+abbrev Inv-loop : tie.InvT-loop
+Inv-loop s classes ranges₀ flag₀ i₀ ranges flag i = (i ≤ 128) × (withFlag (withRanges s ranges) flag ≡ rangesAfter s i)
+
+abbrev μ-loop : tie.MeasureT-loop
+μ-loop s classes ranges₀ flag₀ i₀ ranges flag i = 128 - i
+
+long : (c : tie.Start Inv-loop μ-loop) → length (c .args .t1 .«equivalence_classes» .parents) ≡ 128
+long c = search needs
+
+small : (c : tie.After-canonical Inv-loop μ-loop) → c .canonical .result < 128
+small c = root-below _ 128 _ _ (long (c .before .before .before .before .before .before .before .before)) (c .canonical .ensures) (omega arith)
+
+empty-requires : tie.Need-empty-requires Inv-loop μ-loop
+empty-requires c κs = search needs
+
+loop-holds : tie.Need-loop-holds Inv-loop μ-loop
+unfolding rangesAfter stepsTo
+loop-holds c = (omega arith, rw (c .empty .ensures))
+
+mul-e : tie.Need-mul-e Inv-loop μ-loop
+mul-e c = search needs
+
+element-copy-out-e : tie.Need-element-copy-out-e Inv-loop μ-loop
+element-copy-out-e c = search needs
+
+canonical-requires : tie.Need-canonical-requires Inv-loop μ-loop
+canonical-requires c κs = search needs
+
+mul-was : tie.Need-mul-was Inv-loop μ-loop
+mul-was c = omega (arith, small c)
+
+array-copy-out-was : tie.Need-array-copy-out-was Inv-loop μ-loop
+array-copy-out-was c = small c
+
+tightened-requires : tie.Need-tightened-requires Inv-loop μ-loop
+tightened-requires c κs = search needs
+
+is-empty-requires : tie.Need-is-empty-requires Inv-loop μ-loop
+is-empty-requires c κs = search needs
+
+entry-of-requires : tie.Need-entry-of-requires Inv-loop μ-loop
+entry-of-requires c κs = search needs
+
+mul-ranges : tie.Need-mul-ranges Inv-loop μ-loop
+mul-ranges c = omega (arith, small (c .before .before .before .before))
+
+array-set-from-ranges : tie.Need-array-set-from-ranges Inv-loop μ-loop
+array-set-from-ranges c = small (c .before .before .before .before)
+
+add-i : tie.Need-add-i Inv-loop μ-loop
+add-i c = search needs
+
+loop-less : tie.Need-loop-less Inv-loop μ-loop
+loop-less c = search needs
+
+loop-again : tie.Need-loop-again Inv-loop μ-loop
+loop-again c =
+    let v = c .before .before .before .loop .inv in
+    ⊎-elim
+    (λ w. (
+      omega arith,
+      rw (w .7, w .8) (range-moved (c .before .before .before .before .before .before .args .t1) (c .before .before .before .loop .i) (c .before .before .before .loop .ranges) (c .before .before .before .loop .flag) _ _ _ _ (v .1) (w .0 .taken) (w .2 .ensures) (w .4 .ensures) (w .5 .ensures) (w .6 .ensures)),
+    ))
+    (λ w. (omega arith, rw (w .1, w .2) (range-idle (c .before .before .before .before .before .before .args .t1) (c .before .before .before .loop .i) _ (v .1) (w .0 .left))))
+    (c .if1 .came)
+
+returns : tie.Need-returns Inv-loop μ-loop
+returns c = c .before .loop .inv .1 ∙ ranges-done (c .before .before .before .before .args .t1) (c .before .loop .i) (omega arith)
+
+pub move-ranges-spec : {M : Type 1} → statement M
+move-ranges-spec =
+    tie.close
+    (tie.spec
+    Inv-loop
+    μ-loop
+    empty-requires
+    loop-holds
+    mul-e
+    element-copy-out-e
+    canonical-requires
+    mul-was
+    array-copy-out-was
+    tightened-requires
+    is-empty-requires
+    entry-of-requires
+    mul-ranges
+    array-set-from-ranges
+    add-i
+    loop-less
+    loop-again
+    returns)

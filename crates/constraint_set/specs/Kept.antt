@@ -1,0 +1,24 @@
+-- The residual handles by themselves: a list with a count. Assumes nothing.
+use Prim.Native.Nat.{ℕ, _+_, min}
+use mathlib.Core.Bool.{Bool, true, false, not, cond}
+use mathlib.Core.List.{List}
+use lib.Dec.{ltb, eqb}
+use lib.ListN.{getD, set}
+use Rattle.lists.specs.Ranges.{anyFrom}
+use Rattle.constraints.specs.Sets.{mergeResiduals, roomTo}
+use Rattle.constraints.specs.declared.ConstraintSet.{ConstraintSet}
+use Rattle.constraints.specs.declared.Applied.{Applied}
+use Rattle.constraint_set.specs.declared.Kept.{Kept}
+
+abbrev pub hasIn : List ℕ → ℕ → ℕ → Bool
+hasIn l n h = anyFrom (λ (k : ℕ). eqb (getD l k 0) h) 0 (min n 64)
+
+-- a handle at the end, once for each, where there is room
+unfoldable pub keptBy : List ℕ → ℕ → ℕ → Kept
+keptBy l n h =
+    cond (hasIn l n h) (record { list = l; count = n; refused = false })
+    (cond (ltb n 64) (record { list = set l n h; count = n + 1; refused = false }) (record { list = l; count = n; refused = true }))
+
+-- the residuals of b after those of t, and whether one did not find room
+unfoldable pub residualsKept : ConstraintSet → ConstraintSet → Applied
+residualsKept t b = record { constraints = mergeResiduals t b; refused = not (roomTo t b (min (b .residuals) 64)) }
