@@ -1,0 +1,5 @@
+pub mod Guards
+pub mod Tables
+pub mod Entries
+pub mod Rests
+pub mod Stepping
