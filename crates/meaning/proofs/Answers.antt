@@ -179,7 +179,7 @@ module _ (p : Plan) (wide : Wide p) (row : WholeRow) where
         back = λ m. apply-back p wide f k e (q .0) row c (r .back m);
         exact = λ x m. (
           apply-exact p wide f k e (q .0) row c (x .0) .0 (r .back m) .1,
-          r .exact (subst (λ (l : List ℕ). AllOf (λ (e : Expr). ExactPredicate p l (row .ids) (e .0)) es) (sym same) (x .1)) m
+          r .exact (subst (λ (l : List ℕ). AllOf (λ (e : Expr). ExactPredicate p l (row .ids) (e .0)) es) (sym same) (x .1)) m,
         );
       }
 

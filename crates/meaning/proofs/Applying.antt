@@ -355,7 +355,9 @@ module _ (node : ℕ → ExprData) (items : List ℕ) (typed : (h : ℕ) → Typ
       go true k n r w u = absurd (T-not (a .refused) (r u .0) (k tt))
       go false k n r w u =
           let j = w u in
-          let next = conjunctApplied lineage node (a .constraints) h in
-          (n tt, λ g.
-            let first = conjunct-step (a .constraints) g h (b .0) (j .0) in
-            step-then (a .constraints) (next .constraints) (allApplied (conjunctApplied lineage node) hs next .constraints) (O h) (AllOf O hs) (E h) (AllOf E hs) first (j .1 (first .good)))
+          let next = conjunctApplied lineage node (a .constraints) h in (
+            n tt,
+            λ g.
+                let first = conjunct-step (a .constraints) g h (b .0) (j .0) in
+                step-then (a .constraints) (next .constraints) (allApplied (conjunctApplied lineage node) hs next .constraints) (O h) (AllOf O hs) (E h) (AllOf E hs) first (j .1 (first .good)),
+          )

@@ -154,10 +154,9 @@ module _ (node : ℕ → ExprData) (items : List ℕ) (row : WholeRow) where
             → AllOf O (joinedOf (cons h) es) → AllOf (λ (e : ℕ). truthOf (valueIn (vals h) e) ≡ 2) es
         joined h hn ih [] b a = tt
         joined h hn ih (e ∷ es) b a =
-            let m = joinedOf (cons h) es in
-            (
+            let m = joinedOf (cons h) es in (
               ap truthOf (value-before (row .cols) node items h e (b .0))
-              ∙ ih e (b .0) (omega (arith, b .0, hn)) (subst (AllOf O) (conjuncts-before node items h e (b .0)) (all-left O (getD (cons h) e []) m a)),
+                  ∙ ih e (b .0) (omega (arith, b .0, hn)) (subst (AllOf O) (conjuncts-before node items h e (b .0)) (all-left O (getD (cons h) e []) m a)),
               joined h hn ih es (b .1) (all-right O (getD (cons h) e []) m a),
             )
 

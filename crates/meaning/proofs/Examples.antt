@@ -117,7 +117,7 @@ mixed-case = (
   mixed-accepted,
   (
     subst (Meets (On mixedPlan (everywhere (S.Int64 (pos 3)))) threes) (sym mixed-facts) (mixed-meets (On mixedPlan (everywhere (S.Int64 (pos 3))))),
-    λ e. let z = sym mixed-truth ∙ e in absurd (omega (arith, z))
+    λ e. let z = sym mixed-truth ∙ e in absurd (omega (arith, z)),
   ),
 )
 
