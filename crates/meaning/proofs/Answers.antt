@@ -34,6 +34,7 @@ use Rattle.meaning.proofs.Predicates.{predicate-good, predicate-sound, 
 other-outcome : {X : Type 0} (o : Outcome) → (refusalOf o ≡ 0 → ⊥) → o ≡ Accepted → X
 other-outcome o f e = absurd (f (ap refusalOf e))
 
+-- what an accepted answer of `apply_predicate` was made of
 pub record Parts (p : Plan) (f : LogicalFacts) (e : Expr) : Type 0 where
   pub plan : planOk p ≡ true
   pub handle : e .0 < p .expressions .count
@@ -41,6 +42,7 @@ pub record Parts (p : Plan) (f : LogicalFacts) (e : Expr) : Type 0 where
   pub room : T (not (predicateApplied p (f .lineage) (f .constraints) (e .0) .refused))
   pub is : applyPredicate p f e .facts ≡ withConstraints f (predicateApplied p (f .lineage) (f .constraints) (e .0) .constraints)
 
+-- an accepted answer was made of these. Assumes nothing
 pub apply-parts : (p : Plan) (f : LogicalFacts) (e : Expr) → applyPredicate p f e .outcome ≡ Accepted → Parts p f e
 unfolding applyPredicate
 apply-parts p f e = go (planOk p && (ltb (e .0) (p .expressions .count) && factsOk p f)) refl
@@ -90,6 +92,7 @@ lineage-right : (p : Plan) (f : LogicalFacts) → factsOk p f ≡ true → allFr
 unfolding factsOk
 lineage-right p f e = and-left _ _ e
 
+-- every identity that a lineage names is one of the 128. Assumes a plan and facts that pass their tests
 pub facts-within : (p : Plan) (f : LogicalFacts) → planOk p ≡ true → factsOk p f ≡ true → length (f .lineage) ≡ 64 → Within (f .lineage)
 facts-within p f ok e long c t = elim (decLt c 64) [
   | yes l ↦
@@ -98,14 +101,14 @@ facts-within p f ok e long c t = elim (decLt c 64) [
   | no l ↦ absurd (T-not (eqb (getD (f .lineage) c 0) 0) t (subst (λ (k : ℕ). T (eqb k 0)) (sym (List·getD-eq-default (f .lineage) 0 (subst (λ (k : ℕ). k ≤ c) (sym long) (omega arith)))) tt))
 ]
 
--- facts that pass the test, whose arrays have their lengths, whose literals hold values of their types and whose bounds are numbers, are good.
--- Assumes nothing
 set-right : (p : Plan) (f : LogicalFacts) → factsOk p f ≡ true → setOk (f .constraints) ≡ true
 unfolding factsOk
 set-right p f e =
     let u = and-right (allFrom (lineageOk (f .lineage) (p .columns .count)) 0 64) _ e in
     and-left (setOk (f .constraints)) _ (and-right (allFrom (definitionOk (f .definitions) (p .columns .count) (p .expressions .count)) 0 64) _ u)
 
+-- facts that pass the test, whose arrays have their lengths, whose literals hold values of their types and whose bounds are numbers, are good.
+-- Assumes nothing
 pub facts-good : (p : Plan) (f : LogicalFacts) → factsOk p f ≡ true → length (f .lineage) ≡ 64 → Shaped (f .constraints)
     → ((i : ℕ) → i < 128 → SoundEntry (entryAt (f .constraints) i)) → GoodFacts f
 facts-good p f e long shaped sound = record { long = long; set = ok-good (f .constraints) (set-right p f e) shaped sound }
@@ -122,6 +125,7 @@ module _ (p : Plan) (wide : Wide p) (f : LogicalFacts) (good : GoodFacts f) (e :
   pub apply-lineage : applyPredicate p f e .facts .lineage ≡ f .lineage
   apply-lineage = ap (λ (x : LogicalFacts). x .lineage) (parts .is)
 
+  -- good facts stay good. Assumes good facts
   pub apply-good : GoodFacts (applyPredicate p f e .facts)
   apply-good =
       subst GoodFacts (sym (parts .is))
@@ -156,6 +160,7 @@ module _ (p : Plan) (wide : Wide p) (row : WholeRow) where
   abbrev pub ExactAll : List ℕ → List Expr → Type 0
   ExactAll lineage es = AllOf (λ (e : Expr). ExactPredicate p lineage (row .ids) (e .0)) es
 
+  -- what facts reached by accepted predicates say of a row
   pub record Reached (f g : LogicalFacts) (es : List Expr) : Type 0 where
     pub lineage : g .lineage ≡ f .lineage
     pub good : GoodFacts g
@@ -189,6 +194,7 @@ fresh-good lineage definitions long = record { long = long; set = empty-good }
 
 module _ (p : Plan) (wide : Wide p) (lineage definitions : List ℕ) (long : length lineage ≡ 64) (es : List Expr) (g : LogicalFacts)
     (q : AcceptedAll p (freshFacts lineage definitions) es g) (row : WholeRow) (c : Consistent lineage row) where
+  -- the facts were reached so. Assumes nothing else
   pub all-reached : Reached p wide row (freshFacts lineage definitions) g es
   all-reached = reached p wide row es (freshFacts lineage definitions) g (fresh-good lineage definitions long) c q
 

@@ -343,6 +343,7 @@ module _ (node : ℕ → ExprData) (items : List ℕ) (typed : (h : ℕ) → Typ
       T (not (allApplied (conjunctApplied lineage node) hs a .refused))
       → T (not (a .refused)) × (Good (a .constraints) → Step (a .constraints) (allApplied (conjunctApplied lineage node) hs a .constraints) (AllOf O hs) (AllOf E hs))
 
+  -- a run of conjuncts that is not refused was refused nowhere on the way, and is a step. Assumes operands that stand before their node
   pub run-step : (hs : List ℕ) → AllOf (λ (h : ℕ). OperandsBelow items h (node h)) hs → (a : Applied) → Runs hs a
   unfolding allApplied
   run-step [] b a u = (u, λ g. step-none (a .constraints) (Unit {0}) g)

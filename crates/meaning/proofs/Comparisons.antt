@@ -58,12 +58,14 @@ module _ (op : BinaryOp) (a b : ScalarValue) (o : T (ordinary op)) where
         holds = and-r (sameKind (kindOf a) (kindOf b)) (compared op a b) w;
       }
 
+  -- and where they are so it is TRUE
   pub of-compared : Compared op a b → compareOf op a b ≡ 2
   of-compared c =
       eqb→eq (compareOf op a b) 2 (subst T (sym by-op)
       (and-i (not (isNull a)) (not (isNull b) && tests) (c .left)
       (and-i (not (isNull b)) tests (c .right) (and-i (sameKind (kindOf a) (kindOf b)) (compared op a b) (c .kind) (c .holds)))))
 
+  -- a NULL on either side makes it other than TRUE
   pub null-left : T (isNull a) → compareOf op a b ≡ 2 → ⊥
   null-left n e = T-not (isNull a) (compared-of e .left) n
 
@@ -123,6 +125,7 @@ turned-tests Gt a b ta tb o t = t
 turned-tests GtEq a b ta tb o t = subst (λ (x : Bool). T (lessScalar b a || x)) (same-turn a b ta tb) t
 turned-tests IsNotDistinctFrom a b ta tb o t = absurd o
 
+-- one of the four stays one of the four
 pub reversed-bounding : (op : BinaryOp) → T (bounding op) → T (bounding (reversedOp op))
 reversed-bounding Eq o = o
 reversed-bounding NotEq o = o
@@ -141,6 +144,7 @@ reversed-twice Gt = refl
 reversed-twice GtEq = refl
 reversed-twice IsNotDistinctFrom = refl
 
+-- each of the four is one of the six
 pub bounding-ordinary : (op : BinaryOp) → T (bounding op) → T (ordinary op)
 bounding-ordinary Eq o = tt
 bounding-ordinary NotEq o = tt
@@ -160,6 +164,7 @@ turned op a b ta tb o e =
     of-compared (reversedOp op) b a (bounding-ordinary (reversedOp op) (reversed-bounding op o))
     (record { left = c .right; right = c .left; kind = kind-turn a b (c .kind); holds = turned-tests op a b ta tb o (c .holds) })
 
+-- and back. Assumes values of their types
 pub turned-back : (op : BinaryOp) (a b : ScalarValue) → Typed a → Typed b → T (bounding op) → compareOf (reversedOp op) b a ≡ 2 → compareOf op a b ≡ 2
 turned-back op a b ta tb o e =
     subst (λ (c : BinaryOp). compareOf c a b ≡ 2) (reversed-twice op) (turned (reversedOp op) b a tb ta (reversed-bounding op o) e)

@@ -146,6 +146,7 @@ module _ (node : ℕ → ExprData) (items : List ℕ) (row : WholeRow) where
 
   -- and back, where the operands of the first n expressions stand before them
   module _ (n : ℕ) (below : (h : ℕ) → h < n → OperandsBelow items h (node h)) where
+    -- where each conjunct is TRUE of a row, so is the expression
     pub on-conjuncts : (h : ℕ) → h < n → AllOf O (conjunctsOf node items h) → O h
     unfolding joinedOf
     on-conjuncts = before-all (λ (h : ℕ). h < n → AllOf O (conjunctsOf node items h) → O h) step

@@ -169,6 +169,7 @@ plain-three = plain-case (pos 3) (record { sfits = omega arith }) .1 (holds, tt)
     holds : On plainPlan (everywhere (S.Int32 (pos 3))) 2
     holds = refl
 
+-- a row with 9 does not
 pub plain-nine : MeetsFacts plainPlan (everywhere (S.Int32 (pos 9))) (applyPredicate plainPlan fresh comparison .facts) → ⊥
 unfolding values inOrder exprData compareOf
 plain-nine m = let z = sym fails ∙ plain-case (pos 9) (record { sfits = omega arith }) .0 m .0 in absurd (omega (arith, z))

@@ -134,11 +134,13 @@ module _ (p : Plan) (wide : Wide p) (l m d e : List ℕ) (ll : length l ≡ 64) 
   right : Reached p wide row (freshFacts m e) g ds
   right = all-reached p wide m e ml ds g b row k
 
+  -- every such row meets the merged facts
   pub merged-sound : AllOn p row es → AllOn p row ds → MeetsFacts p row (mergeInputs p f g true .facts)
   merged-sound x y =
       merge-exact p f g (left .good) (right .good) q row (c .typed) .1
       (sequence-sound p wide l d ll es f a row c x, sequence-sound p wide m e ml ds g b row k y)
 
+  -- where their flag is set there is no such row
   pub merged-none : mergeInputs p f g true .facts .constraints .contradictory ≡ true → AllOn p row es → AllOn p row ds → ⊥
   merged-none t x y = no-row (On p row) (row .ids) (mergeInputs p f g true .facts .constraints) t (merged-sound x y)
 

@@ -121,6 +121,7 @@ module _ (kinds : ℕ → Kind) (v : ℕ → ScalarValue) (k : Kinded kinds v) w
         all-map (λ (h : ℕ). h ≤ e) (λ (h : ℕ). ExactNode v lineage (nodeAt p) (nodeAt p h)) (λ h q. exact-node (nodeAt p h) (plain .comparisons h (omega arith)))
         (conjunctsOf (nodeAt p) (p .items .a) e) (conjuncts-within (nodeAt p) (p .items .a) e)
 
+    -- the same of every accepted predicate of a run
     pub plain-all : (es : List Expr) (f g : LogicalFacts) → AcceptedAll p f es g → AllOf (λ (e : Expr). ExactPredicate p lineage v (e .0)) es
     plain-all [] f g q = tt
     plain-all (e ∷ es) f g q = (plain-predicate (e .0) (apply-parts p f e (q .0) .handle), plain-all es (applyPredicate p f e .facts) g (q .1))

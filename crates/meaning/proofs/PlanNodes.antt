@@ -64,6 +64,7 @@ module _ (x : Record) (st nc h np used : ℕ) (ia ib : List ℕ) where
       let w = ltb-true (getD ia (st + j) 0 + 1) (suc h) (first _ _ _ _ u) in
       omega (arith, w)
 
+  -- a record that is right has operands that stand before it. Assumes nothing
   pub expr-below : recordOk 2 x nc h np ≡ true → listsOk ia ib used x st nc (suc h) np ≡ true → OperandsBelow ia h (exprData x st)
   unfolding exprData rowOf lineOf
   expr-below e l =
@@ -74,6 +75,7 @@ module _ (x : Record) (st nc h np used : ℕ) (ia ib : List ℕ) where
       (either P (eqb (x .kind) 0x23) _ _ (λ t. all-run (λ (k : ℕ). k < h) 0 st (x .a) ia (operand-below (eqb→eq (x .kind) 0x23 t) l))
       tt)))
 
+-- a literal of 64 bits holds a value of its type. Assumes nothing
 pub expr-typed : (x : Record) (st : ℕ) → x .bits < 2 ^ 64 → TypedNode (exprData x st)
 unfolding exprData
 expr-typed x st w =

@@ -46,6 +46,7 @@ module _ (p : Plan) (ok : planOk p ≡ true) (wide : Wide p) (lineage : List ℕ
     abbrev pub PlanStep : ConstraintSet → ConstraintSet → Type 0 → Type 0 → Type 0
     PlanStep s new P E = Step (nodeAt p) (p .items .a) (plan-typed p wide) lineage small row c s new P E
 
+    -- a predicate that is not refused is a step. Assumes a plan that keeps the rules
     pub predicate-step : (s : ConstraintSet) → Good s → (e : ℕ) → e < p .expressions .count → T (not (predicateApplied p lineage s e .refused))
         → PlanStep s (predicateApplied p lineage s e .constraints) (On p row e) (ExactPredicate p lineage (row .ids) e)
     unfolding predicateApplied
@@ -79,16 +80,20 @@ module _ (p : Plan) (ok : planOk p ≡ true) (wide : Wide p) (lineage : List ℕ
 
   -- ---- a predicate
   module _ (s : ConstraintSet) (g : Good s) (e : ℕ) (l : e < p .expressions .count) (u : T (not (predicateApplied p lineage s e .refused))) where
+    -- a good set stays good. Assumes a plan that keeps the rules
     pub predicate-good : Good (predicateApplied p lineage s e .constraints)
     predicate-good = predicate-step nulls nulls-consistent s g e l u .good
 
     module _ (row : WholeRow) (c : Consistent lineage row) where
+      -- a row that met the set and of which the predicate is TRUE meets the result, whatever the kinds. Assumes a plan that keeps the rules
       pub predicate-sound : Meets (On p row) (row .ids) s → On p row e → Meets (On p row) (row .ids) (predicateApplied p lineage s e .constraints)
       predicate-sound = predicate-step row c s g e l u .sound
 
+      -- a row that meets the result met the set. Assumes a plan that keeps the rules
       pub predicate-back : Meets (On p row) (row .ids) (predicateApplied p lineage s e .constraints) → Meets (On p row) (row .ids) s
       predicate-back = predicate-step row c s g e l u .back
 
+      -- exactly the rows that met the set and of which the predicate is TRUE meet the result. Assumes the conditions too
       pub predicate-exact : ExactPredicate p lineage (row .ids) e
           → Meets (On p row) (row .ids) (predicateApplied p lineage s e .constraints) ↔ (Meets (On p row) (row .ids) s × On p row e)
       predicate-exact x =

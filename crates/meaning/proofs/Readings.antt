@@ -33,6 +33,7 @@ module _ (cell : ℕ → ScalarValue) (node : ℕ → ExprData) (items : List �
   pub value-before : (n e : ℕ) → e < n → valueIn (values cell node items n) e ≡ valueAt cell node items e
   value-before n e l = table-at (S.Null K.Boolean) (values cell node items) nextValue starts grows n e l ∙ sym (value-here e)
 
+  -- and past their end stands the NULL of Boolean
   pub value-past : (n e : ℕ) → n ≤ e → valueIn (values cell node items n) e ≡ S.Null K.Boolean
   value-past n e l = table-past (S.Null K.Boolean) (values cell node items) nextValue starts grows n e l
 
@@ -52,8 +53,10 @@ module _ (node : ℕ → ExprData) (items : List ℕ) where
   pub conjuncts-here : (h : ℕ) → conjunctsOf node items h ≡ conjunctsBy (conjunctsTo node items h) items h (node h)
   conjuncts-here h = table-last [] (conjunctsTo node items) nextConjuncts starts′ grows′ h
 
+  -- where the lists before it have each expression's own
   pub conjuncts-before : (n e : ℕ) → e < n → getD (conjunctsTo node items n) e [] ≡ conjunctsOf node items e
   conjuncts-before n e l = table-at [] (conjunctsTo node items) nextConjuncts starts′ grows′ n e l ∙ sym (conjuncts-here e)
 
+  -- and past their end there are none
   pub conjuncts-past : (n e : ℕ) → n ≤ e → getD (conjunctsTo node items n) e [] ≡ []
   conjuncts-past n e l = table-past [] (conjunctsTo node items) nextConjuncts starts′ grows′ n e l
