@@ -40,6 +40,17 @@ use Rattle.plan_file_laws.proofs.Sequences.{Reads, begin, next, kept-re
 abbrev pub totalOf : Record → ℕ
 totalOf x = firstOf x + secondOf x
 
+-- how many items the first n of some records have
+unfoldable pub itemsTo : (ℕ → Record) → ℕ → ℕ
+itemsTo f zero = 0
+itemsTo f (suc n) = itemsTo f n + totalOf (f n)
+
+abbrev pub exprItems : Plan → ℕ → ℕ
+exprItems p n = itemsTo (exprRecord p) n
+
+abbrev pub operatorItems : Plan → ℕ → ℕ
+operatorItems p n = itemsTo (operatorRecord p) n
+
 -- ---- what is wanted after m items of the lists of x
 abbrev pub wantedAt : Record → ℕ → Wanted
 wantedAt x m =
@@ -86,13 +97,16 @@ at-start x =
     let b : secondOf x ≡ secondOf x - (0 - firstOf x) = omega arith in
     λ i. record { item = rowOf (x .kind) .item; left = a i; more = b i; scan = eqb (x .kind) 0x30 }
 
--- ---- a copy of a plan's first c columns, e expressions and o operators, with their lists wherever they stand
+-- ---- a copy of a plan's first c columns, e expressions and o operators, with their lists one after the other: those of the expressions, then
+-- those of the operators
 pub record Copy (p r : Plan) (c e o : ℕ) : Type 0 where
   pub column : (i : ℕ) → i < c → columnRecord r i ≡ columnRecord p i
   pub expr : (i : ℕ) → i < e → exprRecord r i ≡ exprRecord p i
+  pub expr-start : (i : ℕ) → i < e → exprStart r i ≡ exprItems p i
   pub expr-items : (i : ℕ) → i < e → (k : ℕ) → k < totalOf (exprRecord p i) → itemRecord r (exprStart r i + k) ≡ itemRecord p (exprStart p i + k)
   pub expr-whole : (i : ℕ) → i < e → exprStart r i + totalOf (exprRecord p i) ≤ r .items .count
   pub operator : (i : ℕ) → i < o → operatorRecord r i ≡ operatorRecord p i
+  pub operator-start : (i : ℕ) → i < o → operatorStart r i ≡ exprItems p (p .expressions .count) + operatorItems p i
   pub operator-items : (i : ℕ) → i < o → (k : ℕ) → k < totalOf (operatorRecord p i) → itemRecord r (operatorStart r i + k) ≡ itemRecord p (operatorStart p i + k)
   pub operator-whole : (i : ℕ) → i < o → operatorStart r i + totalOf (operatorRecord p i) ≤ r .items .count
 
@@ -102,11 +116,13 @@ copy-grow p r u c e o g hc he ho y =
     record {
       column = λ i h. g .column i (omega arith) ∙ y .column i h;
       expr = λ i h. g .expr i (omega arith) ∙ y .expr i h;
+      expr-start = λ i h. g .expr-start i (omega arith) ∙ y .expr-start i h;
       expr-items = λ i h k l.
           let s = g .expr-start i (omega arith) in
           ap (λ (n : ℕ). itemRecord u (n + k)) s ∙ g .item (exprStart r i + k) (omega (arith, y .expr-whole i h)) ∙ y .expr-items i h k l;
       expr-whole = λ i h. let s = g .expr-start i (omega arith) in omega (arith, y .expr-whole i h, g .items);
       operator = λ i h. g .operator i (omega arith) ∙ y .operator i h;
+      operator-start = λ i h. g .operator-start i (omega arith) ∙ y .operator-start i h;
       operator-items = λ i h k l.
           let s = g .operator-start i (omega arith) in
           ap (λ (n : ℕ). itemRecord u (n + k)) s ∙ g .item (operatorStart r i + k) (omega (arith, y .operator-whole i h)) ∙ y .operator-items i h k l;
@@ -245,17 +261,6 @@ mid-run H p xs q c e o ce co n x st g d (suc m) h =
     (u .0, subst (λ (zs : List Record). Mid H p zs (u .0) c e o ce co n x st (suc m)) (append-assoc xs (x ∷ itemsOf p x st m) (itemOf p x st m ∷ [])) (u .1))
 
 -- ---- the plan that is copied
--- how many items the first n of some records have
-unfoldable pub itemsTo : (ℕ → Record) → ℕ → ℕ
-itemsTo f zero = 0
-itemsTo f (suc n) = itemsTo f n + totalOf (f n)
-
-abbrev pub exprItems : Plan → ℕ → ℕ
-exprItems p n = itemsTo (exprRecord p) n
-
-abbrev pub operatorItems : Plan → ℕ → ℕ
-operatorItems p n = itemsTo (operatorRecord p) n
-
 -- it keeps the rules, and its lists, taken one after the other, fit the table of items
 pub record Source (p : Plan) : Type 0 where
   pub rules : RulesTo p (p .expressions .count) (p .operators .count)

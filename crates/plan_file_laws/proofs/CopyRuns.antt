@@ -66,9 +66,11 @@ column-next p xs q i h ok d =
               (λ j u. e .column j (omega (arith, d .columns)) ∙ d .copy .column j u)
               (ap (columnRecord (withColumn (q .plan) x)) (sym (d .columns)) ∙ new-column (q .plan) x (sized xs q (d .reads)) l);
           expr = λ j u. absurd (omega arith);
+          expr-start = λ j u. absurd (omega arith);
           expr-items = λ j u. absurd (omega arith);
           expr-whole = λ j u. absurd (omega arith);
           operator = λ j u. absurd (omega arith);
+          operator-start = λ j u. absurd (omega arith);
           operator-items = λ j u. absurd (omega arith);
           operator-whole = λ j u. absurd (omega arith);
         };
@@ -88,9 +90,11 @@ start-rest p =
       copy = record {
         column = λ j u. absurd (omega arith);
         expr = λ j u. absurd (omega arith);
+        expr-start = λ j u. absurd (omega arith);
         expr-items = λ j u. absurd (omega arith);
         expr-whole = λ j u. absurd (omega arith);
         operator = λ j u. absurd (omega arith);
+        operator-start = λ j u. absurd (omega arith);
         operator-items = λ j u. absurd (omega arith);
         operator-whole = λ j u. absurd (omega arith);
       };
@@ -174,9 +178,9 @@ module _ (p : Plan) (s : Source p) where
       no-scan v e f = let z : _≡_ {A = ℕ} 3 2 = sym scan-sort ∙ ap (λ (w : ℕ). rowOf w .sort) (sym e) ∙ f in omega arith
 
   expr-close :
-      (xs : List Record) (q : State) (n k : ℕ) → Mid (ExprHead n k) p xs q (p .columns .count) n 0 (suc n) 0 k (exprRecord p n) (exprStart p n) (totalOf (exprRecord p n))
+      (xs : List Record) (q : State) (n k : ℕ) → k ≡ exprItems p n → Mid (ExprHead n k) p xs q (p .columns .count) n 0 (suc n) 0 k (exprRecord p n) (exprStart p n) (totalOf (exprRecord p n))
       → Rest p xs q (p .columns .count) (suc n) 0 (k + totalOf (exprRecord p n))
-  expr-close xs q n k d =
+  expr-close xs q n k ek d =
       record {
         reads = d .reads;
         nothing = ap kindWanted (d .wanted) ∙ kind-end (exprRecord p n);
@@ -187,22 +191,24 @@ module _ (p : Plan) (s : Source p) where
         copy = record {
           column = d .copy .column;
           expr = one-more (λ (j : ℕ). exprRecord (q .plan) j ≡ exprRecord p j) n (d .copy .expr) (d .head .0);
+          expr-start = one-more (λ (j : ℕ). exprStart (q .plan) j ≡ exprItems p j) n (d .copy .expr-start) (d .head .1 ∙ ek);
           expr-items = one-more (λ (j : ℕ). (m : ℕ) → m < totalOf (exprRecord p j) → itemRecord (q .plan) (exprStart (q .plan) j + m) ≡ itemRecord p (exprStart p j + m)) n (d .copy .expr-items)
               (λ m l. ap (λ (v : ℕ). itemRecord (q .plan) (v + m)) (d .head .1) ∙ d .so-far m l);
           expr-whole = one-more (λ (j : ℕ). exprStart (q .plan) j + totalOf (exprRecord p j) ≤ q .plan .items .count) n (d .copy .expr-whole) (omega (arith, d .head .1, d .items));
           operator = d .copy .operator;
+          operator-start = d .copy .operator-start;
           operator-items = d .copy .operator-items;
           operator-whole = d .copy .operator-whole;
         };
       }
 
   expr-next :
-      (xs : List Record) (q : State) (n k : ℕ) → n < p .expressions .count → k + totalOf (exprRecord p n) ≤ 2048 → Rest p xs q (p .columns .count) n 0 k
+      (xs : List Record) (q : State) (n k : ℕ) → k ≡ exprItems p n → n < p .expressions .count → k + totalOf (exprRecord p n) ≤ 2048 → Rest p xs q (p .columns .count) n 0 k
       → (t : State) × Rest p (xs ++ withItems p (exprRecord p n) (exprStart p n)) t (p .columns .count) (suc n) 0 (k + totalOf (exprRecord p n))
-  expr-next xs q n k h room d =
+  expr-next xs q n k ek h room d =
       let u = expr-mid xs q n k h d in
       let v = mid-run (ExprHead n k) p xs (u .0) _ n 0 (suc n) 0 k (exprRecord p n) (exprStart p n) (expr-going n k h room) (u .1) (totalOf (exprRecord p n)) (omega arith) in
-      (v .0, expr-close _ (v .0) n k (v .1))
+      (v .0, expr-close _ (v .0) n k ek (v .1))
 
   exprs-run : (n : ℕ) → n ≤ p .expressions .count → (q : State) × Rest p (columnsTo p (p .columns .count) ++ exprsTo p n) q (p .columns .count) n 0 (exprItems p n)
   unfolding exprsTo itemsTo
@@ -212,7 +218,7 @@ module _ (p : Plan) (s : Source p) where
   exprs-run (suc n) h =
       let v = exprs-run n (omega arith) in
       let cs = columnsTo p (p .columns .count) in
-      let w = expr-next (cs ++ exprsTo p n) (v .0) n (exprItems p n) h (omega (arith, s .room, items-to (exprRecord p) n (p .expressions .count) h)) (v .1) in
+      let w = expr-next (cs ++ exprsTo p n) (v .0) n (exprItems p n) refl h (omega (arith, s .room, items-to (exprRecord p) n (p .expressions .count) h)) (v .1) in
       (w .0, subst (λ (xs : List Record). Rest p xs (w .0) (p .columns .count) (suc n) 0 (exprItems p n + totalOf (exprRecord p n))) (append-assoc cs (exprsTo p n) (withItems p (exprRecord p n) (exprStart p n))) (w .1))
 
   -- ---- an operator and its items
@@ -349,9 +355,9 @@ module _ (p : Plan) (s : Source p) where
       free a b m np o = ⊎-elim (λ e. free-zero a b m np e) (λ e. free-own a b m np e) o
 
   operator-close :
-      (xs : List Record) (q : State) (n k : ℕ) → OperatorMid xs q n k (totalOf (operatorRecord p n))
+      (xs : List Record) (q : State) (n k : ℕ) → k ≡ exprItems p (p .expressions .count) + operatorItems p n → OperatorMid xs q n k (totalOf (operatorRecord p n))
       → Rest p xs q (p .columns .count) (p .expressions .count) (suc n) (k + totalOf (operatorRecord p n))
-  operator-close xs q n k d =
+  operator-close xs q n k ek d =
       record {
         reads = d .reads;
         nothing = ap kindWanted (d .wanted) ∙ kind-end (operatorRecord p n);
@@ -362,9 +368,11 @@ module _ (p : Plan) (s : Source p) where
         copy = record {
           column = d .copy .column;
           expr = d .copy .expr;
+          expr-start = d .copy .expr-start;
           expr-items = d .copy .expr-items;
           expr-whole = d .copy .expr-whole;
           operator = one-more (λ (j : ℕ). operatorRecord (q .plan) j ≡ operatorRecord p j) n (d .copy .operator) (d .head .0);
+          operator-start = one-more (λ (j : ℕ). operatorStart (q .plan) j ≡ exprItems p (p .expressions .count) + operatorItems p j) n (d .copy .operator-start) (d .head .1 ∙ ek);
           operator-items = one-more (λ (j : ℕ). (m : ℕ) → m < totalOf (operatorRecord p j) → itemRecord (q .plan) (operatorStart (q .plan) j + m) ≡ itemRecord p (operatorStart p j + m)) n (d .copy .operator-items)
               (λ m l. ap (λ (v : ℕ). itemRecord (q .plan) (v + m)) (d .head .1) ∙ d .so-far m l);
           operator-whole = one-more (λ (j : ℕ). operatorStart (q .plan) j + totalOf (operatorRecord p j) ≤ q .plan .items .count) n (d .copy .operator-whole) (omega (arith, d .head .1, d .items));
@@ -372,12 +380,12 @@ module _ (p : Plan) (s : Source p) where
       }
 
   operator-next :
-      (xs : List Record) (q : State) (n k : ℕ) → n < p .operators .count → k + totalOf (operatorRecord p n) ≤ 2048 → Rest p xs q (p .columns .count) (p .expressions .count) n k
+      (xs : List Record) (q : State) (n k : ℕ) → k ≡ exprItems p (p .expressions .count) + operatorItems p n → n < p .operators .count → k + totalOf (operatorRecord p n) ≤ 2048 → Rest p xs q (p .columns .count) (p .expressions .count) n k
       → (t : State) × Rest p (xs ++ withItems p (operatorRecord p n) (operatorStart p n)) t (p .columns .count) (p .expressions .count) (suc n) (k + totalOf (operatorRecord p n))
-  operator-next xs q n k h room d =
+  operator-next xs q n k ek h room d =
       let u = operator-mid xs q n k h d in
       let v = mid-run (OperatorHead n k) p xs (u .0) _ (p .expressions .count) n (p .expressions .count) (suc n) k (operatorRecord p n) (operatorStart p n) (operator-going n k h room) (u .1) (totalOf (operatorRecord p n)) (omega arith) in
-      (v .0, operator-close _ (v .0) n k (v .1))
+      (v .0, operator-close _ (v .0) n k ek (v .1))
 
   abbrev before : List Record
   before = columnsTo p (p .columns .count) ++ exprsTo p (p .expressions .count)
@@ -395,7 +403,7 @@ module _ (p : Plan) (s : Source p) where
       let v = operators-run n (omega arith) in
       let k = exprItems p (p .expressions .count) in
       let t = totalOf (operatorRecord p n) in
-      let w = operator-next (before ++ operatorsTo p n) (v .0) n (k + operatorItems p n) h (omega (arith, s .room, items-to (operatorRecord p) n (p .operators .count) h)) (v .1) in
+      let w = operator-next (before ++ operatorsTo p n) (v .0) n (k + operatorItems p n) refl h (omega (arith, s .room, items-to (operatorRecord p) n (p .operators .count) h)) (v .1) in
       let e : k + operatorItems p n + t ≡ k + (operatorItems p n + t) = omega arith in (
         w .0,
         subst (λ (j : ℕ). Rest p (before ++ operatorsTo p (suc n)) (w .0) (p .columns .count) (p .expressions .count) (suc n) j) e
