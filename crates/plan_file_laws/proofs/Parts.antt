@@ -93,7 +93,7 @@ append-nil (x ∷ xs) = ap (λ (l : List Record). x ∷ l) (append-nil xs)
 belongs-head : (k : ℕ) (on : Bool) (x : Record) (n : ℕ) → rowOf (x .kind) .sort ≡ n → (n ≡ 4 → ⊥) → belongs k on x ≡ eqb n k
 belongs-head k on x n e f = rw (e, ne-eqb n 4 f)
 
-belongs-item : (k : ℕ) (on : Bool) (x : Record) → rowOf (x .kind) .sort ≡ 4 → belongs k on x ≡ on
+pub belongs-item : (k : ℕ) (on : Bool) (x : Record) → rowOf (x .kind) .sort ≡ 4 → belongs k on x ≡ on
 belongs-item k on x e = rw e
 
 -- a record that belongs, and one that does not
@@ -101,7 +101,7 @@ pub record Joins (k : ℕ) (xs : List Record) (x : Record) (t : Bool) : Type 0 w
   pub ends : endsIn k false (xs ++ (x ∷ [])) ≡ t
   pub part : partOf k (xs ++ (x ∷ [])) ≡ partOf k xs ++ cond t (x ∷ []) []
 
-joins : (k : ℕ) (xs : List Record) (x : Record) (t : Bool) → belongs k (endsIn k false xs) x ≡ t → Joins k xs x t
+pub joins : (k : ℕ) (xs : List Record) (x : Record) (t : Bool) → belongs k (endsIn k false xs) x ≡ t → Joins k xs x t
 joins k xs x t e =
     record { ends = ends-snoc k false xs x ∙ e; part = part-snoc k false xs x ∙ ap (λ (b : Bool). partOf k xs ++ cond b (x ∷ []) []) e }
 
@@ -245,7 +245,7 @@ module _ (xs : List Record) (x : Record) (p q : Plan) (e : Extends p q) (l : Lis
   operators-stay : Joins 3 xs x false → partOf 3 (xs ++ (x ∷ [])) ≡ operatorsTo q (p .operators .count)
   operators-stay j = j .part ∙ append-nil (partOf 3 xs) ∙ t .operators ∙ sym (operators-same p q e (p .operators .count) (omega arith) (l .operator))
 
-joins-head : (k : ℕ) (xs : List Record) (x : Record) (n : ℕ) → rowOf (x .kind) .sort ≡ n → (n ≡ 4 → ⊥) → Joins k xs x (eqb n k)
+pub joins-head : (k : ℕ) (xs : List Record) (x : Record) (n : ℕ) → rowOf (x .kind) .sort ≡ n → (n ≡ 4 → ⊥) → Joins k xs x (eqb n k)
 joins-head k xs x n e f = joins k xs x (eqb n k) (belongs-head k (endsIn k false xs) x n e f)
 
 module _ (xs : List Record) (x : Record) (p : Plan) (z : Sized p) (f : Fits x) (l : Lists p (p .expressions .count) (p .operators .count))
