@@ -3,38 +3,36 @@ use Prim.Native.Nat.{ℕ, zero, suc, _+_, _-_, _≤_, _<_}
 use mathlib.Core.Path.{_≡_, refl, sym, ap, _∙_, subst}
 use mathlib.Core.Bool.{Bool, true, false, cond, _&&_, _||_, not}
 use mathlib.Core.List.{List, [], _∷_, _++_, append-assoc}
-use mathlib.Core.Logic.{_⊎_, inl, inr, ⊎-elim}
+use mathlib.Core.Logic.{⊎-elim}
 use native.Mathlib.Omega.{arith}
-use native.Mathlib.Numerals.{add-one}
-use native.Mathlib.Decide.{decLt, ℕ-discrete}
-use native.Mathlib.Nat.{le-trans}
-use lib.Dec.{ltb, leb, eqb}
-use lib.ListN.{getD, set, length}
-use borrow.Author.Tests.{eqb-true, leb-true, le-leb, lt-ltb, le-ltb, eq-eqb, ne-eqb}
+use native.Mathlib.Decide.{decLt}
+use lib.Dec.{leb, eqb}
+use lib.ListN.{set}
+use borrow.Author.Tests.{eqb-true, le-leb, lt-ltb, le-ltb, eq-eqb, ne-eqb}
 use Rattle.lists.specs.Ranges.{allFrom}
-use Rattle.lists.proofs.RangeLaws.{below-or-not, and-left, and-right, and-both, all-at}
+use Rattle.lists.proofs.RangeLaws.{below-or-not, and-left, and-right, all-at}
 use Rattle.kinds.specs.declared.Record.{Record}
 use Rattle.kinds.specs.declared.Row.{Row}
 use Rattle.kinds.specs.Rows.{rowOf, lineOf}
-use Rattle.kinds.specs.Records.{codeOk, bitsOk, handleOk, handlesOk, countOf, moreOf}
+use Rattle.kinds.specs.Records.{codeOk, bitsOk, handleOk, handlesOk}
 use Rattle.kinds.proofs.Table.{holds, every-row}
 use Rattle.plan.specs.declared.Plan.{Plan}
-use Rattle.plan.specs.Append.{withColumn, withExpr, withOperator, withItem}
+use Rattle.plan.specs.Append.{withItem}
 use Rattle.plan.specs.Records.{columnRecord, exprRecord, exprStart, operatorRecord, operatorStart, itemRecord}
-use Rattle.plan.specs.Extends.{Extends, Sized}
-use Rattle.plan.proofs.AppendLaws.{column-longer, expr-longer, operator-longer, item-longer, new-column, new-expr, new-expr-start, new-operator, new-operator-start, new-item}
+use Rattle.plan.specs.Extends.{Extends}
+use Rattle.plan.proofs.AppendLaws.{item-longer, new-item}
 use Rattle.plan_rules.specs.Rules.{recordOk, itemOk, listsOk, exprOkOf, exprOk, operatorOkOf, operatorOk}
 use Rattle.plan_file.specs.declared.Wanted.{Wanted}
 use Rattle.plan_file.specs.declared.State.{State}
-use Rattle.plan_file.specs.Steps.{kindWanted, lessOne, listOf, scannedTwice, startState}
-use Rattle.plan_file.proofs.Ways.{Wants, Way, a-column, an-expr, an-operator, an-item, nextOf, item-sort, wants-list}
+use Rattle.plan_file.specs.Steps.{kindWanted, lessOne, listOf, scannedTwice}
+use Rattle.plan_file.proofs.Ways.{an-item, nextOf, wants-list}
 use Rattle.plan_file_laws.specs.ListItems.{firstOf, secondOf, itemKind, ScanHas}
-use Rattle.plan_file_laws.specs.PlanRecords.{itemOf, itemsOf, withItems, columnsTo, exprsTo, operatorsTo, planRecords}
-use Rattle.plan_file_laws.proofs.RowFacts.{item-row, expr-row, no-bits, handles-part}
+use Rattle.plan_file_laws.specs.PlanRecords.{itemOf, itemsOf}
+use Rattle.plan_file_laws.proofs.RowFacts.{item-row, no-bits, handles-part}
 use Rattle.plan_file_laws.proofs.OpenLists.{kind-none}
-use Rattle.plan_file_laws.proofs.Phases.{Right, RulesTo, shut, phase-expr}
-use Rattle.plan_file_laws.proofs.RulesRead.{Kept, Takes, rules-in}
-use Rattle.plan_file_laws.proofs.Sequences.{Reads, begin, next, kept-reads}
+use Rattle.plan_file_laws.proofs.Phases.{Right, RulesTo, zero-bits}
+use Rattle.plan_file_laws.proofs.RulesRead.{Takes, rules-in}
+use Rattle.plan_file_laws.proofs.Sequences.{Reads, next, kept-reads}
 
 -- how many items a record has
 abbrev pub totalOf : Record → ℕ
@@ -164,10 +162,6 @@ item-low k e =
 
 zero-code : (r : Row) (x : Record) → r .low ≡ 0 → x .code ≡ 0 → codeOk r x ≡ true
 zero-code r x e f = rw (e, f, le-leb 0 (r .high) (omega arith))
-
-zero-bits : (r : Row) (x : Record) → r .bits ≡ 0 → x .bits ≡ 0 → bitsOk r x ≡ true
-unfolding bitsOk
-zero-bits r x e f = rw (e, f)
 
 sort-40 : rowOf 0x40 .sort ≡ 4
 unfolding rowOf lineOf

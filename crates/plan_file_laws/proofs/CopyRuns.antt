@@ -2,40 +2,37 @@
 -- Assumes nothing.
 use Prim.Native.Nat.{ℕ, zero, suc, _+_, _-_, _≤_, _<_}
 use mathlib.Core.Path.{_≡_, refl, sym, ap, _∙_, subst}
-use mathlib.Core.Bool.{Bool, true, false, cond, _&&_, _||_, not}
+use mathlib.Core.Bool.{Bool, true, false, _&&_, not}
 use mathlib.Core.List.{List, [], _∷_, _++_, append-assoc}
 use mathlib.Core.Logic.{_⊎_, inl, inr, ⊎-elim}
 use native.Mathlib.Omega.{arith}
-use native.Mathlib.Numerals.{add-one}
-use native.Mathlib.Decide.{decLt, ℕ-discrete}
+use native.Mathlib.Decide.{ℕ-discrete}
 use native.Mathlib.Nat.{suc-add, zero-add}
-use lib.Dec.{ltb, leb, eqb}
-use lib.ListN.{getD, length}
-use borrow.Author.Tests.{eqb-true, eqb-false, eq-eqb, ne-eqb}
-use Rattle.lists.proofs.RangeLaws.{below-or-not, and-left, and-right}
+use lib.Dec.{leb, eqb}
+use lib.ListN.{getD}
+use borrow.Author.Tests.{eq-eqb}
+use Rattle.lists.proofs.RangeLaws.{below-or-not}
 use Rattle.kinds.specs.declared.Record.{Record}
-use Rattle.kinds.specs.declared.Row.{Row}
-use Rattle.kinds.specs.Rows.{rowOf, lineOf}
-use Rattle.kinds.specs.Records.{countOf, moreOf}
+use Rattle.kinds.specs.Rows.{rowOf}
 use Rattle.plan.specs.declared.Plan.{Plan}
 use Rattle.plan.specs.Plans.{emptyPlan}
-use Rattle.plan.specs.Append.{withColumn, withExpr, withOperator, withItem}
+use Rattle.plan.specs.Append.{withColumn, withExpr, withOperator}
 use Rattle.plan.specs.Records.{columnRecord, exprRecord, exprStart, operatorRecord, operatorStart, itemRecord}
-use Rattle.plan.specs.Extends.{Extends, Sized}
+use Rattle.plan.specs.Extends.{Sized}
 use Rattle.plan.proofs.AppendLaws.{column-longer, expr-longer, operator-longer, new-column, new-expr, new-expr-start, new-operator, new-operator-start}
-use Rattle.plan_file.specs.declared.Wanted.{Wanted}
 use Rattle.plan_file.specs.declared.State.{State}
-use Rattle.plan_file.specs.Steps.{kindWanted, listOf, scannedTwice, startState}
+use Rattle.plan_file.specs.Steps.{kindWanted, listOf, startState}
 use Rattle.plan_file.proofs.Ways.{a-column, an-expr, an-operator, nextOf}
-use Rattle.plan_file_laws.specs.ListItems.{firstOf, secondOf, itemKind, ScanHas}
-use Rattle.plan_file_laws.specs.PlanRecords.{itemOf, itemsOf, withItems, columnsTo, exprsTo, operatorsTo, planRecords}
+use Rattle.plan_file_laws.specs.ListItems.{itemKind, ScanHas}
+use Rattle.plan_file_laws.specs.PlanRecords.{itemOf, withItems, columnsTo, exprsTo, operatorsTo, planRecords}
 use Rattle.plan_file_laws.proofs.RowFacts.{column-row, expr-row, handles-part}
 use Rattle.plan_file_laws.proofs.OpenLists.{kind-none}
-use Rattle.plan_file_laws.proofs.Phases.{Right, RulesTo, no-list}
-use Rattle.plan_file_laws.proofs.Marks.{Marks, scan-whole, scan-first, scan-second, scan-sort}
-use Rattle.plan_file_laws.proofs.RulesRead.{Kept, Takes, rules-in}
+use Rattle.plan_file_laws.proofs.Phases.{Right, no-list}
+use Rattle.plan_file_laws.proofs.Marks.{scan-whole, scan-first, scan-second, scan-sort}
+use Rattle.plan_file_laws.proofs.RulesRead.{Takes, rules-in, not-zero}
 use Rattle.plan_file_laws.proofs.Sequences.{Reads, begin, next, kept-reads}
-use Rattle.plan_file_laws.proofs.Copies.{totalOf, wantedAt, at-start, kind-end, Copy, copy-grow, Rest, Mid, Going, item-right, right-at, mid-run, Source, itemsTo, exprItems, operatorItems, list-item, Record-ok, expr-parts, operator-parts, head-once, other-once, column-sort, column-right, one-more}
+use Rattle.plan_file_laws.proofs.Parts.{append-nil}
+use Rattle.plan_file_laws.proofs.Copies.{totalOf, at-start, kind-end, Copy, copy-grow, Rest, Mid, Going, item-right, right-at, mid-run, Source, itemsTo, exprItems, operatorItems, list-item, expr-parts, operator-parts, head-once, other-once, column-sort, column-right, one-more}
 
 -- the arrays of a plan that was read have their sizes
 sized : (xs : List Record) (q : State) → Reads xs q → Sized (q .plan)
@@ -99,10 +96,6 @@ start-rest p =
         operator-whole = λ j u. absurd (omega arith);
       };
     }
-
-append-nil : (xs : List Record) → xs ++ [] ≡ xs
-append-nil [] = refl
-append-nil (x ∷ xs) = ap (λ (l : List Record). x ∷ l) (append-nil xs)
 
 -- the items of more records are more
 items-more : (f : ℕ → Record) (n d : ℕ) → itemsTo f n ≤ itemsTo f (d + n)
@@ -317,9 +310,6 @@ module _ (p : Plan) (s : Source p) where
             (below-or-not i n)))
       ]
     where
-      not-zero : (a : ℕ) → (a ≡ 0 → ⊥) → a ≡ suc (a - 1)
-      not-zero a n = omega (arith, n)
-
       last-one : (i n t : ℕ) → n ≤ i → i < t → t ≡ suc n → suc i ≡ t
       last-one i n t a b e = omega arith
 

@@ -1,36 +1,34 @@
 -- Two accepted files with one plan have the same columns, the same expressions with their items and the same operators with their items, each in
 -- the same order: they differ at most in how the three are mixed. Assumes nothing.
-use Prim.Native.Nat.{ℕ, zero, suc, _+_, _-_, _≤_, _<_}
+use Prim.Native.Nat.{ℕ, _+_}
 use mathlib.Core.Path.{_≡_, refl, sym, ap, _∙_, subst}
-use mathlib.Core.Bool.{Bool, true, false, cond, _&&_}
+use mathlib.Core.Bool.{Bool, true, false, cond}
 use mathlib.Core.List.{List, [], _∷_, _++_}
 use native.Mathlib.Omega.{arith}
-use lib.Dec.{leb, eqb}
-use lib.ListN.{getD, length, length-append}
+use lib.Dec.{eqb}
+use lib.ListN.{length, length-append}
 use borrow.Author.Tests.{leb-true}
 use Rattle.lists.proofs.RangeLaws.{and-left, and-right}
 use Rattle.kinds.specs.declared.Record.{Record}
 use Rattle.kinds.specs.Rows.{rowOf}
 use Rattle.plan.specs.declared.Plan.{Plan}
 use Rattle.plan.specs.Plans.{emptyPlan}
-use Rattle.plan.specs.Records.{exprRecord, exprStart, operatorRecord, operatorStart}
-use Rattle.plan.specs.Extends.{Sized}
-use Rattle.plan_rules.specs.Rules.{recordOk, listsOk, exprOkOf, exprOk, operatorOkOf, operatorOk}
+use Rattle.plan.specs.Records.{exprRecord, operatorRecord}
+use Rattle.plan_rules.specs.Rules.{recordOk, listsOk, exprOkOf, operatorOkOf}
 use Rattle.plan_file.specs.declared.Wanted.{Wanted}
 use Rattle.plan_file.specs.declared.State.{State}
 use Rattle.plan_file.specs.Answers.{isWhole}
 use Rattle.plan_file.specs.Steps.{kindWanted, startState, readOf}
-use Rattle.plan_file.proofs.Ways.{Wants, Way, a-column, an-expr, an-operator, an-item}
+use Rattle.plan_file.proofs.Ways.{Way, a-column, an-expr, an-operator, an-item}
 use Rattle.plan_file.proofs.Finish.{lastOf}
 use Rattle.plan_file_laws.specs.ByteStrings.{Bytes}
-use Rattle.plan_file_laws.specs.ListItems.{firstOf, secondOf}
 use Rattle.plan_file_laws.specs.Writing.{recordsOf, Fits}
 use Rattle.plan_file_laws.specs.PlanRecords.{columnsTo, exprsTo, operatorsTo, partFrom, partOf}
 use Rattle.plan_file_laws.proofs.OpenLists.{some-left}
-use Rattle.plan_file_laws.proofs.Phases.{RulesTo, Phase, shut}
-use Rattle.plan_file_laws.proofs.RulesRead.{Kept, Takes, rules-in}
-use Rattle.plan_file_laws.proofs.Written.{All, none, more}
-use Rattle.plan_file_laws.proofs.Sequences.{Reads, begin, next, all-left, all-last, FileOf, file-of, kept-reads}
+use Rattle.plan_file_laws.proofs.Phases.{RulesTo, shut}
+use Rattle.plan_file_laws.proofs.RulesRead.{Kept, rules-in}
+use Rattle.plan_file_laws.proofs.Written.{All}
+use Rattle.plan_file_laws.proofs.Sequences.{Reads, begin, next, all-left, all-last, file-of, kept-reads}
 use Rattle.plan_file_laws.proofs.Parts.{endsIn, belongs-item, Joins, joins, joins-head, Lists, Three, Parts, at-rest, in-expr, in-operator, parts-whole, parts-column, parts-expr, parts-operator, parts-item}
 
 -- the lists of a plan that keeps the rules are whole

@@ -1,28 +1,30 @@
 -- Two plans that were read are one where their records, the starts of their lists and their items are the same. Assumes nothing.
-use Prim.Native.Nat.{ℕ, zero, suc, _+_, _-_, _≤_, _<_}
-use mathlib.Core.Path.{_≡_, refl, sym, ap, _∙_, subst}
-use mathlib.Core.List.{List, [], _∷_, _++_}
-use mathlib.Core.Logic.{_⊎_, inl, inr, ⊎-elim}
+use Prim.Native.Nat.{ℕ, _+_, _-_, _≤_, _<_}
+use mathlib.Core.Path.{_≡_, sym, ap, _∙_, subst}
+use mathlib.Core.List.{List}
+use mathlib.Core.Logic.{⊎-elim}
 use native.Mathlib.Omega.{arith}
-use native.Mathlib.Numerals.{add-one}
-use lib.ListN.{getD, set, length, replicate, List·getD-eq-default}
+use lib.ListN.{getD, set, length, replicate}
 use lib.Seq.{getD-set-other, ext-getD}
 use Rattle.lists.proofs.RangeLaws.{below-or-not}
 use Rattle.kinds.specs.declared.Record.{Record}
-use Rattle.kinds.specs.Rows.{rowOf}
+use Rattle.plan.specs.declared.Columns.{Columns}
+use Rattle.plan.specs.declared.Expressions.{Expressions}
+use Rattle.plan.specs.declared.Operators.{Operators}
+use Rattle.plan.specs.declared.Items.{Items}
 use Rattle.plan.specs.declared.Plan.{Plan}
-use Rattle.plan.specs.Plans.{emptyPlan}
-use Rattle.plan.specs.Append.{withColumn, withExpr, withOperator, withItem}
+use Rattle.plan.specs.Plans.{emptyPlan, columnPushed, expressionPushed, operatorPushed, itemPushed}
+use Rattle.plan.specs.Append.{withItem}
 use Rattle.plan.specs.Records.{columnRecord, exprRecord, exprStart, operatorRecord, operatorStart, itemRecord}
 use Rattle.plan.specs.Extends.{Extends, Sized}
-use Rattle.plan.proofs.AppendLaws.{column-longer, expr-longer, operator-longer, item-longer, new-expr-start, new-operator-start}
+use Rattle.plan.proofs.AppendLaws.{column-longer, expr-longer, operator-longer, item-longer}
 use Rattle.plan_file.specs.declared.Wanted.{Wanted}
 use Rattle.plan_file.specs.declared.State.{State}
-use Rattle.plan_file.specs.Steps.{kindWanted, lessOne, listOf, startState}
-use Rattle.plan_file.proofs.Ways.{Wants, Way, a-column, an-expr, an-operator, an-item}
+use Rattle.plan_file.specs.Steps.{kindWanted, startState}
+use Rattle.plan_file.proofs.Ways.{Way, a-column, an-expr, an-operator, an-item}
 use Rattle.plan_file_laws.proofs.OpenLists.{Open, some-left}
 use Rattle.plan_file_laws.proofs.Phases.{Phase, closed, open-expr, open-operator}
-use Rattle.plan_file_laws.proofs.RulesRead.{Kept, Takes, rules-in}
+use Rattle.plan_file_laws.proofs.RulesRead.{Kept, no-mark}
 use Rattle.plan_file_laws.proofs.Sequences.{Reads, begin, next, kept-reads}
 use Rattle.plan_file_laws.proofs.Copies.{totalOf}
 
@@ -33,146 +35,82 @@ Zero l n = (i : ℕ) → n ≤ i → getD l i 0 ≡ 0
 zero-set : (l : List ℕ) (n v : ℕ) → Zero l n → Zero (set l n v) (n + 1)
 zero-set l n v z i h = getD-set-other l n i v 0 (λ e. omega arith) ∙ z i (omega arith)
 
+pub record ColumnsZero (t : Columns) : Type 0 where
+  pub name : Zero (t .name) (t .count)
+  pub kind : Zero (t .kind) (t .count)
+
+pub record ExpressionsZero (t : Expressions) : Type 0 where
+  pub kind : Zero (t .kind) (t .count)
+  pub code : Zero (t .code) (t .count)
+  pub a : Zero (t .a) (t .count)
+  pub b : Zero (t .b) (t .count)
+  pub start : Zero (t .start) (t .count)
+  pub bits : Zero (t .bits) (t .count)
+
+pub record OperatorsZero (t : Operators) : Type 0 where
+  pub kind : Zero (t .kind) (t .count)
+  pub code : Zero (t .code) (t .count)
+  pub a : Zero (t .a) (t .count)
+  pub b : Zero (t .b) (t .count)
+  pub c : Zero (t .c) (t .count)
+  pub d : Zero (t .d) (t .count)
+  pub start : Zero (t .start) (t .count)
+
+pub record ItemsZero (t : Items) : Type 0 where
+  pub a : Zero (t .a) (t .count)
+  pub b : Zero (t .b) (t .count)
+
 pub record Zeros (p : Plan) : Type 0 where
-  pub column-name : Zero (p .columns .name) (p .columns .count)
-  pub column-kind : Zero (p .columns .kind) (p .columns .count)
-  pub expr-kind : Zero (p .expressions .kind) (p .expressions .count)
-  pub expr-code : Zero (p .expressions .code) (p .expressions .count)
-  pub expr-a : Zero (p .expressions .a) (p .expressions .count)
-  pub expr-b : Zero (p .expressions .b) (p .expressions .count)
-  pub expr-start : Zero (p .expressions .start) (p .expressions .count)
-  pub expr-bits : Zero (p .expressions .bits) (p .expressions .count)
-  pub operator-kind : Zero (p .operators .kind) (p .operators .count)
-  pub operator-code : Zero (p .operators .code) (p .operators .count)
-  pub operator-a : Zero (p .operators .a) (p .operators .count)
-  pub operator-b : Zero (p .operators .b) (p .operators .count)
-  pub operator-c : Zero (p .operators .c) (p .operators .count)
-  pub operator-d : Zero (p .operators .d) (p .operators .count)
-  pub operator-start : Zero (p .operators .start) (p .operators .count)
-  pub item-a : Zero (p .items .a) (p .items .count)
-  pub item-b : Zero (p .items .b) (p .items .count)
+  pub columns : ColumnsZero (p .columns)
+  pub exprs : ExpressionsZero (p .expressions)
+  pub operators : OperatorsZero (p .operators)
+  pub items : ItemsZero (p .items)
 
-zeros-column : (p : Plan) (x : Record) → Zeros p → Zeros (withColumn p x)
-zeros-column p x z =
+columns-zero : (t : Columns) (x : Record) → ColumnsZero t → ColumnsZero (columnPushed t x)
+columns-zero t x z = record { name = zero-set (t .name) _ _ (z .name); kind = zero-set (t .kind) _ _ (z .kind) }
+
+expressions-zero : (t : Expressions) (x : Record) (st : ℕ) → ExpressionsZero t → ExpressionsZero (expressionPushed t x st)
+expressions-zero t x st z =
     record {
-      column-name = zero-set (p .columns .name) _ _ (z .column-name);
-      column-kind = zero-set (p .columns .kind) _ _ (z .column-kind);
-      expr-kind = z .expr-kind;
-      expr-code = z .expr-code;
-      expr-a = z .expr-a;
-      expr-b = z .expr-b;
-      expr-start = z .expr-start;
-      expr-bits = z .expr-bits;
-      operator-kind = z .operator-kind;
-      operator-code = z .operator-code;
-      operator-a = z .operator-a;
-      operator-b = z .operator-b;
-      operator-c = z .operator-c;
-      operator-d = z .operator-d;
-      operator-start = z .operator-start;
-      item-a = z .item-a;
-      item-b = z .item-b;
+      kind = zero-set (t .kind) _ _ (z .kind);
+      code = zero-set (t .code) _ _ (z .code);
+      a = zero-set (t .a) _ _ (z .a);
+      b = zero-set (t .b) _ _ (z .b);
+      start = zero-set (t .start) _ _ (z .start);
+      bits = zero-set (t .bits) _ _ (z .bits);
     }
 
-zeros-expr : (p : Plan) (x : Record) (st : ℕ) → Zeros p → Zeros (withExpr p x st)
-zeros-expr p x st z =
+operators-zero : (t : Operators) (x : Record) (st : ℕ) → OperatorsZero t → OperatorsZero (operatorPushed t x st)
+operators-zero t x st z =
     record {
-      column-name = z .column-name;
-      column-kind = z .column-kind;
-      expr-kind = zero-set (p .expressions .kind) _ _ (z .expr-kind);
-      expr-code = zero-set (p .expressions .code) _ _ (z .expr-code);
-      expr-a = zero-set (p .expressions .a) _ _ (z .expr-a);
-      expr-b = zero-set (p .expressions .b) _ _ (z .expr-b);
-      expr-start = zero-set (p .expressions .start) _ _ (z .expr-start);
-      expr-bits = zero-set (p .expressions .bits) _ _ (z .expr-bits);
-      operator-kind = z .operator-kind;
-      operator-code = z .operator-code;
-      operator-a = z .operator-a;
-      operator-b = z .operator-b;
-      operator-c = z .operator-c;
-      operator-d = z .operator-d;
-      operator-start = z .operator-start;
-      item-a = z .item-a;
-      item-b = z .item-b;
+      kind = zero-set (t .kind) _ _ (z .kind);
+      code = zero-set (t .code) _ _ (z .code);
+      a = zero-set (t .a) _ _ (z .a);
+      b = zero-set (t .b) _ _ (z .b);
+      c = zero-set (t .c) _ _ (z .c);
+      d = zero-set (t .d) _ _ (z .d);
+      start = zero-set (t .start) _ _ (z .start);
     }
 
-zeros-operator : (p : Plan) (x : Record) (st : ℕ) → Zeros p → Zeros (withOperator p x st)
-zeros-operator p x st z =
-    record {
-      column-name = z .column-name;
-      column-kind = z .column-kind;
-      expr-kind = z .expr-kind;
-      expr-code = z .expr-code;
-      expr-a = z .expr-a;
-      expr-b = z .expr-b;
-      expr-start = z .expr-start;
-      expr-bits = z .expr-bits;
-      operator-kind = zero-set (p .operators .kind) _ _ (z .operator-kind);
-      operator-code = zero-set (p .operators .code) _ _ (z .operator-code);
-      operator-a = zero-set (p .operators .a) _ _ (z .operator-a);
-      operator-b = zero-set (p .operators .b) _ _ (z .operator-b);
-      operator-c = zero-set (p .operators .c) _ _ (z .operator-c);
-      operator-d = zero-set (p .operators .d) _ _ (z .operator-d);
-      operator-start = zero-set (p .operators .start) _ _ (z .operator-start);
-      item-a = z .item-a;
-      item-b = z .item-b;
-    }
-
-zeros-item : (p : Plan) (x : Record) → Zeros p → Zeros (withItem p x)
-zeros-item p x z =
-    record {
-      column-name = z .column-name;
-      column-kind = z .column-kind;
-      expr-kind = z .expr-kind;
-      expr-code = z .expr-code;
-      expr-a = z .expr-a;
-      expr-b = z .expr-b;
-      expr-start = z .expr-start;
-      expr-bits = z .expr-bits;
-      operator-kind = z .operator-kind;
-      operator-code = z .operator-code;
-      operator-a = z .operator-a;
-      operator-b = z .operator-b;
-      operator-c = z .operator-c;
-      operator-d = z .operator-d;
-      operator-start = z .operator-start;
-      item-a = zero-set (p .items .a) _ _ (z .item-a);
-      item-b = zero-set (p .items .b) _ _ (z .item-b);
-    }
-
-no-mark : (n i : ℕ) → getD {A = ℕ} (replicate n 0) i 0 ≡ 0
-no-mark zero i = List·getD-eq-default {A = ℕ} (replicate 0 0) 0 {n = i} (omega arith)
-no-mark (suc n) zero = refl
-no-mark (suc n) (suc i) = no-mark n i
+items-zero : (t : Items) (x : Record) → ItemsZero t → ItemsZero (itemPushed t x)
+items-zero t x z = record { a = zero-set (t .a) _ _ (z .a); b = zero-set (t .b) _ _ (z .b) }
 
 zeros-empty : Zeros emptyPlan
 unfolding emptyPlan
 zeros-empty =
+    let z : (n : ℕ) → Zero (replicate n 0) 0 = λ n i h. no-mark n i in
     record {
-      column-name = λ i h. no-mark 64 i;
-      column-kind = λ i h. no-mark 64 i;
-      expr-kind = λ i h. no-mark 1024 i;
-      expr-code = λ i h. no-mark 1024 i;
-      expr-a = λ i h. no-mark 1024 i;
-      expr-b = λ i h. no-mark 1024 i;
-      expr-start = λ i h. no-mark 1024 i;
-      expr-bits = λ i h. no-mark 1024 i;
-      operator-kind = λ i h. no-mark 128 i;
-      operator-code = λ i h. no-mark 128 i;
-      operator-a = λ i h. no-mark 128 i;
-      operator-b = λ i h. no-mark 128 i;
-      operator-c = λ i h. no-mark 128 i;
-      operator-d = λ i h. no-mark 128 i;
-      operator-start = λ i h. no-mark 128 i;
-      item-a = λ i h. no-mark 2048 i;
-      item-b = λ i h. no-mark 2048 i;
+      columns = record { name = z 64; kind = z 64 };
+      exprs = record { kind = z 1024; code = z 1024; a = z 1024; b = z 1024; start = z 1024; bits = z 1024 };
+      operators = record { kind = z 128; code = z 128; a = z 128; b = z 128; c = z 128; d = z 128; start = z 128 };
+      items = record { a = z 2048; b = z 2048 };
     }
 
 zeros-way : (q : State) (x : Record) (t : State) → Way q x t → Zeros (q .plan) → Zeros (t .plan)
-zeros-way q x t (a-column s h z) y = zeros-column (q .plan) x y
-zeros-way q x t (an-expr s h z) y = zeros-expr (q .plan) x _ y
-zeros-way q x t (an-operator s h z) y = zeros-operator (q .plan) x _ y
-zeros-way q x t (an-item s h n e) y = zeros-item (q .plan) x y
+zeros-way q x t (a-column s h z) y = record { columns = columns-zero _ x (y .columns); exprs = y .exprs; operators = y .operators; items = y .items }
+zeros-way q x t (an-expr s h z) y = record { columns = y .columns; exprs = expressions-zero _ x _ (y .exprs); operators = y .operators; items = y .items }
+zeros-way q x t (an-operator s h z) y = record { columns = y .columns; exprs = y .exprs; operators = operators-zero _ x _ (y .operators); items = y .items }
+zeros-way q x t (an-item s h n e) y = record { columns = y .columns; exprs = y .exprs; operators = y .operators; items = items-zero _ x (y .items) }
 
 -- Past the counts of a plan that was read stand zeros. Assumes nothing.
 pub zeros-reads : (xs : List Record) (q : State) → Reads xs q → Zeros (q .plan)
@@ -246,23 +184,23 @@ pub record SameTables (p r : Plan) : Type 0 where
 -- Then, with zeros past the counts, the plans are one. Assumes nothing.
 pub same-plan : (p r : Plan) → Sized p → Sized r → Zeros p → Zeros r → SameTables p r → p ≡ r
 same-plan p r a b y z t =
-    let cn = same-array (p .columns .name) (r .columns .name) _ _ 64 (t .columns) (a .column-name) (b .column-name) (y .column-name) (z .column-name) (λ i h. ap (λ (x : Record). x .a) (t .column i h)) in
-    let ck = same-array (p .columns .kind) (r .columns .kind) _ _ 64 (t .columns) (a .column-kind) (b .column-kind) (y .column-kind) (z .column-kind) (λ i h. ap (λ (x : Record). x .code) (t .column i h)) in
-    let ek = same-array (p .expressions .kind) (r .expressions .kind) _ _ 1024 (t .exprs) (a .expr-kind) (b .expr-kind) (y .expr-kind) (z .expr-kind) (λ i h. ap (λ (x : Record). x .kind) (t .expr i h)) in
-    let ec = same-array (p .expressions .code) (r .expressions .code) _ _ 1024 (t .exprs) (a .expr-code) (b .expr-code) (y .expr-code) (z .expr-code) (λ i h. ap (λ (x : Record). x .code) (t .expr i h)) in
-    let ea = same-array (p .expressions .a) (r .expressions .a) _ _ 1024 (t .exprs) (a .expr-a) (b .expr-a) (y .expr-a) (z .expr-a) (λ i h. ap (λ (x : Record). x .a) (t .expr i h)) in
-    let eb = same-array (p .expressions .b) (r .expressions .b) _ _ 1024 (t .exprs) (a .expr-b) (b .expr-b) (y .expr-b) (z .expr-b) (λ i h. ap (λ (x : Record). x .b) (t .expr i h)) in
-    let es = same-array (p .expressions .start) (r .expressions .start) _ _ 1024 (t .exprs) (a .expr-start) (b .expr-start) (y .expr-start) (z .expr-start) (t .expr-start) in
-    let ez = same-array (p .expressions .bits) (r .expressions .bits) _ _ 1024 (t .exprs) (a .expr-bits) (b .expr-bits) (y .expr-bits) (z .expr-bits) (λ i h. ap (λ (x : Record). x .bits) (t .expr i h)) in
-    let ok = same-array (p .operators .kind) (r .operators .kind) _ _ 128 (t .operators) (a .operator-kind) (b .operator-kind) (y .operator-kind) (z .operator-kind) (λ i h. ap (λ (x : Record). x .kind) (t .operator i h)) in
-    let oc = same-array (p .operators .code) (r .operators .code) _ _ 128 (t .operators) (a .operator-code) (b .operator-code) (y .operator-code) (z .operator-code) (λ i h. ap (λ (x : Record). x .code) (t .operator i h)) in
-    let oa = same-array (p .operators .a) (r .operators .a) _ _ 128 (t .operators) (a .operator-a) (b .operator-a) (y .operator-a) (z .operator-a) (λ i h. ap (λ (x : Record). x .a) (t .operator i h)) in
-    let ob = same-array (p .operators .b) (r .operators .b) _ _ 128 (t .operators) (a .operator-b) (b .operator-b) (y .operator-b) (z .operator-b) (λ i h. ap (λ (x : Record). x .b) (t .operator i h)) in
-    let od = same-array (p .operators .c) (r .operators .c) _ _ 128 (t .operators) (a .operator-c) (b .operator-c) (y .operator-c) (z .operator-c) (λ i h. ap (λ (x : Record). x .c) (t .operator i h)) in
-    let oe = same-array (p .operators .d) (r .operators .d) _ _ 128 (t .operators) (a .operator-d) (b .operator-d) (y .operator-d) (z .operator-d) (λ i h. ap (λ (x : Record). x .d) (t .operator i h)) in
-    let os = same-array (p .operators .start) (r .operators .start) _ _ 128 (t .operators) (a .operator-start) (b .operator-start) (y .operator-start) (z .operator-start) (t .operator-start) in
-    let ia = same-array (p .items .a) (r .items .a) _ _ 2048 (t .items) (a .item-a) (b .item-a) (y .item-a) (z .item-a) (λ i h. ap (λ (x : Record). x .a) (t .item i h)) in
-    let ib = same-array (p .items .b) (r .items .b) _ _ 2048 (t .items) (a .item-b) (b .item-b) (y .item-b) (z .item-b) (λ i h. ap (λ (x : Record). x .b) (t .item i h)) in
+    let cn = same-array (p .columns .name) (r .columns .name) _ _ 64 (t .columns) (a .column-name) (b .column-name) (y .columns .name) (z .columns .name) (λ i h. ap (λ (x : Record). x .a) (t .column i h)) in
+    let ck = same-array (p .columns .kind) (r .columns .kind) _ _ 64 (t .columns) (a .column-kind) (b .column-kind) (y .columns .kind) (z .columns .kind) (λ i h. ap (λ (x : Record). x .code) (t .column i h)) in
+    let ek = same-array (p .expressions .kind) (r .expressions .kind) _ _ 1024 (t .exprs) (a .expr-kind) (b .expr-kind) (y .exprs .kind) (z .exprs .kind) (λ i h. ap (λ (x : Record). x .kind) (t .expr i h)) in
+    let ec = same-array (p .expressions .code) (r .expressions .code) _ _ 1024 (t .exprs) (a .expr-code) (b .expr-code) (y .exprs .code) (z .exprs .code) (λ i h. ap (λ (x : Record). x .code) (t .expr i h)) in
+    let ea = same-array (p .expressions .a) (r .expressions .a) _ _ 1024 (t .exprs) (a .expr-a) (b .expr-a) (y .exprs .a) (z .exprs .a) (λ i h. ap (λ (x : Record). x .a) (t .expr i h)) in
+    let eb = same-array (p .expressions .b) (r .expressions .b) _ _ 1024 (t .exprs) (a .expr-b) (b .expr-b) (y .exprs .b) (z .exprs .b) (λ i h. ap (λ (x : Record). x .b) (t .expr i h)) in
+    let es = same-array (p .expressions .start) (r .expressions .start) _ _ 1024 (t .exprs) (a .expr-start) (b .expr-start) (y .exprs .start) (z .exprs .start) (t .expr-start) in
+    let ez = same-array (p .expressions .bits) (r .expressions .bits) _ _ 1024 (t .exprs) (a .expr-bits) (b .expr-bits) (y .exprs .bits) (z .exprs .bits) (λ i h. ap (λ (x : Record). x .bits) (t .expr i h)) in
+    let ok = same-array (p .operators .kind) (r .operators .kind) _ _ 128 (t .operators) (a .operator-kind) (b .operator-kind) (y .operators .kind) (z .operators .kind) (λ i h. ap (λ (x : Record). x .kind) (t .operator i h)) in
+    let oc = same-array (p .operators .code) (r .operators .code) _ _ 128 (t .operators) (a .operator-code) (b .operator-code) (y .operators .code) (z .operators .code) (λ i h. ap (λ (x : Record). x .code) (t .operator i h)) in
+    let oa = same-array (p .operators .a) (r .operators .a) _ _ 128 (t .operators) (a .operator-a) (b .operator-a) (y .operators .a) (z .operators .a) (λ i h. ap (λ (x : Record). x .a) (t .operator i h)) in
+    let ob = same-array (p .operators .b) (r .operators .b) _ _ 128 (t .operators) (a .operator-b) (b .operator-b) (y .operators .b) (z .operators .b) (λ i h. ap (λ (x : Record). x .b) (t .operator i h)) in
+    let od = same-array (p .operators .c) (r .operators .c) _ _ 128 (t .operators) (a .operator-c) (b .operator-c) (y .operators .c) (z .operators .c) (λ i h. ap (λ (x : Record). x .c) (t .operator i h)) in
+    let oe = same-array (p .operators .d) (r .operators .d) _ _ 128 (t .operators) (a .operator-d) (b .operator-d) (y .operators .d) (z .operators .d) (λ i h. ap (λ (x : Record). x .d) (t .operator i h)) in
+    let os = same-array (p .operators .start) (r .operators .start) _ _ 128 (t .operators) (a .operator-start) (b .operator-start) (y .operators .start) (z .operators .start) (t .operator-start) in
+    let ia = same-array (p .items .a) (r .items .a) _ _ 2048 (t .items) (a .item-a) (b .item-a) (y .items .a) (z .items .a) (λ i h. ap (λ (x : Record). x .a) (t .item i h)) in
+    let ib = same-array (p .items .b) (r .items .b) _ _ 2048 (t .items) (a .item-b) (b .item-b) (y .items .b) (z .items .b) (λ i h. ap (λ (x : Record). x .b) (t .item i h)) in
     λ i.
     record {
       columns = record { count = t .columns i; name = cn i; kind = ck i };

@@ -1,6 +1,6 @@
 -- What the writer writes of an accepted plan is accepted, and gives a copy of the plan; a file in the writer's order is what the writer writes of
 -- its plan. Assumes nothing.
-use Prim.Native.Nat.{ℕ, zero, suc, _+_, _-_, _≤_, _<_}
+use Prim.Native.Nat.{ℕ, zero, suc, _+_, _≤_, _<_}
 use mathlib.Core.Path.{_≡_, refl, sym, ap, _∙_, subst}
 use mathlib.Core.Bool.{Bool, true, false, cond}
 use mathlib.Core.List.{List, [], _∷_, _++_}
@@ -10,39 +10,38 @@ use Rattle.kinds.specs.declared.Record.{Record}
 use Rattle.kinds.specs.Rows.{rowOf}
 use Rattle.plan.specs.declared.Plan.{Plan}
 use Rattle.plan.specs.Plans.{emptyPlan}
-use Rattle.plan.specs.Append.{withColumn, withExpr, withOperator, withItem}
+use Rattle.plan.specs.Append.{withExpr, withOperator}
 use Rattle.plan.specs.Records.{columnRecord, exprRecord, exprStart, operatorRecord, operatorStart, itemRecord}
 use Rattle.plan.specs.Extends.{Extends, Sized}
-use Rattle.plan.proofs.AppendLaws.{column-longer, expr-longer, operator-longer, new-expr-start, new-operator-start}
+use Rattle.plan.proofs.AppendLaws.{expr-longer, operator-longer, new-expr-start, new-operator-start}
 use Rattle.plan_file.specs.declared.Wanted.{Wanted}
 use Rattle.plan_file.specs.declared.State.{State}
 use Rattle.plan_file.specs.declared.Answer.{Answer}
 use Rattle.plan_file.specs.declared.Reading.the-variants.{Whole}
 use Rattle.plan_file.specs.Answers.{isWhole}
-use Rattle.plan_file.specs.Steps.{kindWanted, lessOne, listOf, startState, readOf}
+use Rattle.plan_file.specs.Steps.{kindWanted, startState, readOf}
 use Rattle.plan_file.proofs.Ways.{Wants, Way, a-column, an-expr, an-operator, an-item}
 use Rattle.plan_file.proofs.Finish.{lastOf}
 use Rattle.plan_file_laws.specs.ByteStrings.{Bytes}
-use Rattle.plan_file_laws.specs.ListItems.{ScanHas}
 use Rattle.plan_file_laws.specs.Writing.{putRecords, recordsOf, Fits}
-use Rattle.plan_file_laws.specs.PlanRecords.{columnsTo, exprsTo, operatorsTo, planRecords, writeOf, belongs, partFrom, partOf}
+use Rattle.plan_file_laws.specs.PlanRecords.{planRecords, writeOf, belongs, partFrom, partOf}
 use Rattle.plan_file_laws.proofs.RowFacts.{column-row}
 use Rattle.plan_file_laws.proofs.OpenLists.{Open, some-left, open-shut, open-less}
-use Rattle.plan_file_laws.proofs.Phases.{RulesTo, shut, no-list, expr-open, operator-open}
-use Rattle.plan_file_laws.proofs.RulesRead.{Kept, Takes, rules-in}
+use Rattle.plan_file_laws.proofs.Phases.{shut, no-list, expr-open, operator-open}
+use Rattle.plan_file_laws.proofs.RulesRead.{Kept, rules-in}
 use Rattle.plan_file_laws.proofs.Written.{All, none, more}
-use Rattle.plan_file_laws.proofs.Sequences.{Reads, begin, next, FileOf, file-of, kept-reads, read-records}
+use Rattle.plan_file_laws.proofs.Sequences.{Reads, begin, next, file-of, kept-reads, read-records}
 use Rattle.plan_file_laws.proofs.Parts.{Three}
 use Rattle.plan_file_laws.proofs.OneToOne.{three-reads, parts-read}
-use Rattle.plan_file_laws.proofs.Copies.{totalOf, itemsTo, exprItems, operatorItems, Source, Copy, Rest}
+use Rattle.plan_file_laws.proofs.Copies.{totalOf, itemsTo, exprItems, operatorItems, Source, Copy}
 use Rattle.plan_file_laws.proofs.CopyRuns.{copied}
-use Rattle.plan_file_laws.proofs.SamePlans.{Zeros, zeros-reads, Covered, by-expr, by-operator, covered-reads, SameTables, same-plan}
+use Rattle.plan_file_laws.proofs.SamePlans.{Zeros, zeros-reads, Covered, by-expr, by-operator, covered-reads, same-plan}
 
 -- ---- an accepted plan has as many items as its records have in their lists
-items-same : (f g : ℕ → Record) (n : ℕ) → ((i : ℕ) → i < n → f i ≡ g i) → itemsTo f n ≡ itemsTo g n
+sums-same : (f g : ℕ → Record) (n : ℕ) → ((i : ℕ) → i < n → f i ≡ g i) → itemsTo f n ≡ itemsTo g n
 unfolding itemsTo
-items-same f g zero e = refl
-items-same f g (suc n) e = λ i. items-same f g n (λ j h. e j (omega arith)) i + totalOf (e n (omega arith) i)
+sums-same f g zero e = refl
+sums-same f g (suc n) e = λ i. sums-same f g n (λ j h. e j (omega arith)) i + totalOf (e n (omega arith) i)
 
 data Sums (w : Wanted) (p : Plan) : Type 0 where
   at-rest : w .left + w .more ≡ 0 → exprItems p (p .expressions .count) + operatorItems p (p .operators .count) ≡ p .items .count → Sums w p
@@ -65,10 +64,10 @@ sums-whole w p f z (in-operator i n o e) =
 
 module _ (p q : Plan) (e : Extends p q) where
   exprs-grow : exprItems q (p .expressions .count) ≡ exprItems p (p .expressions .count)
-  exprs-grow = items-same (exprRecord q) (exprRecord p) (p .expressions .count) (λ i h. e .expr i h)
+  exprs-grow = sums-same (exprRecord q) (exprRecord p) (p .expressions .count) (λ i h. e .expr i h)
 
   operators-grow : operatorItems q (p .operators .count) ≡ operatorItems p (p .operators .count)
-  operators-grow = items-same (operatorRecord q) (operatorRecord p) (p .operators .count) (λ i h. e .operator i h)
+  operators-grow = sums-same (operatorRecord q) (operatorRecord p) (p .operators .count) (λ i h. e .operator i h)
 
 sums-way : (q : State) (x : Record) (t : State) → Kept q → Way q x t → Sums (q .wanted) (q .plan) → Sums (t .wanted) (t .plan)
 sums-way q x t k (a-column s h z) a =
@@ -231,8 +230,8 @@ placed-back s b e l =
 pub back-placed : (p : Plan) (w : WrittenBack p) → Placed (w .plan)
 back-placed p w =
     let c = w .copy in
-    let e : (i : ℕ) → i ≤ p .expressions .count → exprItems (w .plan) i ≡ exprItems p i = λ i h. items-same (exprRecord (w .plan)) (exprRecord p) i (λ j u. c .expr j (omega arith)) in
-    let o : (i : ℕ) → i ≤ p .operators .count → operatorItems (w .plan) i ≡ operatorItems p i = λ i h. items-same (operatorRecord (w .plan)) (operatorRecord p) i (λ j u. c .operator j (omega arith)) in
+    let e : (i : ℕ) → i ≤ p .expressions .count → exprItems (w .plan) i ≡ exprItems p i = λ i h. sums-same (exprRecord (w .plan)) (exprRecord p) i (λ j u. c .expr j (omega arith)) in
+    let o : (i : ℕ) → i ≤ p .operators .count → operatorItems (w .plan) i ≡ operatorItems p i = λ i h. sums-same (operatorRecord (w .plan)) (operatorRecord p) i (λ j u. c .operator j (omega arith)) in
     record {
       expr = λ i h. c .expr-start i (omega (arith, w .exprs)) ∙ sym (e i (omega (arith, w .exprs)));
       operator = λ i h. c .operator-start i (omega (arith, w .operators))
