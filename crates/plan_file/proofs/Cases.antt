@@ -3,7 +3,7 @@
 use Prim.Native.Nat.{ℕ}
 use mathlib.Core.Path.{_≡_, refl}
 use mathlib.Core.List.{List, [], _∷_, map}
-use lib.ListN.{getD, take}
+use lib.ListN.{getD}
 use Rattle.kinds.specs.declared.Record.{Record}
 use Rattle.kinds.specs.Rows.{rowOf, lineOf}
 use Rattle.kinds.specs.Records.{handleOk, countOf, moreOf}

@@ -7,19 +7,18 @@ use mathlib.Core.List.{List}
 use mathlib.Core.Logic.{_⊎_, inl, inr, ⊎-elim}
 use native.Mathlib.Omega.{arith}
 use lib.Dec.{leb, eqb}
-use lib.ListN.{length, drop, length-drop}
+use lib.ListN.{length, length-drop}
 use borrow.Author.Tests.{eqb-true, leb-true, lt-leb}
 use Rattle.kinds.specs.declared.Record.{Record}
 use Rattle.kinds.specs.Rows.{rowOf}
 use Rattle.kinds.proofs.Table.{and-left, and-right, long-row}
-use Rattle.plan.specs.declared.Plan.{Plan}
 use Rattle.plan.specs.Plans.{emptyPlan}
 use Rattle.plan_file.specs.declared.State.{State}
 use Rattle.plan_file.specs.declared.Reading.{Reading}
 use Rattle.plan_file.specs.declared.Reading.the-variants.{Whole, Short, Unknown, Room, Handle, ScannedTwice}
 use Rattle.plan_file.specs.Answers.{isWhole, refusalOf, placeOf}
-use Rattle.plan_file.specs.Steps.{kindWanted, refusedBy, isDone, stepOf, stepsOf, startState, answerOf, readOf}
-use Rattle.plan_file.proofs.Ways.{Way, a-column, an-expr, an-operator, an-item, Taking, Refusal, nextOf, step-cases, wants, steps-keep}
+use Rattle.plan_file.specs.Steps.{kindWanted, refusedBy, isDone, stepsOf, startState, answerOf, readOf}
+use Rattle.plan_file.proofs.Ways.{Way, a-column, an-expr, an-operator, an-item, Taking, step-cases, wants}
 
 -- after k steps: within the bytes, and done or two bytes further for each step
 pub record Going (n k : ℕ) (q : State) : Type 0 where
@@ -27,7 +26,8 @@ pub record Going (n k : ℕ) (q : State) : Type 0 where
   pub far : (isDone n q ≡ true) ⊎ (2 * k ≤ q .at)
   pub place : placeOf (q .reading) ≤ n
 
-true-false : (b : Bool) → b ≡ true → b ≡ false → ⊥
+-- a Bool is not both
+pub true-false : (b : Bool) → b ≡ true → b ≡ false → ⊥
 true-false b e f = let z : _≡_ {A = ℕ} 0 1 = ap (λ (t : Bool). cond t 0 1) (sym e ∙ f) in omega arith
 
 done-refused : (n : ℕ) (q : State) (k : Reading) → isWhole k ≡ false → isDone n (refusedBy q k) ≡ true

@@ -1,20 +1,19 @@
 -- The ways through a step as cases: the record that is taken, what held of it, and the state after it. Assumes nothing.
-use Prim.Native.Nat.{ℕ, zero, suc, _+_, _-_, _≤_, _<_}
-use mathlib.Core.Path.{_≡_, refl, sym, ap, _∙_, subst}
+use Prim.Native.Nat.{ℕ, zero, suc, _+_, _-_, _<_}
+use mathlib.Core.Path.{_≡_, refl, sym, ap, _∙_}
 use mathlib.Core.Bool.{Bool, true, false, cond, _&&_, _||_, not}
 use mathlib.Core.List.{List}
 use native.Mathlib.Omega.{arith}
 use native.Mathlib.Decide.{decLt, ℕ-discrete}
 use lib.Dec.{ltb, leb, eqb}
 use lib.ListN.{getD, set, length, drop}
-use borrow.Author.Tests.{eqb-true, leb-false, ltb-true, lt-ltb, le-ltb, eq-eqb, ne-eqb, not-false}
+use borrow.Author.Tests.{eqb-true, leb-false, ltb-true, lt-ltb, le-ltb, eq-eqb, ne-eqb}
 use Rattle.kinds.specs.declared.Record.{Record}
 use Rattle.kinds.specs.declared.Row.{Row}
 use Rattle.kinds.specs.Rows.{rowOf, lineOf}
 use Rattle.kinds.specs.Records.{codeOk, handlesOk, countOf}
 use Rattle.kinds.proofs.Table.{and-left, and-right, item-kinds}
 use Rattle.plan.specs.declared.Plan.{Plan}
-use Rattle.plan.specs.declared.Appended.{Appended}
 use Rattle.plan.specs.Append.{noRoom, addedAt, withColumn, withExpr, withOperator, withItem, appendColumn, appendExpr, appendOperator, appendItem}
 use Rattle.plan_file.specs.declared.Wanted.{Wanted}
 use Rattle.plan_file.specs.declared.State.{State}

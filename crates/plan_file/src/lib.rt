@@ -40,7 +40,7 @@ pub struct Wanted {
     pub scan: bool,
 }
 
-// What a reading knows between two records. `scans` has for each column the Scan operator that has it and one, 0 for none: with it
+// What a reading knows between two records; public only for the theorems of the crates above. `scans` has for each column the Scan operator that has it and one, 0 for none: with it
 // the test for a second Scan takes one look.
 pub struct State {
     pub at: usize,

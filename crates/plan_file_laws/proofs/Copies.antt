@@ -3,42 +3,51 @@ use Prim.Native.Nat.{ℕ, zero, suc, _+_, _-_, _≤_, _<_}
 use mathlib.Core.Path.{_≡_, refl, sym, ap, _∙_, subst}
 use mathlib.Core.Bool.{Bool, true, false, cond, _&&_, _||_, not}
 use mathlib.Core.List.{List, [], _∷_, _++_, append-assoc}
-use mathlib.Core.Logic.{_⊎_, inl, inr, ⊎-elim}
+use mathlib.Core.Logic.{⊎-elim}
 use native.Mathlib.Omega.{arith}
-use native.Mathlib.Numerals.{add-one}
-use native.Mathlib.Decide.{decLt, ℕ-discrete}
-use native.Mathlib.Nat.{le-trans}
-use lib.Dec.{ltb, leb, eqb}
-use lib.ListN.{getD, set, length}
-use borrow.Author.Tests.{eqb-true, leb-true, le-leb, lt-ltb, le-ltb, eq-eqb, ne-eqb}
+use native.Mathlib.Decide.{decLt}
+use lib.Dec.{leb, eqb}
+use lib.ListN.{set}
+use borrow.Author.Tests.{eqb-true, le-leb, lt-ltb, le-ltb, eq-eqb, ne-eqb}
 use Rattle.lists.specs.Ranges.{allFrom}
-use Rattle.lists.proofs.RangeLaws.{below-or-not, and-left, and-right, and-both, all-at}
+use Rattle.lists.proofs.RangeLaws.{below-or-not, and-left, and-right, all-at}
 use Rattle.kinds.specs.declared.Record.{Record}
 use Rattle.kinds.specs.declared.Row.{Row}
 use Rattle.kinds.specs.Rows.{rowOf, lineOf}
-use Rattle.kinds.specs.Records.{codeOk, bitsOk, handleOk, handlesOk, countOf, moreOf}
+use Rattle.kinds.specs.Records.{codeOk, bitsOk, handleOk, handlesOk}
 use Rattle.kinds.proofs.Table.{holds, every-row}
 use Rattle.plan.specs.declared.Plan.{Plan}
-use Rattle.plan.specs.Append.{withColumn, withExpr, withOperator, withItem}
+use Rattle.plan.specs.Append.{withItem}
 use Rattle.plan.specs.Records.{columnRecord, exprRecord, exprStart, operatorRecord, operatorStart, itemRecord}
-use Rattle.plan.specs.Extends.{Extends, Sized}
-use Rattle.plan.proofs.AppendLaws.{column-longer, expr-longer, operator-longer, item-longer, new-column, new-expr, new-expr-start, new-operator, new-operator-start, new-item}
+use Rattle.plan.specs.Extends.{Extends}
+use Rattle.plan.proofs.AppendLaws.{item-longer, new-item}
 use Rattle.plan_rules.specs.Rules.{recordOk, itemOk, listsOk, exprOkOf, exprOk, operatorOkOf, operatorOk}
 use Rattle.plan_file.specs.declared.Wanted.{Wanted}
 use Rattle.plan_file.specs.declared.State.{State}
-use Rattle.plan_file.specs.Steps.{kindWanted, lessOne, listOf, scannedTwice, startState}
-use Rattle.plan_file.proofs.Ways.{Wants, Way, a-column, an-expr, an-operator, an-item, nextOf, item-sort, wants-list}
+use Rattle.plan_file.specs.Steps.{kindWanted, lessOne, listOf, scannedTwice}
+use Rattle.plan_file.proofs.Ways.{an-item, nextOf, wants-list}
 use Rattle.plan_file_laws.specs.ListItems.{firstOf, secondOf, itemKind, ScanHas}
-use Rattle.plan_file_laws.specs.PlanRecords.{itemOf, itemsOf, withItems, columnsTo, exprsTo, operatorsTo, planRecords}
-use Rattle.plan_file_laws.proofs.RowFacts.{item-row, expr-row, no-bits, handles-part}
+use Rattle.plan_file_laws.specs.PlanRecords.{itemOf, itemsOf}
+use Rattle.plan_file_laws.proofs.RowFacts.{item-row, no-bits, handles-part}
 use Rattle.plan_file_laws.proofs.OpenLists.{kind-none}
-use Rattle.plan_file_laws.proofs.Phases.{Right, RulesTo, shut, phase-expr}
-use Rattle.plan_file_laws.proofs.RulesRead.{Kept, Takes, rules-in}
-use Rattle.plan_file_laws.proofs.Sequences.{Reads, begin, next, kept-reads}
+use Rattle.plan_file_laws.proofs.Phases.{Right, RulesTo, zero-bits}
+use Rattle.plan_file_laws.proofs.RulesRead.{Takes, rules-in}
+use Rattle.plan_file_laws.proofs.Sequences.{Reads, next, kept-reads}
 
 -- how many items a record has
 abbrev pub totalOf : Record → ℕ
 totalOf x = firstOf x + secondOf x
+
+-- how many items the first n of some records have
+unfoldable pub itemsTo : (ℕ → Record) → ℕ → ℕ
+itemsTo f zero = 0
+itemsTo f (suc n) = itemsTo f n + totalOf (f n)
+
+abbrev pub exprItems : Plan → ℕ → ℕ
+exprItems p n = itemsTo (exprRecord p) n
+
+abbrev pub operatorItems : Plan → ℕ → ℕ
+operatorItems p n = itemsTo (operatorRecord p) n
 
 -- ---- what is wanted after m items of the lists of x
 abbrev pub wantedAt : Record → ℕ → Wanted
@@ -86,13 +95,16 @@ at-start x =
     let b : secondOf x ≡ secondOf x - (0 - firstOf x) = omega arith in
     λ i. record { item = rowOf (x .kind) .item; left = a i; more = b i; scan = eqb (x .kind) 0x30 }
 
--- ---- a copy of a plan's first c columns, e expressions and o operators, with their lists wherever they stand
+-- ---- a copy of a plan's first c columns, e expressions and o operators, with their lists one after the other: those of the expressions, then
+-- those of the operators
 pub record Copy (p r : Plan) (c e o : ℕ) : Type 0 where
   pub column : (i : ℕ) → i < c → columnRecord r i ≡ columnRecord p i
   pub expr : (i : ℕ) → i < e → exprRecord r i ≡ exprRecord p i
+  pub expr-start : (i : ℕ) → i < e → exprStart r i ≡ exprItems p i
   pub expr-items : (i : ℕ) → i < e → (k : ℕ) → k < totalOf (exprRecord p i) → itemRecord r (exprStart r i + k) ≡ itemRecord p (exprStart p i + k)
   pub expr-whole : (i : ℕ) → i < e → exprStart r i + totalOf (exprRecord p i) ≤ r .items .count
   pub operator : (i : ℕ) → i < o → operatorRecord r i ≡ operatorRecord p i
+  pub operator-start : (i : ℕ) → i < o → operatorStart r i ≡ exprItems p (p .expressions .count) + operatorItems p i
   pub operator-items : (i : ℕ) → i < o → (k : ℕ) → k < totalOf (operatorRecord p i) → itemRecord r (operatorStart r i + k) ≡ itemRecord p (operatorStart p i + k)
   pub operator-whole : (i : ℕ) → i < o → operatorStart r i + totalOf (operatorRecord p i) ≤ r .items .count
 
@@ -102,11 +114,13 @@ copy-grow p r u c e o g hc he ho y =
     record {
       column = λ i h. g .column i (omega arith) ∙ y .column i h;
       expr = λ i h. g .expr i (omega arith) ∙ y .expr i h;
+      expr-start = λ i h. g .expr-start i (omega arith) ∙ y .expr-start i h;
       expr-items = λ i h k l.
           let s = g .expr-start i (omega arith) in
           ap (λ (n : ℕ). itemRecord u (n + k)) s ∙ g .item (exprStart r i + k) (omega (arith, y .expr-whole i h)) ∙ y .expr-items i h k l;
       expr-whole = λ i h. let s = g .expr-start i (omega arith) in omega (arith, y .expr-whole i h, g .items);
       operator = λ i h. g .operator i (omega arith) ∙ y .operator i h;
+      operator-start = λ i h. g .operator-start i (omega arith) ∙ y .operator-start i h;
       operator-items = λ i h k l.
           let s = g .operator-start i (omega arith) in
           ap (λ (n : ℕ). itemRecord u (n + k)) s ∙ g .item (operatorStart r i + k) (omega (arith, y .operator-whole i h)) ∙ y .operator-items i h k l;
@@ -148,10 +162,6 @@ item-low k e =
 
 zero-code : (r : Row) (x : Record) → r .low ≡ 0 → x .code ≡ 0 → codeOk r x ≡ true
 zero-code r x e f = rw (e, f, le-leb 0 (r .high) (omega arith))
-
-zero-bits : (r : Row) (x : Record) → r .bits ≡ 0 → x .bits ≡ 0 → bitsOk r x ≡ true
-unfolding bitsOk
-zero-bits r x e f = rw (e, f)
 
 sort-40 : rowOf 0x40 .sort ≡ 4
 unfolding rowOf lineOf
@@ -245,17 +255,6 @@ mid-run H p xs q c e o ce co n x st g d (suc m) h =
     (u .0, subst (λ (zs : List Record). Mid H p zs (u .0) c e o ce co n x st (suc m)) (append-assoc xs (x ∷ itemsOf p x st m) (itemOf p x st m ∷ [])) (u .1))
 
 -- ---- the plan that is copied
--- how many items the first n of some records have
-unfoldable pub itemsTo : (ℕ → Record) → ℕ → ℕ
-itemsTo f zero = 0
-itemsTo f (suc n) = itemsTo f n + totalOf (f n)
-
-abbrev pub exprItems : Plan → ℕ → ℕ
-exprItems p n = itemsTo (exprRecord p) n
-
-abbrev pub operatorItems : Plan → ℕ → ℕ
-operatorItems p n = itemsTo (operatorRecord p) n
-
 -- it keeps the rules, and its lists, taken one after the other, fit the table of items
 pub record Source (p : Plan) : Type 0 where
   pub rules : RulesTo p (p .expressions .count) (p .operators .count)

@@ -2,40 +2,37 @@
 -- Assumes nothing.
 use Prim.Native.Nat.{ℕ, zero, suc, _+_, _-_, _≤_, _<_}
 use mathlib.Core.Path.{_≡_, refl, sym, ap, _∙_, subst}
-use mathlib.Core.Bool.{Bool, true, false, cond, _&&_, _||_, not}
+use mathlib.Core.Bool.{Bool, true, false, _&&_, not}
 use mathlib.Core.List.{List, [], _∷_, _++_, append-assoc}
 use mathlib.Core.Logic.{_⊎_, inl, inr, ⊎-elim}
 use native.Mathlib.Omega.{arith}
-use native.Mathlib.Numerals.{add-one}
-use native.Mathlib.Decide.{decLt, ℕ-discrete}
+use native.Mathlib.Decide.{ℕ-discrete}
 use native.Mathlib.Nat.{suc-add, zero-add}
-use lib.Dec.{ltb, leb, eqb}
-use lib.ListN.{getD, length}
-use borrow.Author.Tests.{eqb-true, eqb-false, eq-eqb, ne-eqb}
-use Rattle.lists.proofs.RangeLaws.{below-or-not, and-left, and-right}
+use lib.Dec.{leb, eqb}
+use lib.ListN.{getD}
+use borrow.Author.Tests.{eq-eqb}
+use Rattle.lists.proofs.RangeLaws.{below-or-not}
 use Rattle.kinds.specs.declared.Record.{Record}
-use Rattle.kinds.specs.declared.Row.{Row}
-use Rattle.kinds.specs.Rows.{rowOf, lineOf}
-use Rattle.kinds.specs.Records.{countOf, moreOf}
+use Rattle.kinds.specs.Rows.{rowOf}
 use Rattle.plan.specs.declared.Plan.{Plan}
 use Rattle.plan.specs.Plans.{emptyPlan}
-use Rattle.plan.specs.Append.{withColumn, withExpr, withOperator, withItem}
+use Rattle.plan.specs.Append.{withColumn, withExpr, withOperator}
 use Rattle.plan.specs.Records.{columnRecord, exprRecord, exprStart, operatorRecord, operatorStart, itemRecord}
-use Rattle.plan.specs.Extends.{Extends, Sized}
+use Rattle.plan.specs.Extends.{Sized}
 use Rattle.plan.proofs.AppendLaws.{column-longer, expr-longer, operator-longer, new-column, new-expr, new-expr-start, new-operator, new-operator-start}
-use Rattle.plan_file.specs.declared.Wanted.{Wanted}
 use Rattle.plan_file.specs.declared.State.{State}
-use Rattle.plan_file.specs.Steps.{kindWanted, listOf, scannedTwice, startState}
+use Rattle.plan_file.specs.Steps.{kindWanted, listOf, startState}
 use Rattle.plan_file.proofs.Ways.{a-column, an-expr, an-operator, nextOf}
-use Rattle.plan_file_laws.specs.ListItems.{firstOf, secondOf, itemKind, ScanHas}
-use Rattle.plan_file_laws.specs.PlanRecords.{itemOf, itemsOf, withItems, columnsTo, exprsTo, operatorsTo, planRecords}
+use Rattle.plan_file_laws.specs.ListItems.{itemKind, ScanHas}
+use Rattle.plan_file_laws.specs.PlanRecords.{itemOf, withItems, columnsTo, exprsTo, operatorsTo, planRecords}
 use Rattle.plan_file_laws.proofs.RowFacts.{column-row, expr-row, handles-part}
 use Rattle.plan_file_laws.proofs.OpenLists.{kind-none}
-use Rattle.plan_file_laws.proofs.Phases.{Right, RulesTo, no-list}
-use Rattle.plan_file_laws.proofs.Marks.{Marks, scan-whole, scan-first, scan-second, scan-sort}
-use Rattle.plan_file_laws.proofs.RulesRead.{Kept, Takes, rules-in}
+use Rattle.plan_file_laws.proofs.Phases.{Right, no-list}
+use Rattle.plan_file_laws.proofs.Marks.{scan-whole, scan-first, scan-second, scan-sort}
+use Rattle.plan_file_laws.proofs.RulesRead.{Takes, rules-in, not-zero}
 use Rattle.plan_file_laws.proofs.Sequences.{Reads, begin, next, kept-reads}
-use Rattle.plan_file_laws.proofs.Copies.{totalOf, wantedAt, at-start, kind-end, Copy, copy-grow, Rest, Mid, Going, item-right, right-at, mid-run, Source, itemsTo, exprItems, operatorItems, list-item, Record-ok, expr-parts, operator-parts, head-once, other-once, column-sort, column-right, one-more}
+use Rattle.plan_file_laws.proofs.Parts.{append-nil}
+use Rattle.plan_file_laws.proofs.Copies.{totalOf, at-start, kind-end, Copy, copy-grow, Rest, Mid, Going, item-right, right-at, mid-run, Source, itemsTo, exprItems, operatorItems, list-item, expr-parts, operator-parts, head-once, other-once, column-sort, column-right, one-more}
 
 -- the arrays of a plan that was read have their sizes
 sized : (xs : List Record) (q : State) → Reads xs q → Sized (q .plan)
@@ -66,9 +63,11 @@ column-next p xs q i h ok d =
               (λ j u. e .column j (omega (arith, d .columns)) ∙ d .copy .column j u)
               (ap (columnRecord (withColumn (q .plan) x)) (sym (d .columns)) ∙ new-column (q .plan) x (sized xs q (d .reads)) l);
           expr = λ j u. absurd (omega arith);
+          expr-start = λ j u. absurd (omega arith);
           expr-items = λ j u. absurd (omega arith);
           expr-whole = λ j u. absurd (omega arith);
           operator = λ j u. absurd (omega arith);
+          operator-start = λ j u. absurd (omega arith);
           operator-items = λ j u. absurd (omega arith);
           operator-whole = λ j u. absurd (omega arith);
         };
@@ -88,17 +87,15 @@ start-rest p =
       copy = record {
         column = λ j u. absurd (omega arith);
         expr = λ j u. absurd (omega arith);
+        expr-start = λ j u. absurd (omega arith);
         expr-items = λ j u. absurd (omega arith);
         expr-whole = λ j u. absurd (omega arith);
         operator = λ j u. absurd (omega arith);
+        operator-start = λ j u. absurd (omega arith);
         operator-items = λ j u. absurd (omega arith);
         operator-whole = λ j u. absurd (omega arith);
       };
     }
-
-append-nil : (xs : List Record) → xs ++ [] ≡ xs
-append-nil [] = refl
-append-nil (x ∷ xs) = ap (λ (l : List Record). x ∷ l) (append-nil xs)
 
 -- the items of more records are more
 items-more : (f : ℕ → Record) (n d : ℕ) → itemsTo f n ≤ itemsTo f (d + n)
@@ -174,9 +171,9 @@ module _ (p : Plan) (s : Source p) where
       no-scan v e f = let z : _≡_ {A = ℕ} 3 2 = sym scan-sort ∙ ap (λ (w : ℕ). rowOf w .sort) (sym e) ∙ f in omega arith
 
   expr-close :
-      (xs : List Record) (q : State) (n k : ℕ) → Mid (ExprHead n k) p xs q (p .columns .count) n 0 (suc n) 0 k (exprRecord p n) (exprStart p n) (totalOf (exprRecord p n))
+      (xs : List Record) (q : State) (n k : ℕ) → k ≡ exprItems p n → Mid (ExprHead n k) p xs q (p .columns .count) n 0 (suc n) 0 k (exprRecord p n) (exprStart p n) (totalOf (exprRecord p n))
       → Rest p xs q (p .columns .count) (suc n) 0 (k + totalOf (exprRecord p n))
-  expr-close xs q n k d =
+  expr-close xs q n k ek d =
       record {
         reads = d .reads;
         nothing = ap kindWanted (d .wanted) ∙ kind-end (exprRecord p n);
@@ -187,22 +184,24 @@ module _ (p : Plan) (s : Source p) where
         copy = record {
           column = d .copy .column;
           expr = one-more (λ (j : ℕ). exprRecord (q .plan) j ≡ exprRecord p j) n (d .copy .expr) (d .head .0);
+          expr-start = one-more (λ (j : ℕ). exprStart (q .plan) j ≡ exprItems p j) n (d .copy .expr-start) (d .head .1 ∙ ek);
           expr-items = one-more (λ (j : ℕ). (m : ℕ) → m < totalOf (exprRecord p j) → itemRecord (q .plan) (exprStart (q .plan) j + m) ≡ itemRecord p (exprStart p j + m)) n (d .copy .expr-items)
               (λ m l. ap (λ (v : ℕ). itemRecord (q .plan) (v + m)) (d .head .1) ∙ d .so-far m l);
           expr-whole = one-more (λ (j : ℕ). exprStart (q .plan) j + totalOf (exprRecord p j) ≤ q .plan .items .count) n (d .copy .expr-whole) (omega (arith, d .head .1, d .items));
           operator = d .copy .operator;
+          operator-start = d .copy .operator-start;
           operator-items = d .copy .operator-items;
           operator-whole = d .copy .operator-whole;
         };
       }
 
   expr-next :
-      (xs : List Record) (q : State) (n k : ℕ) → n < p .expressions .count → k + totalOf (exprRecord p n) ≤ 2048 → Rest p xs q (p .columns .count) n 0 k
+      (xs : List Record) (q : State) (n k : ℕ) → k ≡ exprItems p n → n < p .expressions .count → k + totalOf (exprRecord p n) ≤ 2048 → Rest p xs q (p .columns .count) n 0 k
       → (t : State) × Rest p (xs ++ withItems p (exprRecord p n) (exprStart p n)) t (p .columns .count) (suc n) 0 (k + totalOf (exprRecord p n))
-  expr-next xs q n k h room d =
+  expr-next xs q n k ek h room d =
       let u = expr-mid xs q n k h d in
       let v = mid-run (ExprHead n k) p xs (u .0) _ n 0 (suc n) 0 k (exprRecord p n) (exprStart p n) (expr-going n k h room) (u .1) (totalOf (exprRecord p n)) (omega arith) in
-      (v .0, expr-close _ (v .0) n k (v .1))
+      (v .0, expr-close _ (v .0) n k ek (v .1))
 
   exprs-run : (n : ℕ) → n ≤ p .expressions .count → (q : State) × Rest p (columnsTo p (p .columns .count) ++ exprsTo p n) q (p .columns .count) n 0 (exprItems p n)
   unfolding exprsTo itemsTo
@@ -212,7 +211,7 @@ module _ (p : Plan) (s : Source p) where
   exprs-run (suc n) h =
       let v = exprs-run n (omega arith) in
       let cs = columnsTo p (p .columns .count) in
-      let w = expr-next (cs ++ exprsTo p n) (v .0) n (exprItems p n) h (omega (arith, s .room, items-to (exprRecord p) n (p .expressions .count) h)) (v .1) in
+      let w = expr-next (cs ++ exprsTo p n) (v .0) n (exprItems p n) refl h (omega (arith, s .room, items-to (exprRecord p) n (p .expressions .count) h)) (v .1) in
       (w .0, subst (λ (xs : List Record). Rest p xs (w .0) (p .columns .count) (suc n) 0 (exprItems p n + totalOf (exprRecord p n))) (append-assoc cs (exprsTo p n) (withItems p (exprRecord p n) (exprStart p n))) (w .1))
 
   -- ---- an operator and its items
@@ -311,9 +310,6 @@ module _ (p : Plan) (s : Source p) where
             (below-or-not i n)))
       ]
     where
-      not-zero : (a : ℕ) → (a ≡ 0 → ⊥) → a ≡ suc (a - 1)
-      not-zero a n = omega (arith, n)
-
       last-one : (i n t : ℕ) → n ≤ i → i < t → t ≡ suc n → suc i ≡ t
       last-one i n t a b e = omega arith
 
@@ -349,9 +345,9 @@ module _ (p : Plan) (s : Source p) where
       free a b m np o = ⊎-elim (λ e. free-zero a b m np e) (λ e. free-own a b m np e) o
 
   operator-close :
-      (xs : List Record) (q : State) (n k : ℕ) → OperatorMid xs q n k (totalOf (operatorRecord p n))
+      (xs : List Record) (q : State) (n k : ℕ) → k ≡ exprItems p (p .expressions .count) + operatorItems p n → OperatorMid xs q n k (totalOf (operatorRecord p n))
       → Rest p xs q (p .columns .count) (p .expressions .count) (suc n) (k + totalOf (operatorRecord p n))
-  operator-close xs q n k d =
+  operator-close xs q n k ek d =
       record {
         reads = d .reads;
         nothing = ap kindWanted (d .wanted) ∙ kind-end (operatorRecord p n);
@@ -362,9 +358,11 @@ module _ (p : Plan) (s : Source p) where
         copy = record {
           column = d .copy .column;
           expr = d .copy .expr;
+          expr-start = d .copy .expr-start;
           expr-items = d .copy .expr-items;
           expr-whole = d .copy .expr-whole;
           operator = one-more (λ (j : ℕ). operatorRecord (q .plan) j ≡ operatorRecord p j) n (d .copy .operator) (d .head .0);
+          operator-start = one-more (λ (j : ℕ). operatorStart (q .plan) j ≡ exprItems p (p .expressions .count) + operatorItems p j) n (d .copy .operator-start) (d .head .1 ∙ ek);
           operator-items = one-more (λ (j : ℕ). (m : ℕ) → m < totalOf (operatorRecord p j) → itemRecord (q .plan) (operatorStart (q .plan) j + m) ≡ itemRecord p (operatorStart p j + m)) n (d .copy .operator-items)
               (λ m l. ap (λ (v : ℕ). itemRecord (q .plan) (v + m)) (d .head .1) ∙ d .so-far m l);
           operator-whole = one-more (λ (j : ℕ). operatorStart (q .plan) j + totalOf (operatorRecord p j) ≤ q .plan .items .count) n (d .copy .operator-whole) (omega (arith, d .head .1, d .items));
@@ -372,12 +370,12 @@ module _ (p : Plan) (s : Source p) where
       }
 
   operator-next :
-      (xs : List Record) (q : State) (n k : ℕ) → n < p .operators .count → k + totalOf (operatorRecord p n) ≤ 2048 → Rest p xs q (p .columns .count) (p .expressions .count) n k
+      (xs : List Record) (q : State) (n k : ℕ) → k ≡ exprItems p (p .expressions .count) + operatorItems p n → n < p .operators .count → k + totalOf (operatorRecord p n) ≤ 2048 → Rest p xs q (p .columns .count) (p .expressions .count) n k
       → (t : State) × Rest p (xs ++ withItems p (operatorRecord p n) (operatorStart p n)) t (p .columns .count) (p .expressions .count) (suc n) (k + totalOf (operatorRecord p n))
-  operator-next xs q n k h room d =
+  operator-next xs q n k ek h room d =
       let u = operator-mid xs q n k h d in
       let v = mid-run (OperatorHead n k) p xs (u .0) _ (p .expressions .count) n (p .expressions .count) (suc n) k (operatorRecord p n) (operatorStart p n) (operator-going n k h room) (u .1) (totalOf (operatorRecord p n)) (omega arith) in
-      (v .0, operator-close _ (v .0) n k (v .1))
+      (v .0, operator-close _ (v .0) n k ek (v .1))
 
   abbrev before : List Record
   before = columnsTo p (p .columns .count) ++ exprsTo p (p .expressions .count)
@@ -395,7 +393,7 @@ module _ (p : Plan) (s : Source p) where
       let v = operators-run n (omega arith) in
       let k = exprItems p (p .expressions .count) in
       let t = totalOf (operatorRecord p n) in
-      let w = operator-next (before ++ operatorsTo p n) (v .0) n (k + operatorItems p n) h (omega (arith, s .room, items-to (operatorRecord p) n (p .operators .count) h)) (v .1) in
+      let w = operator-next (before ++ operatorsTo p n) (v .0) n (k + operatorItems p n) refl h (omega (arith, s .room, items-to (operatorRecord p) n (p .operators .count) h)) (v .1) in
       let e : k + operatorItems p n + t ≡ k + (operatorItems p n + t) = omega arith in (
         w .0,
         subst (λ (j : ℕ). Rest p (before ++ operatorsTo p (suc n)) (w .0) (p .columns .count) (p .expressions .count) (suc n) j) e

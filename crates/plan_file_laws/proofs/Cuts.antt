@@ -1,44 +1,37 @@
 -- A file that is cut off: inside a record or a counted list it is refused by 1, elsewhere it is accepted as far as it goes. Assumes nothing.
-use Prim.Native.Nat.{ℕ, zero, suc, _+_, _-_, _*_, _≤_, _<_}
+use Prim.Native.Nat.{ℕ, zero, suc, _+_, _-_, _≤_, _<_}
 use mathlib.Core.Path.{_≡_, refl, sym, ap, _∙_, subst}
-use mathlib.Core.Bool.{Bool, true, false, cond, _&&_, _||_, not}
+use mathlib.Core.Bool.{Bool, true, false, cond, _&&_}
 use mathlib.Core.List.{List, [], _∷_, _++_}
-use mathlib.Core.Logic.{_⊎_, inl, inr, ⊎-elim}
+use mathlib.Core.Logic.{⊎-elim}
 use native.Mathlib.Omega.{arith}
-use native.Mathlib.Numerals.{add-one}
-use native.Mathlib.Decide.{ℕ-discrete, decLt}
-use lib.Dec.{ltb, leb, eqb}
-use lib.ListN.{getD, length, take, drop, length-append, length-drop, length-take}
-use lib.Seq.{take-all, take-length, take-append-le, take-append-add, length-take-le, getD-take}
-use borrow.Author.Tests.{le-leb, lt-leb, eq-eqb, ne-eqb}
+use native.Mathlib.Decide.{ℕ-discrete}
+use lib.Dec.{leb, eqb}
+use lib.ListN.{getD, length, take, drop, length-append}
+use lib.Seq.{take-all, take-append-le, take-append-add, length-take-le, getD-take}
+use borrow.Author.Tests.{le-leb, lt-leb, ne-eqb}
 use Rattle.lists.proofs.RangeLaws.{below-or-not}
 use Rattle.kinds.specs.declared.Record.{Record}
 use Rattle.kinds.specs.declared.Row.{Row}
 use Rattle.kinds.specs.Rows.{rowOf}
-use Rattle.kinds.specs.Records.{codeOk, handlesOk}
-use Rattle.plan.specs.declared.Plan.{Plan}
 use Rattle.plan.specs.Plans.{emptyPlan}
 use Rattle.plan_file.specs.declared.Wanted.{Wanted}
 use Rattle.plan_file.specs.declared.State.{State}
 use Rattle.plan_file.specs.declared.Answer.{Answer}
-use Rattle.plan_file.specs.declared.Reading.{Reading}
 use Rattle.plan_file.specs.declared.Reading.the-variants.{Whole, Short}
 use Rattle.plan_file.specs.Answers.{isWhole, refusalOf}
 use Rattle.plan_file.specs.Bytes.{recordFrom}
-use Rattle.plan_file.specs.Steps.{kindWanted, kindOk, scannedTwice, faultOf, refusedBy, judgedStep, rowStep, recordStep, isDone, stepOf, stepsOf, startState, answerOf, readOf}
+use Rattle.plan_file.specs.Steps.{kindWanted, kindOk, faultOf, refusedBy, judgedStep, rowStep, recordStep, isDone, stepOf, stepsOf, startState, answerOf, readOf}
 use Rattle.plan_file.proofs.Turns.{read-early}
-use Rattle.plan_file.proofs.Finish.{finished, lastOf, taken-at}
+use Rattle.plan_file.proofs.Finish.{finished, lastOf, true-false}
 use Rattle.plan_file_laws.specs.ByteStrings.{Bytes}
 use Rattle.plan_file_laws.specs.Writing.{put2, put4, put8, putWord, putCode, putBits, putBody, putRecord, putRecords, recordsOf, Fits}
-use Rattle.plan_file_laws.proofs.Written.{record-length, put-append, All, none, more, records-short}
-use Rattle.plan_file_laws.proofs.Sequences.{Reads, begin, next, put-snoc, all-left, all-last, FileOf, file-of, Judged, judged, reads-whole, Led, led, read-records}
+use Rattle.plan_file_laws.proofs.Written.{record-length, All, none, records-short}
+use Rattle.plan_file_laws.proofs.Sequences.{Reads, begin, next, put-snoc, all-left, file-of, Judged, judged, reads-whole, led, read-records}
 
 -- a refusal with the empty plan
 abbrev pub cutAt : ℕ → Answer
 cutAt n = record { plan = emptyPlan; reading = Short n }
-
-true-false : (b : Bool) → b ≡ true → b ≡ false → ⊥
-true-false b e f = let z : _≡_ {A = ℕ} 0 1 = ap (λ (t : Bool). cond t 0 1) (sym e ∙ f) in omega arith
 
 answer-short : (q : State) (n : ℕ) → answerOf (refusedBy q (Short n)) ≡ cutAt n
 unfolding answerOf

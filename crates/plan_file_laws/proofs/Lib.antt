@@ -13,3 +13,4 @@ pub mod OneToOne
 pub mod Copies
 pub mod CopyRuns
 pub mod WriteBack
+pub mod SamePlans

@@ -1,33 +1,31 @@
 -- The table of Scans that a reading keeps says exactly which Scan has a column. Assumes nothing.
-use Prim.Native.Nat.{ℕ, zero, suc, _+_, _-_, _≤_, _<_}
+use Prim.Native.Nat.{ℕ, suc, _+_, _≤_, _<_}
 use mathlib.Core.Path.{_≡_, refl, sym, ap, _∙_, subst}
-use mathlib.Core.Bool.{Bool, true, false, cond, _&&_, _||_, not}
+use mathlib.Core.Bool.{Bool, true, false, cond, _&&_, not}
 use mathlib.Core.List.{List}
 use mathlib.Core.Logic.{_⊎_, inl, inr, ⊎-elim}
 use native.Mathlib.Omega.{arith}
-use native.Mathlib.Numerals.{add-one}
-use native.Mathlib.Decide.{decLt, ℕ-discrete}
-use lib.Dec.{ltb, leb, eqb}
+use native.Mathlib.Decide.{ℕ-discrete}
+use lib.Dec.{ltb, eqb}
 use lib.ListN.{getD, set, length, length-set}
 use lib.Seq.{getD-set-same, getD-set-other}
 use borrow.Author.Tests.{eqb-true, leb-true, ltb-true, eq-eqb}
 use Rattle.lists.proofs.RangeLaws.{below-or-not, and-left, and-right}
 use Rattle.kinds.specs.declared.Record.{Record}
-use Rattle.kinds.specs.declared.Row.{Row}
 use Rattle.kinds.specs.Rows.{rowOf, lineOf}
 use Rattle.kinds.specs.Records.{handleOk, handlesOk, countOf, moreOf}
 use Rattle.plan.specs.declared.Plan.{Plan}
-use Rattle.plan.specs.Append.{withColumn, withExpr, withOperator, withItem}
-use Rattle.plan.specs.Records.{exprRecord, operatorRecord, operatorStart, itemRecord}
+use Rattle.plan.specs.Append.{withOperator, withItem}
+use Rattle.plan.specs.Records.{exprRecord, operatorRecord, operatorStart}
 use Rattle.plan.specs.Extends.{Extends, Sized}
-use Rattle.plan.proofs.AppendLaws.{column-longer, expr-longer, operator-longer, item-longer, new-operator-start, new-item}
+use Rattle.plan.proofs.AppendLaws.{operator-longer, item-longer, new-operator-start, new-item}
 use Rattle.plan_rules.specs.Rules.{recordOk, listsOk, operatorOkOf, operatorOk}
 use Rattle.plan_file.specs.declared.Wanted.{Wanted}
 use Rattle.plan_file.specs.Steps.{kindWanted, scannedTwice}
 use Rattle.plan_file_laws.specs.ListItems.{firstOf, secondOf, itemKind, ScanHas}
 use Rattle.plan_file_laws.proofs.RowFacts.{handles}
 use Rattle.plan_file_laws.proofs.OpenLists.{Open, some-left, open-kind}
-use Rattle.plan_file_laws.proofs.Phases.{RulesTo, OpenAt, Phase, closed, open-expr, open-operator}
+use Rattle.plan_file_laws.proofs.Phases.{Phase, closed, open-expr, open-operator}
 
 -- the marks are those of the Scans, and of no other
 pub record Marks (scans : List ℕ) (p : Plan) : Type 0 where

@@ -2,36 +2,33 @@
 -- so its plan gives back each of the three. Assumes nothing.
 use Prim.Native.Nat.{ℕ, zero, suc, _+_, _-_, _≤_, _<_}
 use mathlib.Core.Path.{_≡_, refl, sym, ap, _∙_, subst}
-use mathlib.Core.Bool.{Bool, true, false, cond, _&&_, _||_, not}
+use mathlib.Core.Bool.{Bool, true, false, cond, _||_, not}
 use mathlib.Core.List.{List, [], _∷_, _++_, append-assoc}
-use mathlib.Core.Logic.{_⊎_, inl, inr, ⊎-elim}
 use native.Mathlib.Omega.{arith}
 use native.Mathlib.Numerals.{add-one}
 use native.Mathlib.Decide.{ℕ-discrete}
-use lib.Dec.{ltb, leb, eqb}
-use lib.ListN.{getD, length, drop}
-use borrow.Author.Tests.{eqb-true, leb-true, eq-eqb, ne-eqb}
-use Rattle.lists.proofs.RangeLaws.{below-or-not, and-left, and-right, and-both}
+use lib.Dec.{eqb}
+use lib.ListN.{drop}
+use borrow.Author.Tests.{eqb-true, eq-eqb, ne-eqb}
+use Rattle.lists.proofs.RangeLaws.{and-left, and-right}
 use Rattle.kinds.specs.declared.Record.{Record}
 use Rattle.kinds.specs.declared.Row.{Row}
-use Rattle.kinds.specs.Rows.{Line, kinds, unlisted, rowOf, lineOf}
+use Rattle.kinds.specs.Rows.{Line, kinds, rowOf, lineOf}
 use Rattle.kinds.proofs.Table.{holds, every-row}
 use Rattle.plan.specs.declared.Plan.{Plan}
 use Rattle.plan.specs.Append.{withColumn, withExpr, withOperator, withItem}
-use Rattle.plan.specs.Records.{columnRecord, exprRecord, exprStart, operatorRecord, operatorStart, itemRecord}
+use Rattle.plan.specs.Records.{exprRecord, exprStart, operatorRecord, operatorStart, itemRecord}
 use Rattle.plan.specs.Extends.{Extends, Sized}
 use Rattle.plan.proofs.AppendLaws.{column-longer, expr-longer, operator-longer, item-longer, new-column, new-expr, new-expr-start, new-operator, new-operator-start, new-item}
-use Rattle.plan_rules.specs.Rules.{recordOk, listsOk, exprOkOf, exprOk, operatorOkOf, operatorOk}
 use Rattle.plan_file.specs.declared.Wanted.{Wanted}
-use Rattle.plan_file.specs.declared.State.{State}
 use Rattle.plan_file.specs.Steps.{kindWanted, lessOne, listOf}
-use Rattle.plan_file.proofs.Ways.{Wants, Way, a-column, an-expr, an-operator, an-item}
+use Rattle.plan_file.proofs.Ways.{Wants}
 use Rattle.plan_file_laws.specs.ListItems.{firstOf, secondOf, itemKind}
 use Rattle.plan_file_laws.specs.Writing.{Fits}
 use Rattle.plan_file_laws.specs.PlanRecords.{itemOf, itemsOf, withItems, columnsTo, exprsTo, operatorsTo, belongs, partFrom, partOf}
 use Rattle.plan_file_laws.proofs.RowFacts.{item-row, expr-row, column-row, no-bits}
-use Rattle.plan_file_laws.proofs.Phases.{RulesTo, no-list, expr-open, operator-open, shut}
-use Rattle.plan_file_laws.proofs.OpenLists.{Open, some-left, open-shut, open-kind, open-less, open-new}
+use Rattle.plan_file_laws.proofs.Phases.{no-list, expr-open, operator-open}
+use Rattle.plan_file_laws.proofs.OpenLists.{Open, some-left, open-shut, open-kind, open-less}
 
 -- ---- the table of kinds: a column's kind is 1, and an item has no code
 one-kind : (k : ℕ) (ls : List Line) → holds (λ (r : Row). not (eqb (r .sort) 1)) ls ≡ true → lineOf ls k .sort ≡ 1 → ⊥
@@ -86,14 +83,14 @@ part-snoc k on (y ∷ xs) x = go (belongs k on y) _ _ _ (part-snoc k (belongs k 
     go true a b c e = ap (λ (l : List Record). y ∷ l) e
     go false a b c e = e
 
-append-nil : (xs : List Record) → xs ++ [] ≡ xs
+pub append-nil : (xs : List Record) → xs ++ [] ≡ xs
 append-nil [] = refl
 append-nil (x ∷ xs) = ap (λ (l : List Record). x ∷ l) (append-nil xs)
 
 belongs-head : (k : ℕ) (on : Bool) (x : Record) (n : ℕ) → rowOf (x .kind) .sort ≡ n → (n ≡ 4 → ⊥) → belongs k on x ≡ eqb n k
 belongs-head k on x n e f = rw (e, ne-eqb n 4 f)
 
-belongs-item : (k : ℕ) (on : Bool) (x : Record) → rowOf (x .kind) .sort ≡ 4 → belongs k on x ≡ on
+pub belongs-item : (k : ℕ) (on : Bool) (x : Record) → rowOf (x .kind) .sort ≡ 4 → belongs k on x ≡ on
 belongs-item k on x e = rw e
 
 -- a record that belongs, and one that does not
@@ -101,7 +98,7 @@ pub record Joins (k : ℕ) (xs : List Record) (x : Record) (t : Bool) : Type 0 w
   pub ends : endsIn k false (xs ++ (x ∷ [])) ≡ t
   pub part : partOf k (xs ++ (x ∷ [])) ≡ partOf k xs ++ cond t (x ∷ []) []
 
-joins : (k : ℕ) (xs : List Record) (x : Record) (t : Bool) → belongs k (endsIn k false xs) x ≡ t → Joins k xs x t
+pub joins : (k : ℕ) (xs : List Record) (x : Record) (t : Bool) → belongs k (endsIn k false xs) x ≡ t → Joins k xs x t
 joins k xs x t e =
     record { ends = ends-snoc k false xs x ∙ e; part = part-snoc k false xs x ∙ ap (λ (b : Bool). partOf k xs ++ cond b (x ∷ []) []) e }
 
@@ -245,7 +242,7 @@ module _ (xs : List Record) (x : Record) (p q : Plan) (e : Extends p q) (l : Lis
   operators-stay : Joins 3 xs x false → partOf 3 (xs ++ (x ∷ [])) ≡ operatorsTo q (p .operators .count)
   operators-stay j = j .part ∙ append-nil (partOf 3 xs) ∙ t .operators ∙ sym (operators-same p q e (p .operators .count) (omega arith) (l .operator))
 
-joins-head : (k : ℕ) (xs : List Record) (x : Record) (n : ℕ) → rowOf (x .kind) .sort ≡ n → (n ≡ 4 → ⊥) → Joins k xs x (eqb n k)
+pub joins-head : (k : ℕ) (xs : List Record) (x : Record) (n : ℕ) → rowOf (x .kind) .sort ≡ n → (n ≡ 4 → ⊥) → Joins k xs x (eqb n k)
 joins-head k xs x n e f = joins k xs x (eqb n k) (belongs-head k (endsIn k false xs) x n e f)
 
 module _ (xs : List Record) (x : Record) (p : Plan) (z : Sized p) (f : Fits x) (l : Lists p (p .expressions .count) (p .operators .count))

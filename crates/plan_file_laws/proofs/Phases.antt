@@ -1,17 +1,13 @@
 -- Through every step of a reading the plan keeps the rules, but for the record whose list is being read. Assumes nothing.
-use Prim.Native.Nat.{ℕ, zero, suc, _+_, _-_, _≤_, _<_}
+use Prim.Native.Nat.{ℕ, suc, _+_, _-_, _≤_, _<_}
 use mathlib.Core.Path.{_≡_, refl, sym, ap, _∙_, subst}
-use mathlib.Core.Bool.{Bool, true, false, cond, _&&_}
-use mathlib.Core.List.{List}
-use mathlib.Core.Logic.{_⊎_, inl, inr, ⊎-elim}
+use mathlib.Core.Bool.{true, _&&_}
+use mathlib.Core.Logic.{⊎-elim}
 use native.Mathlib.Omega.{arith}
 use native.Mathlib.Numerals.{add-one}
-use native.Mathlib.Decide.{decLt}
 use native.Mathlib.Nat.{le-trans}
-use lib.Dec.{ltb, leb, eqb}
-use lib.ListN.{getD, length, drop}
+use lib.Dec.{leb}
 use borrow.Author.Tests.{leb-true, le-leb, lt-ltb, le-ltb, eq-eqb, ne-eqb}
-use Rattle.lists.specs.Ranges.{allFrom}
 use Rattle.lists.proofs.RangeLaws.{below-or-not, and-left, and-right, and-both, all-of}
 use Rattle.kinds.specs.declared.Record.{Record}
 use Rattle.kinds.specs.declared.Row.{Row}
@@ -20,7 +16,7 @@ use Rattle.kinds.specs.Records.{codeOk, bitsOk, handlesOk, countOf, moreOf}
 use Rattle.kinds.proofs.Table.{column-codes}
 use Rattle.plan.specs.declared.Plan.{Plan}
 use Rattle.plan.specs.Append.{withColumn, withExpr, withOperator, withItem}
-use Rattle.plan.specs.Records.{itemRecordOf, columnRecord, exprRecord, exprStart, operatorRecord, operatorStart, itemRecord}
+use Rattle.plan.specs.Records.{exprRecord, exprStart, operatorRecord, operatorStart, itemRecord}
 use Rattle.plan.specs.Extends.{Extends, Sized}
 use Rattle.plan.proofs.AppendLaws.{column-longer, expr-longer, operator-longer, item-longer, column-longer-sized, expr-longer-sized, operator-longer-sized, item-longer-sized, new-column, new-expr, new-expr-start, new-operator, new-operator-start, new-item}
 use Rattle.plan_rules.specs.Rules.{recordOk, itemOk, listsOk, columnOk, exprOkOf, exprOk, operatorOkOf, operatorOk, countsWithin, countsOk}
@@ -29,7 +25,7 @@ use Rattle.plan_file.specs.declared.Wanted.{Wanted}
 use Rattle.plan_file.specs.Steps.{kindWanted, lessOne, listOf}
 use Rattle.plan_file.proofs.Ways.{Wants}
 use Rattle.plan_file_laws.specs.ListItems.{firstOf, secondOf, itemKind}
-use Rattle.plan_file_laws.proofs.RowFacts.{ItemRow, item-row, expr-row, ColumnRow, column-row, no-bits, handles-part}
+use Rattle.plan_file_laws.proofs.RowFacts.{item-row, expr-row, ColumnRow, column-row, no-bits, handles-part}
 use Rattle.plan_file_laws.proofs.OpenLists.{Open, some-left, open-shut, open-kind, open-less, open-new}
 
 -- ---- the counts
@@ -175,7 +171,7 @@ pub record Right (x : Record) (nc ne np : ℕ) : Type 0 where
   pub bits : bitsOk (rowOf (x .kind)) x ≡ true
   pub handles : handlesOk (rowOf (x .kind)) x nc ne np ≡ true
 
-zero-bits : (r : Row) (x : Record) → r .bits ≡ 0 → x .bits ≡ 0 → bitsOk r x ≡ true
+pub zero-bits : (r : Row) (x : Record) → r .bits ≡ 0 → x .bits ≡ 0 → bitsOk r x ≡ true
 unfolding bitsOk
 zero-bits r x e f = rw (e, f)
 

@@ -1,14 +1,14 @@
 -- What the table of kinds says of items, expressions and operators, by a test over the table. Assumes nothing.
-use Prim.Native.Nat.{ℕ, _≤_, _<_, _*_, _+_}
-use mathlib.Core.Path.{_≡_, refl, sym, ap, _∙_, subst}
-use mathlib.Core.Bool.{Bool, true, false, cond, _&&_, _||_, not}
+use Prim.Native.Nat.{ℕ, _<_, _*_, _+_}
+use mathlib.Core.Path.{_≡_, refl}
+use mathlib.Core.Bool.{Bool, true, false, _&&_, _||_, not}
 use mathlib.Core.List.{List}
 use native.Mathlib.Omega.{arith}
 use native.Mathlib.Decide.{ℕ-discrete}
-use lib.Dec.{ltb, leb, eqb}
+use lib.Dec.{eqb}
 use lib.ListN.{getD, drop}
 use lib.Seq.{getD-drop}
-use borrow.Author.Tests.{eqb-true, eqb-false, leb-true, eq-eqb, ne-eqb, lt-ltb, not-true}
+use borrow.Author.Tests.{eqb-true, eqb-false, eq-eqb, ne-eqb, lt-ltb, not-true}
 use Rattle.kinds.specs.declared.Record.{Record}
 use Rattle.kinds.specs.declared.Row.{Row}
 use Rattle.kinds.specs.Rows.{rowOf}
@@ -33,45 +33,35 @@ itemTest r = (eqb (r .c) 0 && eqb (r .d) 0) && (not (eqb (r .a) 4) && not (eqb (
 itemRow : Row → Bool
 itemRow r = not (eqb (r .sort) 4) || itemTest r
 
-item-test : (k : ℕ) → rowOf k .sort ≡ 4 → itemTest (rowOf k) ≡ true
-unfolding itemRow itemTest holds
-item-test k e = said 4 itemTest k (every-row itemRow refl refl k) e
-
 pub record ItemRow (r : Row) : Type 0 where
   pub c : r .c ≡ 0
   pub d : r .d ≡ 0
   pub a : r .a ≡ 4 → ⊥
   pub b : r .b ≡ 4 → ⊥
 
-pub item-row : (k : ℕ) → rowOf k .sort ≡ 4 → ItemRow (rowOf k)
+item-parts : (r : Row) → itemTest r ≡ true → ItemRow r
 unfolding itemTest
-item-row k e =
-    let t = item-test k e in
+item-parts r t =
     let cd = and-left _ _ t in
-    let ab = and-right (eqb (rowOf k .c) 0 && eqb (rowOf k .d) 0) _ t in
+    let ab = and-right (eqb (r .c) 0 && eqb (r .d) 0) _ t in
     record {
       c = eqb-true _ _ (and-left _ _ cd);
-      d = eqb-true _ _ (and-right (eqb (rowOf k .c) 0) _ cd);
+      d = eqb-true _ _ (and-right (eqb (r .c) 0) _ cd);
       a = eqb-false _ _ (not-true _ (and-left _ _ ab));
-      b = eqb-false _ _ (not-true _ (and-right (not (eqb (rowOf k .a) 4)) _ ab));
+      b = eqb-false _ _ (not-true _ (and-right (not (eqb (r .a) 4)) _ ab));
     }
 
--- ---- expressions: two numbers at most, none of them an operator
+pub item-row : (k : ℕ) → rowOf k .sort ≡ 4 → ItemRow (rowOf k)
+unfolding itemRow itemTest holds
+item-row k e = item-parts (rowOf k) (said 4 itemTest k (every-row itemRow refl refl k) e)
+
+-- ---- and expressions
 exprRow : Row → Bool
 exprRow r = not (eqb (r .sort) 2) || itemTest r
 
 pub expr-row : (k : ℕ) → rowOf k .sort ≡ 2 → ItemRow (rowOf k)
 unfolding exprRow itemTest holds
-expr-row k e =
-    let t = said 2 itemTest k (every-row exprRow refl refl k) e in
-    let cd = and-left _ _ t in
-    let ab = and-right (eqb (rowOf k .c) 0 && eqb (rowOf k .d) 0) _ t in
-    record {
-      c = eqb-true _ _ (and-left _ _ cd);
-      d = eqb-true _ _ (and-right (eqb (rowOf k .c) 0) _ cd);
-      a = eqb-false _ _ (not-true _ (and-left _ _ ab));
-      b = eqb-false _ _ (not-true _ (and-right (not (eqb (rowOf k .a) 4)) _ ab));
-    }
+expr-row k e = item-parts (rowOf k) (said 2 itemTest k (every-row exprRow refl refl k) e)
 
 -- ---- columns: no list
 columnTest : Row → Bool

@@ -1,16 +1,14 @@
 -- An accepted plan keeps the rules of a plan; and refusal 5 is given exactly where another Scan has the column. Assumes nothing.
 use Prim.Native.Nat.{ℕ, zero, suc, _+_, _-_, _≤_, _<_}
-use mathlib.Core.Path.{_≡_, refl, sym, ap, _∙_, subst}
-use mathlib.Core.Bool.{Bool, true, false, cond, _&&_, _||_, not}
+use mathlib.Core.Path.{_≡_, refl, sym, _∙_, subst}
+use mathlib.Core.Bool.{Bool, true, false, cond, _&&_, not}
 use mathlib.Core.List.{List}
-use mathlib.Core.Logic.{_⊎_, inl, inr, ⊎-elim}
 use native.Mathlib.Omega.{arith}
-use native.Mathlib.Decide.{ℕ-discrete}
-use lib.Dec.{ltb, leb, eqb}
-use lib.ListN.{getD, length, drop, replicate, length-replicate, getD-replicate, List·getD-eq-default}
-use borrow.Author.Tests.{eqb-true, eqb-false, leb-true, le-leb, eq-eqb, ne-eqb, not-true}
+use lib.Dec.{eqb}
+use lib.ListN.{getD, length, drop, replicate, length-replicate, List·getD-eq-default}
+use borrow.Author.Tests.{eqb-true, eqb-false, le-leb, eq-eqb, ne-eqb, not-true}
 use Rattle.lists.specs.Ranges.{anyFrom, countFrom}
-use Rattle.lists.proofs.RangeLaws.{below-or-not, and-left, and-right, and-both, count-none}
+use Rattle.lists.proofs.RangeLaws.{and-left, and-right, count-none}
 use Rattle.kinds.specs.declared.Record.{Record}
 use Rattle.kinds.specs.declared.Row.{Row}
 use Rattle.kinds.specs.Rows.{rowOf}
@@ -21,16 +19,15 @@ use Rattle.plan.specs.Append.{withColumn, withExpr}
 use Rattle.plan.specs.Records.{operatorRecord, operatorStart}
 use Rattle.plan.specs.Extends.{Sized}
 use Rattle.plan.proofs.AppendLaws.{column-longer, expr-longer}
-use Rattle.plan_rules.specs.Rules.{scansOf, scans, scannedOnce, planOk}
+use Rattle.plan_rules.specs.Rules.{scansOf, scans, planOk}
 use Rattle.plan_rules.proofs.RuleLaws.{Rules, rules-of}
 use Rattle.plan_file.specs.declared.Wanted.{Wanted}
 use Rattle.plan_file.specs.declared.State.{State}
-use Rattle.plan_file.specs.declared.Reading.{Reading}
 use Rattle.plan_file.specs.Answers.{isWhole}
 use Rattle.plan_file.specs.Bytes.{recordFrom}
-use Rattle.plan_file.specs.Steps.{kindWanted, scannedTwice, refusedBy, stepsOf, startState, readOf}
+use Rattle.plan_file.specs.Steps.{kindWanted, scannedTwice, stepsOf, startState, readOf}
 use Rattle.plan_file.proofs.Ways.{Wants, Way, a-column, an-expr, an-operator, an-item, Taking, wants-way, steps-keep}
-use Rattle.plan_file.proofs.Finish.{Accepted, accepted, refused-empty}
+use Rattle.plan_file.proofs.Finish.{accepted, refused-empty}
 use Rattle.plan_file_laws.specs.ByteStrings.{Bytes}
 use Rattle.plan_file_laws.specs.ListItems.{ScanHas}
 use Rattle.plan_file_laws.proofs.RowFacts.{bytes-drop, bits-fit}
@@ -94,7 +91,7 @@ kept-takes q x t k u =
 zeros : (n : ℕ) → length {A = ℕ} (replicate n 0) ≡ n
 zeros n = length-replicate {A = ℕ} n 0
 
-no-mark : (n c : ℕ) → getD {A = ℕ} (replicate n 0) c 0 ≡ 0
+pub no-mark : (n c : ℕ) → getD {A = ℕ} (replicate n 0) c 0 ≡ 0
 no-mark zero c = List·getD-eq-default {A = ℕ} (replicate 0 0) 0 {n = c} (omega arith)
 no-mark (suc n) zero = refl
 no-mark (suc n) (suc c) = no-mark n c
@@ -242,7 +239,7 @@ rules-read s b = go (isWhole (readOf s .reading)) refl
 abbrev pub Another : Plan → ℕ → Type 0
 Another p c = (i : ℕ) × ScanHas p i c × (suc i ≡ p .operators .count → ⊥)
 
-not-zero : (m : ℕ) → (m ≡ 0 → ⊥) → m ≡ suc (m - 1)
+pub not-zero : (m : ℕ) → (m ≡ 0 → ⊥) → m ≡ suc (m - 1)
 not-zero m n = omega (arith, n)
 
 module _ (s : List ℕ) (b : Bytes s) (k : ℕ) (r : Row) (x : Record) where

@@ -1,38 +1,32 @@
 -- A file is accepted exactly where its bytes are those of records that are taken one after the other. Assumes nothing.
-use Prim.Native.Nat.{ℕ, zero, suc, _+_, _-_, _*_, _≤_, _<_}
+use Prim.Native.Nat.{ℕ, suc, _+_, _-_, _*_, _≤_, _<_}
 use mathlib.Core.Path.{_≡_, refl, sym, ap, _∙_, subst}
-use mathlib.Core.Bool.{Bool, true, false, cond, _&&_, _||_, not}
+use mathlib.Core.Bool.{Bool, true, false, cond}
 use mathlib.Core.List.{List, [], _∷_, _++_}
-use mathlib.Core.Logic.{_⊎_, inl, inr, ⊎-elim}
 use native.Mathlib.Omega.{arith}
 use native.Mathlib.Numerals.{add-one}
-use native.Mathlib.Decide.{ℕ-discrete}
-use lib.Dec.{ltb, leb, eqb}
-use lib.ListN.{getD, set, length, drop, length-append, length-drop}
+use lib.Dec.{eqb}
+use lib.ListN.{getD, length, drop, length-append, length-drop}
 use lib.Seq.{drop-drop, drop-length}
-use borrow.Author.Tests.{lt-ltb, le-leb, lt-leb, eq-eqb, ne-eqb}
+use borrow.Author.Tests.{le-leb, lt-leb, eq-eqb, ne-eqb}
 use Rattle.kinds.specs.declared.Record.{Record}
 use Rattle.kinds.specs.declared.Row.{Row}
 use Rattle.kinds.specs.Rows.{rowOf}
 use Rattle.kinds.specs.Records.{codeOk, handlesOk}
-use Rattle.plan.specs.declared.Plan.{Plan}
 use Rattle.plan.specs.Append.{appendColumn, appendExpr, appendOperator, appendItem}
-use Rattle.plan_file.specs.declared.Wanted.{Wanted}
 use Rattle.plan_file.specs.declared.State.{State}
-use Rattle.plan_file.specs.declared.Answer.{Answer}
-use Rattle.plan_file.specs.declared.Reading.{Reading}
 use Rattle.plan_file.specs.declared.Reading.the-variants.{Whole}
 use Rattle.plan_file.specs.Answers.{isWhole, isAdded}
-use Rattle.plan_file.specs.Bytes.{codeFrom, wordFrom, bitsFrom, recordFrom}
-use Rattle.plan_file.specs.Steps.{kindWanted, kindOk, scannedTwice, faultOf, appendOf, wantedAfter, scansAfter, refusedBy, takenBy, appendedStep, judgedStep, rowStep, recordStep, isDone, stepOf, stepsOf, startState, answerOf, readOf}
+use Rattle.plan_file.specs.Bytes.{wordFrom, bitsFrom, recordFrom}
+use Rattle.plan_file.specs.Steps.{kindWanted, kindOk, scannedTwice, faultOf, appendOf, wantedAfter, scansAfter, takenBy, appendedStep, judgedStep, rowStep, recordStep, isDone, stepOf, stepsOf, startState, answerOf, readOf}
 use Rattle.plan_file.proofs.Turns.{read-early}
 use Rattle.plan_file.proofs.Ways.{Way, a-column, an-expr, an-operator, an-item, Taking, steps-keep}
-use Rattle.plan_file.proofs.Finish.{Accepted, accepted, lastOf, taken-at}
+use Rattle.plan_file.proofs.Finish.{accepted, lastOf, taken-at, true-false}
 use Rattle.plan_file_laws.specs.ByteStrings.{Bytes}
 use Rattle.plan_file_laws.specs.Writing.{putRecord, putRecords, recordsOf, Fits}
 use Rattle.plan_file_laws.proofs.RowFacts.{bytes-drop}
 use Rattle.plan_file_laws.proofs.RulesRead.{Kept, Takes, takes, kept-start, kept-takes}
-use Rattle.plan_file_laws.proofs.Written.{split-record, read-back, record-length, put-append, All, none, more, records-again, records-short}
+use Rattle.plan_file_laws.proofs.Written.{code-none, split-record, read-back, record-length, put-append, All, none, more, records-again, records-short}
 
 -- the records xs, taken one after the other from the start, lead to q
 pub data Reads : List Record → State → Type 0 where
@@ -51,10 +45,6 @@ word-fits t p sort b = go (eqb sort 0)
 word-none : (t : List ℕ) (p sort : ℕ) → sort ≡ 0 → wordFrom t p sort ≡ 0
 unfolding wordFrom
 word-none t p sort e = rw e
-
-code-none : (t : List ℕ) (c : ℕ) → c ≡ 0 → codeFrom t c ≡ 0
-unfolding codeFrom
-code-none t c e = rw e
 
 bits-none : (t : List ℕ) (n : ℕ) → n ≡ 0 → bitsFrom t n ≡ 0
 unfolding bitsFrom
@@ -119,9 +109,6 @@ taken-bytes s q x t b u =
 
 abbrev Going : List ℕ → State → Type 0
 Going s q = isWhole (q .reading) ≡ true → ReadTo s q
-
-true-false : (b : Bool) → b ≡ true → b ≡ false → ⊥
-true-false b e f = let z : _≡_ {A = ℕ} 0 1 = ap (λ (t : Bool). cond t 0 1) (sym e ∙ f) in omega arith
 
 going-taken : (s : List ℕ) → Bytes s → (q : State) (x : Record) (t : State) → Going s q → Taking s q x t → Going s t
 going-taken s b q x t g u w =

@@ -1,20 +1,18 @@
 -- A record's bytes: bytes that begin with a record are that record's and the rest, and a record that was put is read back. Assumes nothing.
-use Prim.Native.Nat.{ℕ, zero, suc, _+_, _-_, _≤_, _<_}
-use mathlib.Core.Path.{_≡_, refl, sym, ap, _∙_, subst}
+use Prim.Native.Nat.{ℕ, zero, suc, _+_, _≤_, _<_}
+use mathlib.Core.Path.{_≡_, refl, sym, ap, _∙_}
 use mathlib.Core.Bool.{Bool, true, false, cond}
 use mathlib.Core.List.{List, [], _∷_, _++_}
-use mathlib.Core.Logic.{_⊎_, inl, inr, ⊎-elim}
+use mathlib.Core.Logic.{_⊎_, inr, ⊎-elim}
 use native.Mathlib.Omega.{arith}
-use native.Mathlib.Nat.{zero-add}
 use lib.Dec.{eqb}
 use lib.ListN.{getD, length, drop}
-use borrow.Author.Tests.{eq-eqb}
 use Rattle.kinds.specs.declared.Record.{Record}
 use Rattle.kinds.specs.declared.Row.{Row}
 use Rattle.kinds.specs.Rows.{rowOf}
 use Rattle.plan_file.specs.Bytes.{codeFrom, bitsFrom, recordFrom}
 use Rattle.plan_file_laws.specs.ByteStrings.{Bytes}
-use Rattle.plan_file_laws.specs.Writing.{put2, put4, put8, putWord, putCode, putBits, putBody, putRecord, putRecords, recordsIn, recordsOf, Fits}
+use Rattle.plan_file_laws.specs.Writing.{put2, putWord, putCode, putBits, putBody, putRecord, putRecords, recordsIn, recordsOf, Fits}
 use Rattle.plan_file_laws.proofs.Layouts.{width, codeWidth, place1, place2, place3, place4, place5, place6, Layout, layout}
 use Rattle.plan_file_laws.proofs.Segments.{one-byte, split-word, split-code, split-bits, got-word, got-code, got-bits}
 
@@ -50,7 +48,7 @@ split-record t b h =
     ∙ ap (λ (k : ℕ). putBits (r .bits) (bitsFrom t (r .bits)) (drop k t)) (sym n))))))))
 
 -- ---- what was put is read back
-code-none : (t : List ℕ) (c : ℕ) → c ≡ 0 → codeFrom t c ≡ 0
+pub code-none : (t : List ℕ) (c : ℕ) → c ≡ 0 → codeFrom t c ≡ 0
 unfolding codeFrom
 code-none t c e = rw e
 
