@@ -1,8 +1,9 @@
 -- A node comes back from its record, where its literal holds a value of its type and its lists start where they are said to and have fewer than
 -- 65,536 items. Assumes nothing.
-use mathlib.Core.Path.{_≡_, refl, ap, ap₂, _∙_}
-use Prim.Native.Nat.{ℕ, _+_, _<_, _%_}
+use mathlib.Core.Path.{_≡_, refl, ap, _∙_}
+use Prim.Native.Nat.{ℕ, _+_, _<_}
 use native.Mathlib.Nat.{mod-eq-of-lt}
+use Rattle.comparison.proofs.OperatorLaws.{code-back}
 use Rattle.scalar.specs.Scalars.{Typed}
 use Rattle.scalar.specs.Coded.{caseCode, codeOf, bitsOf, scalarOf}
 use Rattle.scalar.specs.declared.ScalarValue.{ScalarValue}
@@ -10,13 +11,12 @@ use Rattle.scalar.specs.declared.ScalarValue.the-variants as S
 use Rattle.scalar.proofs.CodedLaws.{scalar-of-back}
 use Rattle.plan_data.specs.Nodes.{runOf, countIn, exprData, operatorData, recordOfExpr, recordOfOperator}
 use Rattle.plan_data.specs.declared.Run.{Run}
-use Rattle.plan_data.specs.declared.JoinType.{JoinType}
 use Rattle.plan_data.specs.declared.JoinType.the-variants.{Inner, LeftSemi, LeftAnti, LeftOuter, Single, RightOuter, FullOuter, LeftMark}
 use Rattle.plan_data.specs.declared.ExprData.{ExprData}
 use Rattle.plan_data.specs.declared.ExprData.the-variants.{Literal, ColumnRef, Unary, Binary, Nary}
 use Rattle.plan_data.specs.declared.OperatorData.{OperatorData}
 use Rattle.plan_data.specs.declared.OperatorData.the-variants.{Scan, ConstScan, TableFunction, Selection, Projection, Rename, Map, Aggregation, Sort, Limit, Output, CrossProduct, Join}
-use Rattle.plan_data.proofs.CodeLaws.{unary-back, binary-back, nary-back}
+use Rattle.plan_data.proofs.CodeLaws.{unary-back, nary-back}
 
 -- a run that starts at `start`, with a count of 16 bits
 abbrev pub RunAt : ℕ → Run → Type 0
@@ -66,7 +66,7 @@ expr-back start (Literal v) h = literal v ∙ ap Literal (scalar-of-back v h)
     literal (S.Date32 n) = refl
 expr-back start (ColumnRef c) h = refl
 expr-back start (Unary op e) h = λ i. Unary (unary-back op i) e
-expr-back start (Binary op l r) h = λ i. Binary (binary-back op i) l r
+expr-back start (Binary op l r) h = λ i. Binary (code-back op i) l r
 expr-back start (Nary op es) h = λ i. Nary (nary-back op i) (run-back start es h i)
 
 -- an operator comes back from its record

@@ -12,7 +12,6 @@ use Rattle.plan.specs.Records.{exprRecordOf}
 use Rattle.scalar.specs.Coded.{caseCode, codeOf, bitsOf, scalarOf}
 use Rattle.plan_data.specs.Codes.{unaryOpCode, unaryOpOf, naryOpCode, naryOpOf, joinTypeCode, joinTypeOf, kindOfJoin, markerOf}
 use Rattle.plan_data.specs.declared.Run.{Run}
-use Rattle.plan_data.specs.declared.JoinType.{JoinType}
 use Rattle.plan_data.specs.declared.JoinType.the-variants.{LeftMark}
 use Rattle.plan_data.specs.declared.ExprData.{ExprData}
 use Rattle.plan_data.specs.declared.ExprData.the-variants.{Literal, ColumnRef, Unary, Binary, Nary}

@@ -12,7 +12,6 @@ use Rattle.plan_rules.proofs.Parts.{exprs-within}
 use Rattle.rows.specs.Cells.{rowOk}
 use Rattle.rows.specs.Evaluate.{valueOn, typed, evaluateOf}
 use Rattle.rows.specs.declared.Row.{Row}
-use Rattle.rows.specs.declared.Evaluation.{Evaluation}
 use Rattle.rows.specs.declared.Evaluation.the-variants.{Value, NoSuch, Untyped, BadRow}
 
 -- a plan that keeps the rules has at most 1,024 expressions

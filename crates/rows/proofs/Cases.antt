@@ -1,10 +1,10 @@
 -- SQL's facts of rows and truth, by computing: comparisons of edge values, NULLs under Not, And and Or, and a predicate on a row. Assumes nothing.
 use mathlib.Core.Path.{_≡_, refl}
 use mathlib.Core.Bool.{true, false}
-use mathlib.Core.List.{List, [], _∷_}
+use mathlib.Core.List.{[], _∷_}
 use Prim.Native.Nat.{ℕ}
 use lib.IntN.{pos, negsuc}
-use lib.Ieee.{binary64, ofBits, eq, lt}
+use lib.Ieee.{ofBits, eq, lt}
 use Rattle.kinds.specs.Rows.{rowOf, lineOf}
 use Rattle.kinds.specs.Records.{bitsOk}
 use Rattle.truth.specs.Truth.{allOf, anyOf, every}

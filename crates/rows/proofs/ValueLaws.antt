@@ -1,8 +1,7 @@
 -- The value of an expression is that of its node over the values of its operands, and the ways through the code that come to it. Assumes nothing.
-use mathlib.Core.Path.{_≡_, refl, sym, ap, ap₂, _∙_}
-use mathlib.Core.Bool.{Bool, true, false}
+use mathlib.Core.Path.{_≡_, refl, sym, ap, _∙_}
 use mathlib.Core.List.{List, [], _∷_}
-use Prim.Native.Nat.{ℕ, zero, suc, _+_, _-_, _<_, _≤_}
+use Prim.Native.Nat.{ℕ, suc, _+_, _-_, _<_, _≤_}
 use native.Mathlib.Omega.{arith}
 use lib.ListN.{length, getD, take, drop}
 use Rattle.truth.specs.Truth.{allOf, anyOf}
@@ -16,7 +15,7 @@ use Rattle.plan_data.specs.declared.NaryOp.the-variants.{And, Or}
 use Rattle.plan_data.specs.declared.ExprData.{ExprData}
 use Rattle.rows.specs.Compare.{truthOf}
 use Rattle.rows.specs.Values.{noneOf, joinOf, naryOf, truths, nodeValue, valueIn, valueNext, values, valueAt}
-use Rattle.rows.proofs.InOrderLaws.{in-order-length, in-order-at, in-order-past}
+use Rattle.rows.proofs.InOrderLaws.{in-order-at, in-order-past}
 use Rattle.rows.proofs.PartLaws.{part-done, part-past, part-more}
 
 module _ (cell : ℕ → ScalarValue) (node : ℕ → ExprData) (items : List ℕ) where

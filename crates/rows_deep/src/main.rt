@@ -1,4 +1,5 @@
-// The deepest expressions that a plan can hold, evaluated: 1,023 Nots one in the other, 512 Ands one in the other, and an And of 2,048 operands.
+// The deepest expressions that a plan can hold, evaluated: 1,023 Nots one in the other, 512 Ands of two operands and 1,023 Ands of one, one in the
+// other, and an And of 2,048 operands. Run it with a stack of 2 MiB.
 use kinds::Record;
 use plan::Expr;
 use plan::Plan;
@@ -36,15 +37,28 @@ fn nots(n: u16) -> Plan {
     p
 }
 
+// An And of the expressions e and 0 more.
+fn with_pair(p: Plan, e: u16) -> Plan {
+    let used = p.items;
+    let q = with_item(with_item(p, e), 0);
+    with_expr(q, 0x23, 0, 2, used.count)
+}
+
 // The literal true, and n Ands, each of the one before it and the literal.
 fn ands(n: u16) -> Plan {
     let mut p = with_expr(Plan::empty(), 0x11, 1, 0, 0);
     for i in 0..n {
-        let used = p.items;
-        let at = used.count;
+        p = with_pair(p, i);
+    }
+    p
+}
+
+// The literal true, and n Ands, each of the one before it.
+fn lone_ands(n: u16) -> Plan {
+    let mut p = with_expr(Plan::empty(), 0x11, 1, 0, 0);
+    for i in 0..n {
         p = with_item(p, i);
-        p = with_item(p, 0);
-        p = with_expr(p, 0x23, 0, 2, at);
+        p = with_expr(p, 0x23, 0, 1, i);
     }
     p
 }
@@ -98,5 +112,6 @@ fn answer(p: Plan, e: u16) {
 fn main() {
     answer(nots(1023), 1023);
     answer(ands(512), 512);
+    answer(lone_ands(1023), 1023);
     answer(wide(2048), 1);
 }

@@ -1,0 +1,4 @@
+pub mod ReferenceLaws
+pub mod NodeRules
+pub mod Appended
+pub mod ValueKinds
