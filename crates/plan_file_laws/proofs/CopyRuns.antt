@@ -39,6 +39,21 @@ sized : (xs : List Record) (q : State) → Reads xs q → Sized (q .plan)
 sized xs q r = rules-in (q .wanted) (q .plan) (kept-reads xs q r .phase) .0
 
 -- ---- columns
+-- a copy with columns alone
+columns-only : (p r : Plan) (c : ℕ) → ((i : ℕ) → i < c → columnRecord r i ≡ columnRecord p i) → Copy p r c 0 0
+columns-only p r c f =
+    record {
+      column = f;
+      expr = λ j u. absurd (omega arith);
+      expr-start = λ j u. absurd (omega arith);
+      expr-items = λ j u. absurd (omega arith);
+      expr-whole = λ j u. absurd (omega arith);
+      operator = λ j u. absurd (omega arith);
+      operator-start = λ j u. absurd (omega arith);
+      operator-items = λ j u. absurd (omega arith);
+      operator-whole = λ j u. absurd (omega arith);
+    }
+
 column-next :
     (p : Plan) (xs : List Record) (q : State) (i : ℕ) → i < 64 → (leb 1 (columnRecord p i .code) && leb (columnRecord p i .code) 5) ≡ true
     → Rest p xs q i 0 0 0 → (t : State) × Rest p (xs ++ (columnRecord p i ∷ [])) t (suc i) 0 0 0
@@ -58,19 +73,10 @@ column-next p xs q i h ok d =
         exprs = d .exprs;
         operators = d .operators;
         items = d .items;
-        copy = record {
-          column = one-more (λ (j : ℕ). columnRecord (withColumn (q .plan) x) j ≡ columnRecord p j) i
-              (λ j u. e .column j (omega (arith, d .columns)) ∙ d .copy .column j u)
-              (ap (columnRecord (withColumn (q .plan) x)) (sym (d .columns)) ∙ new-column (q .plan) x (sized xs q (d .reads)) l);
-          expr = λ j u. absurd (omega arith);
-          expr-start = λ j u. absurd (omega arith);
-          expr-items = λ j u. absurd (omega arith);
-          expr-whole = λ j u. absurd (omega arith);
-          operator = λ j u. absurd (omega arith);
-          operator-start = λ j u. absurd (omega arith);
-          operator-items = λ j u. absurd (omega arith);
-          operator-whole = λ j u. absurd (omega arith);
-        };
+        copy = columns-only p (withColumn (q .plan) x) (suc i)
+            (one-more (λ (j : ℕ). columnRecord (withColumn (q .plan) x) j ≡ columnRecord p j) i
+            (λ j u. e .column j (omega (arith, d .columns)) ∙ d .copy .column j u)
+            (ap (columnRecord (withColumn (q .plan) x)) (sym (d .columns)) ∙ new-column (q .plan) x (sized xs q (d .reads)) l));
       },
     )
 
@@ -84,17 +90,7 @@ start-rest p =
       exprs = refl;
       operators = refl;
       items = refl;
-      copy = record {
-        column = λ j u. absurd (omega arith);
-        expr = λ j u. absurd (omega arith);
-        expr-start = λ j u. absurd (omega arith);
-        expr-items = λ j u. absurd (omega arith);
-        expr-whole = λ j u. absurd (omega arith);
-        operator = λ j u. absurd (omega arith);
-        operator-start = λ j u. absurd (omega arith);
-        operator-items = λ j u. absurd (omega arith);
-        operator-whole = λ j u. absurd (omega arith);
-      };
+      copy = columns-only p emptyPlan 0 (λ j u. absurd (omega arith));
     }
 
 -- the items of more records are more
