@@ -15,7 +15,7 @@ use Rattle.value_range.specs.Ranges.{emptyRange}
 use Rattle.value_range.specs.declared.ValueRange.{ValueRange}
 use Rattle.comparison.specs.Operators.{bounding}
 use Rattle.comparison.specs.declared.BinaryOp.{BinaryOp}
-use Rattle.constraints.specs.Sets.{crossCheck, boundsBy, addBound, none, held, blank, noEntry, entryOf, nonNulls, literals, nonNullAt, literalAt, entryAt, canonicalAt, withNonNulls, withLiterals, withRanges, withFlag, flagIf, clashes, rangeIn, tightenBy, putNonNull, putLiteral, layRange, putRange, stepsTo, moveNonNull, moveLiteral, moveRange, nonNullsMoved, literalsMoved, rangesMoved, addLiteral, mergeLiteral, mergeRange, mergeNonNull}
+use Rattle.constraints.specs.Sets.{crossCheck, boundsBy, addBound, none, held, blank, noEntry, entryOf, nonNulls, literals, nonNullAt, literalAt, entryAt, canonicalAt, withNonNulls, withLiterals, withRanges, flagIf, clashes, rangeIn, tightenBy, putNonNull, putLiteral, layRange, putRange, stepsTo, moveNonNull, moveLiteral, moveRange, nonNullsMoved, literalsMoved, rangesMoved, addLiteral, mergeLiteral, mergeRange, mergeNonNull}
 use Rattle.constraints.specs.declared.Holder.{Holder}
 use Rattle.constraints.specs.declared.Entry.{Entry}
 use Rattle.constraints.specs.declared.ConstraintSet.{ConstraintSet}

@@ -7,10 +7,9 @@ use native.Mathlib.Decide.{decLt, ℕ-discrete}
 use native.Mathlib.Omega.{arith}
 use native.Mathlib.Numerals.{add-one}
 use borrow.Author.Tests.{lt-ltb, le-ltb, eq-eqb, ne-eqb}
-use lib.Dec.{eqb, ltb}
+use lib.Dec.{ltb}
 use lib.ListN.{getD, set}
 use Rattle.value_classes.specs.Parents.{rootOf}
-use Rattle.value_classes.specs.Classes.{unionOf}
 use Rattle.value_classes.specs.Listed.{firstMember, nextMember, membersOf}
 use Rattle.value_classes.specs.declared.ValueEquivalenceClasses.{ValueEquivalenceClasses}
 use Rattle.value_classes.specs.declared.Members.{Members}
@@ -24,7 +23,7 @@ use Rattle.constraints.proofs.Steps.{steps-skip}
 use Rattle.constraints.proofs.Operations.{union-one}
 use Rattle.constraints.proofs.Merge.{merge-done, merge-refused}
 use Rattle.constraint_set.specs.Chained.{secondOf, chained}
-use Rattle.constraint_set.specs.Kept.{hasIn, keptBy, residualsKept}
+use Rattle.constraint_set.specs.Kept.{keptBy, residualsKept}
 use Rattle.constraint_set.specs.declared.Kept.{Kept}
 use Rattle.constraint_set.proofs.Loops.{steps-next}
 

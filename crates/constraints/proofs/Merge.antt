@@ -1,23 +1,19 @@
 -- A row meets two sets merged exactly if it meets both. Assumes nothing.
-use mathlib.Core.Path.{_≡_, refl, sym, ap, _∙_, subst}
-use mathlib.Core.Bool.{Bool, true, false, not, _&&_, _||_, cond}
-use mathlib.Core.List.{List}
-use mathlib.Core.Logic.{_↔_, _⊎_, inl, inr}
-use Prim.Native.Nat.{ℕ, zero, suc, _≤_, _<_, min}
+use mathlib.Core.Path.{_≡_, sym, subst}
+use mathlib.Core.Bool.{true, false, not, _&&_}
+use mathlib.Core.Logic.{_↔_, inl}
+use Prim.Native.Nat.{ℕ, zero, suc, _<_, min}
 use native.Mathlib.Decide.{ℕ-discrete, decLt}
 use native.Mathlib.Omega.{arith}
-use lib.Dec.{T, T-not, not-T, eqb, eqb→eq, eqb-refl}
-use lib.ListN.{getD}
+use lib.Dec.{T, not-T, eqb, eqb→eq, eqb-refl}
 use lib.Ieee.Fits.{and-i, and-l, and-r}
 use Rattle.scalar.specs.Kinds.{isNull}
 use Rattle.scalar.specs.Scalars.{Typed}
 use Rattle.scalar.specs.declared.ScalarValue.{ScalarValue}
-use Rattle.value_classes.proofs.RootLaws.{root-le}
 use Rattle.constraints.specs.Values.{equals, Place, placeOf, okRange}
-use Rattle.constraints.specs.Sets.{parentsOf, nonNulls, literals, handles, nonNullAt, literalAt, entryAt, handleAt, canonicalAt, flagIf, putNonNull, layRange, normalized, unionValues, addLiteral, roomFor, pushResidual, stepsTo, joinMember, joinClass, mergeLiteral, mergeRange, mergeNonNull, mergeResidual, mergeClasses, mergeLiterals, mergeRanges, mergeNonNulls, mergeResiduals, mergeValues, mergedSet, roomTo, mergeRoom, done, refusedWith, mergeFrom}
+use Rattle.constraints.specs.Sets.{parentsOf, nonNulls, literals, handles, nonNullAt, literalAt, entryAt, handleAt, canonicalAt, flagIf, putNonNull, layRange, unionValues, addLiteral, roomFor, stepsTo, joinMember, joinClass, mergeLiteral, mergeRange, mergeNonNull, mergeResidual, mergeClasses, mergeLiterals, mergeRanges, mergeNonNulls, mergeResiduals, mergeValues, mergedSet, roomTo, mergeRoom, done, refusedWith, mergeFrom}
 use Rattle.constraints.specs.Meets.{nullOk, literalOk, entryOk, Core, Like, Together, Meets, Good}
 use Rattle.constraints.specs.declared.ConstraintSet.{ConstraintSet}
-use Rattle.constraints.specs.declared.Applied.{Applied}
 use Rattle.constraints.proofs.Goods.{flag-good}
 use Rattle.constraints.proofs.Likes.{like-sym, like-place}
 use Rattle.constraints.proofs.Puts.{nor-l, nor-r, nor-i, null-good, lay-good, null-iff, lay-iff}

@@ -1,17 +1,17 @@
 -- Where a value lies, against ranges: tightening a range by another admits what both admit, an empty range admits nothing, and a literal outside a range is the value of nothing within. Assumes nothing.
 use mathlib.Core.Path.{_≡_, refl, sym, ap, ap₂, _∙_, subst}
-use mathlib.Core.Bool.{Bool, true, false, not, _&&_, _||_, cond, and-assoc, and-true, and-false, or-true, or-false}
+use mathlib.Core.Bool.{Bool, true, false, not, _&&_, _||_, cond, and-true, and-false}
 use Prim.Native.Nat.{ℕ}
 use native.Mathlib.Omega.{arith}
-use lib.Dec.{T, T-not, not-T}
-use lib.IntN.{ℤ, pos, negsuc}
-use lib.Signed.{ltZ, leZ}
+use lib.Dec.{T}
+use lib.IntN.{ℤ, pos}
+use lib.Signed.{ltZ}
 use lib.Ieee.{Float, nan, inf, fin, binary64, lt, eq, fits}
-use lib.Ieee.Bits.{is-true, is-false}
-use lib.Ieee.Fits.{and-i, and-l, and-r}
-use Rattle.scalar.specs.Exact.{eqZ, finite, exactIn, wholeIn}
-use Rattle.scalar.specs.Scalars.{scalarToF64, sameScalar, Typed, valueOf}
-use Rattle.value_range.specs.Ranges.{boundAt, unboundedRange, takesLower, takesUpper, tightenLower, tightenUpper, emptyRange, upTo, meetsUpper, meetsLower, within}
+use lib.Ieee.Bits.{is-true}
+use lib.Ieee.Fits.{and-l, and-r}
+use Rattle.scalar.specs.Exact.{eqZ, finite, exactIn}
+use Rattle.scalar.specs.Scalars.{scalarToF64, sameScalar, Typed}
+use Rattle.value_range.specs.Ranges.{boundAt, takesLower, takesUpper, tightenLower, tightenUpper, emptyRange, upTo}
 use Rattle.value_range.specs.declared.Bound.{Bound}
 use Rattle.value_range.specs.declared.ValueRange.{ValueRange}
 use Rattle.scalar.specs.declared.ScalarValue.{ScalarValue}
@@ -19,10 +19,10 @@ use Rattle.scalar.specs.declared.ScalarValue.the-variants as S
 use Rattle.scalar.specs.declared.Number.{Number}
 use Rattle.scalar.specs.declared.Number.the-variants.{Of, Nothing}
 use Rattle.value_range.proofs.RangeLaws.{Sound, le-lt, lt-le, irrefl, upTo-le, upper-tightened, upper-keeps, upper-sound, lower-tightened, lower-keeps, lower-sound, nothing-within}
-use Rattle.scalar.proofs.NumberLaws.{Converts, converts}
+use Rattle.scalar.proofs.NumberLaws.{converts}
 use Rattle.scalar.proofs.ExactLaws.{lt-exact, eq-exact}
 use Rattle.scalar.proofs.Apart.{eqZ→eq}
-use Rattle.constraints.specs.Values.{Place, nowhere, lowest, highest, point, placeOfFloat, placeOf, belowP, aboveP, okUpper, okLower, okRange}
+use Rattle.constraints.specs.Values.{Place, nowhere, lowest, highest, point, placeOf, belowP, aboveP, okUpper, okLower, okRange}
 use Rattle.constraints.specs.Sets.{lowerBy, upperBy, tightenBy, outside}
 use Rattle.constraints.specs.Meets.{SoundRange}
 use Rattle.constraints.proofs.ValueLaws.{or-elim, same-place}

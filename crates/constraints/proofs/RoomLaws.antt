@@ -14,7 +14,7 @@ use Rattle.lists.specs.Ranges.{anyFrom}
 use Rattle.scalar.specs.declared.ScalarValue.{ScalarValue}
 use Rattle.value_classes.specs.Classes.{unionOf}
 use Rattle.comparison.specs.declared.BinaryOp.{BinaryOp}
-use Rattle.constraints.specs.Sets.{nonNulls, literals, handles, nonNullAt, literalAt, entryAt, handleAt, canonicalAt, withClasses, withResiduals, withFlag, flagIf, putNonNull, layRange, normalized, unionValues, addNonNull, addLiteral, addBound, hasHandle, roomFor, pushResidual, done, refusedWith, addResidual, stepsTo, joinMember, joinClass, mergeLiteral, mergeRange, mergeNonNull, mergeResidual, mergeClasses, mergeLiterals, mergeRanges, mergeNonNulls, mergeResiduals, mergeValues, mergedSet, roomTo, mergeRoom, mergeFrom}
+use Rattle.constraints.specs.Sets.{nonNulls, literals, handles, nonNullAt, literalAt, entryAt, handleAt, canonicalAt, withClasses, withResiduals, withFlag, flagIf, putNonNull, layRange, normalized, unionValues, addNonNull, addLiteral, addBound, hasHandle, roomFor, pushResidual, addResidual, stepsTo, joinMember, joinClass, mergeLiteral, mergeRange, mergeNonNull, mergeResidual, mergeClasses, mergeLiterals, mergeRanges, mergeNonNulls, mergeResiduals, mergeValues, mergedSet, roomTo, mergeRoom, mergeFrom}
 use Rattle.constraints.specs.Meets.{Good}
 use Rattle.constraints.specs.Room.{listed, has, pushed, pushTo}
 use Rattle.constraints.specs.declared.ConstraintSet.{ConstraintSet}

@@ -17,7 +17,7 @@ use Rattle.scalar.specs.declared.Number.the-variants.{Of, Nothing}
 use Rattle.value_range.specs.Ranges.{noBound, boundAt, unboundedRange, tightenLower, tightenUpper, emptyRange}
 use Rattle.value_range.specs.declared.Bound.{Bound}
 use Rattle.value_range.specs.declared.ValueRange.{ValueRange}
-use Rattle.value_classes.specs.Parents.{rootOf, parentsOk}
+use Rattle.value_classes.specs.Parents.{parentsOk}
 use Rattle.value_classes.specs.Classes.{emptyClasses, canonicalOf, unionOf}
 use Rattle.value_classes.specs.declared.ValueEquivalenceClasses.{ValueEquivalenceClasses}
 use Rattle.value_classes.specs.declared.United.{United}
