@@ -1,6 +1,5 @@
 -- Codes and comparisons correspond, and exchanging the sides twice changes nothing. Assumes nothing.
 use mathlib.Core.Path.{_≡_, refl}
-use mathlib.Core.Bool.{Bool, true, false}
 use lib.Dec.{T}
 use Rattle.comparison.specs.Operators.{binaryOpCode, binaryOpOf, reversedOp, ordinary, bounding}
 use Rattle.comparison.specs.declared.BinaryOp.{BinaryOp}

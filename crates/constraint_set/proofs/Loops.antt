@@ -1,14 +1,21 @@
--- One step of each loop, on plain values. Assumes nothing.
+-- One turn of each loop, on plain values. Assumes nothing.
 use mathlib.Core.Path.{_≡_, refl, sym, ap, _∙_}
-use mathlib.Core.Bool.{Bool, true, false, cond, _||_}
+use mathlib.Core.Bool.{Bool, true, false, cond, _||_, or-false}
 use mathlib.Core.List.{List}
-use Prim.Native.Nat.{ℕ, _+_}
+use Prim.Native.Nat.{ℕ, _+_, _-_, _<_, _≤_}
 use native.Mathlib.Numerals.{add-one}
+use borrow.Author.Tests.{lt-ltb}
+use lib.Ieee.{Float}
 use lib.ListN.{getD, set, replicate}
+use Rattle.lists.specs.Ranges.{anyFrom}
+use Rattle.lists.proofs.RangeLaws.{any-step, any-done}
+use Rattle.scalar.specs.Kinds.{isNull}
 use Rattle.scalar.specs.declared.ScalarValue.{ScalarValue}
 use Rattle.value_range.specs.Ranges.{emptyRange}
 use Rattle.value_range.specs.declared.ValueRange.{ValueRange}
-use Rattle.constraints.specs.Sets.{none, held, blank, noEntry, entryOf, nonNulls, literals, nonNullAt, literalAt, entryAt, canonicalAt, withNonNulls, withLiterals, withRanges, withFlag, clashes, rangeIn, tightenBy, putNonNull, putLiteral, layRange, putRange, stepsTo, moveNonNull, moveLiteral, moveRange, nonNullsMoved, literalsMoved, rangesMoved, addLiteral, mergeLiteral, mergeRange, mergeNonNull}
+use Rattle.comparison.specs.Operators.{bounding}
+use Rattle.comparison.specs.declared.BinaryOp.{BinaryOp}
+use Rattle.constraints.specs.Sets.{crossCheck, boundsBy, addBound, none, held, blank, noEntry, entryOf, nonNulls, literals, nonNullAt, literalAt, entryAt, canonicalAt, withNonNulls, withLiterals, withRanges, flagIf, clashes, rangeIn, tightenBy, putNonNull, putLiteral, layRange, putRange, stepsTo, moveNonNull, moveLiteral, moveRange, nonNullsMoved, literalsMoved, rangesMoved, addLiteral, mergeLiteral, mergeRange, mergeNonNull}
 use Rattle.constraints.specs.declared.Holder.{Holder}
 use Rattle.constraints.specs.declared.Entry.{Entry}
 use Rattle.constraints.specs.declared.ConstraintSet.{ConstraintSet}
@@ -17,7 +24,59 @@ pub steps-next : {A : Type 0} (f : ℕ → A → A) (s : A) (i : ℕ) (t u : A) 
 unfolding stepsTo
 steps-next f s i t u e d = rw (add-one, ← e) d
 
--- the passes of normalize after i identities
+-- a test that is kept in a flag, place by place
+pub any-again : (f : ℕ → Bool) (i e : ℕ) (bad all : Bool) → i < e → (bad || anyFrom f i (e - i)) ≡ all → ((bad || f i) || anyFrom f (i + 1) (e - (i + 1))) ≡ all
+any-again f i e bad all h v = assoc bad (f i) (anyFrom f (i + 1) (e - (i + 1))) ∙ ap (λ (b : Bool). bad || b) (sym (any-step f i e h)) ∙ v
+  where
+    assoc : (a b c : Bool) → ((a || b) || c) ≡ (a || (b || c))
+    assoc true b c = refl
+    assoc false b c = refl
+
+pub any-end : (f : ℕ → Bool) (i e : ℕ) (bad all : Bool) → e ≤ i → (bad || anyFrom f i (e - i)) ≡ all → bad ≡ all
+any-end f i e bad all h v = sym (or-false bad) ∙ ap (λ (b : Bool). bad || b) (sym (any-done f i e h)) ∙ v
+
+-- what the code writes into a set for one literal and one range
+abbrev pub literalWritten : ConstraintSet → ℕ → Holder → Bool → ConstraintSet
+literalWritten t r now clash = flagIf clash (withLiterals t (set (literals t) r now))
+
+abbrev pub rangeWritten : ConstraintSet → ℕ → Entry → ConstraintSet
+rangeWritten t r now = withRanges t (set (t .ranges) r now)
+
+pub literal-put : (t : ConstraintSet) (r : ℕ) (l : ScalarValue) (clash : Bool) (now : Holder) → clash ≡ clashes (literalAt t r) l → now ≡ cond clash (literalAt t r) (held l)
+    → literalWritten t r now clash ≡ putLiteral t r l
+unfolding putLiteral
+literal-put t r l clash now ec en = rw (← ec, ← en)
+
+pub range-lay : (t : ConstraintSet) (r : ℕ) (new range : ValueRange) (now : Entry) → range ≡ tightenBy (rangeIn (entryAt t r)) new → now ≡ entryOf range → rangeWritten t r now ≡ layRange t r new
+unfolding layRange
+range-lay t r new range now er en = rw (← er, ← en)
+
+pub range-put : (t : ConstraintSet) (r : ℕ) (new range : ValueRange) (now : Entry) (empty : Bool) → range ≡ tightenBy (rangeIn (entryAt t r)) new → now ≡ entryOf range → empty ≡ emptyRange range
+    → flagIf empty (rangeWritten t r now) ≡ putRange t r new
+unfolding putRange layRange
+range-put t r new range now empty er en ee = rw (← er, ← en, ← ee)
+
+-- what the code of `add_literal` and `add_range` comes to
+abbrev pub nullWritten : ConstraintSet → ℕ → ConstraintSet
+nullWritten s r = withNonNulls s (set (nonNulls s) r true)
+
+module _ (s : ConstraintSet) (i : ℕ) (h : i < 128) (r : ℕ) (d : r ≡ canonicalAt s i) where
+  pub literal-added : (l : ScalarValue) (clash : Bool) (now : Holder) (q : ConstraintSet) → isNull l ≡ false → clash ≡ clashes (literalAt s r) l → now ≡ cond clash (literalAt s r) (held l)
+      → q ≡ crossCheck (literalWritten (nullWritten s r) r now clash) → q ≡ addLiteral s i l
+  unfolding addLiteral putNonNull
+  literal-added l clash now q n ec en eq = rw (lt-ltb _ _ h, n, ← d) (eq ∙ ap crossCheck (literal-put (nullWritten s r) r l clash now ec en))
+
+  pub bound-added : (op : BinaryOp) (x : Float) (new range : ValueRange) (now : Entry) (empty : Bool) (q : ConstraintSet) → bounding op ≡ true → new ≡ boundsBy op x → range ≡ tightenBy (rangeIn (entryAt s r)) new
+      → now ≡ entryOf range → empty ≡ emptyRange range → q ≡ crossCheck (flagIf empty (rangeWritten (nullWritten s r) r now)) → q ≡ addBound s i op x
+  unfolding addBound putNonNull
+  bound-added op x new range now empty q b e er en ee eq = rw (lt-ltb _ _ h, b, ← d, ← e) (eq ∙ ap crossCheck (range-put (nullWritten s r) r new range now empty er en ee))
+
+  pub entry-added : (op : BinaryOp) (x : Float) (new range : ValueRange) (now : Entry) → bounding op ≡ false → new ≡ boundsBy op x → range ≡ tightenBy (rangeIn (entryAt s r)) new → now ≡ entryOf range
+      → rangeWritten (nullWritten s r) r now ≡ addBound s i op x
+  unfolding addBound putNonNull
+  entry-added op x new range now b e er en = rw (lt-ltb _ _ h, b, ← d, ← e) (range-lay (nullWritten s r) r new range now er en)
+
+-- ---- the passes of normalize after i identities
 unfoldable pub nullsAfter : ConstraintSet → ℕ → ConstraintSet
 nullsAfter s i = stepsTo (moveNonNull s) i (withNonNulls s (replicate 128 false))
 
@@ -27,37 +86,32 @@ literalsAfter s i = stepsTo (moveLiteral s) i (withLiterals s (replicate 128 non
 unfoldable pub rangesAfter : ConstraintSet → ℕ → ConstraintSet
 rangesAfter s i = stepsTo (moveRange s) i (withRanges s (replicate 128 noEntry))
 
-module _ (s : ConstraintSet) (i : ℕ) where
-  pub null-moved : (flags : List Bool) (r : ℕ) → withNonNulls s flags ≡ nullsAfter s i → nonNullAt s i ≡ true → r ≡ canonicalAt s i
-      → withNonNulls s (set flags r true) ≡ nullsAfter s (i + 1)
+module _ (s : ConstraintSet) (i : ℕ) (t : ConstraintSet) where
+  pub null-moved : (r : ℕ) → t ≡ nullsAfter s i → nonNullAt s i ≡ true → r ≡ canonicalAt s i → withNonNulls t (set (nonNulls t) r true) ≡ nullsAfter s (i + 1)
   unfolding nullsAfter putNonNull
-  null-moved flags r v e d = steps-next (moveNonNull s) _ i (withNonNulls s flags) _ v (rw (e, ← d))
+  null-moved r v e d = steps-next (moveNonNull s) _ i t _ v (rw (e, ← d))
 
-  pub null-idle : (t : ConstraintSet) → t ≡ nullsAfter s i → nonNullAt s i ≡ false → t ≡ nullsAfter s (i + 1)
+  pub null-idle : t ≡ nullsAfter s i → nonNullAt s i ≡ false → t ≡ nullsAfter s (i + 1)
   unfolding nullsAfter
-  null-idle t v e = steps-next (moveNonNull s) _ i t t v (rw e)
+  null-idle v e = steps-next (moveNonNull s) _ i t t v (rw e)
 
-  pub literal-idle : (t : ConstraintSet) → t ≡ literalsAfter s i → literalAt s i .present ≡ false → t ≡ literalsAfter s (i + 1)
+  pub literal-moved : (r : ℕ) (clash : Bool) (now : Holder) → t ≡ literalsAfter s i → literalAt s i .present ≡ true → r ≡ canonicalAt s i
+      → clash ≡ clashes (literalAt t r) (literalAt s i .value) → now ≡ cond clash (literalAt t r) (held (literalAt s i .value)) → literalWritten t r now clash ≡ literalsAfter s (i + 1)
   unfolding literalsAfter
-  literal-idle t v e = steps-next (moveLiteral s) _ i t t v (rw e)
+  literal-moved r clash now v e d ec en = steps-next (moveLiteral s) _ i t _ v (rw (e, ← d) (literal-put t r (literalAt s i .value) clash now ec en))
 
-  pub range-idle : (t : ConstraintSet) → t ≡ rangesAfter s i → entryAt s i .present ≡ false → t ≡ rangesAfter s (i + 1)
+  pub literal-idle : t ≡ literalsAfter s i → literalAt s i .present ≡ false → t ≡ literalsAfter s (i + 1)
+  unfolding literalsAfter
+  literal-idle v e = steps-next (moveLiteral s) _ i t t v (rw e)
+
+  pub range-moved : (r : ℕ) (range : ValueRange) (empty : Bool) (now : Entry) → t ≡ rangesAfter s i → entryAt s i .present ≡ true → r ≡ canonicalAt s i
+      → range ≡ tightenBy (rangeIn (entryAt t r)) (entryAt s i .range) → empty ≡ emptyRange range → now ≡ entryOf range → flagIf empty (rangeWritten t r now) ≡ rangesAfter s (i + 1)
   unfolding rangesAfter
-  range-idle t v e = steps-next (moveRange s) _ i t t v (rw e)
+  range-moved r range empty now v e d er ee en = steps-next (moveRange s) _ i t _ v (rw (e, ← d) (range-put t r (entryAt s i .range) range now empty er en ee))
 
-  pub literal-moved : (list : List Holder) (flag : Bool) (r : ℕ) (clash : Bool) (now : Holder) → withFlag (withLiterals s list) flag ≡ literalsAfter s i
-      → literalAt s i .present ≡ true → r ≡ canonicalAt s i
-      → clash ≡ clashes (getD list r none) (literalAt s i .value) → now ≡ cond clash (getD list r none) (held (literalAt s i .value))
-      → withFlag (withLiterals s (set list r now)) (flag || clash) ≡ literalsAfter s (i + 1)
-  unfolding literalsAfter putLiteral
-  literal-moved list flag r clash now v e d ec en = steps-next (moveLiteral s) _ i (withFlag (withLiterals s list) flag) _ v (rw (e, ← d, ← ec, ← en))
-
-  pub range-moved : (list : List Entry) (flag : Bool) (r : ℕ) (range : ValueRange) (empty : Bool) (now : Entry) → withFlag (withRanges s list) flag ≡ rangesAfter s i
-      → entryAt s i .present ≡ true → r ≡ canonicalAt s i
-      → range ≡ tightenBy (rangeIn (getD list r blank)) (entryAt s i .range) → empty ≡ emptyRange range → now ≡ entryOf range
-      → withFlag (withRanges s (set list r now)) (flag || empty) ≡ rangesAfter s (i + 1)
-  unfolding rangesAfter putRange layRange
-  range-moved list flag r range empty now v e d er ee en = steps-next (moveRange s) _ i (withFlag (withRanges s list) flag) _ v (rw (e, ← d, ← er, ← ee, ← en))
+  pub range-idle : t ≡ rangesAfter s i → entryAt s i .present ≡ false → t ≡ rangesAfter s (i + 1)
+  unfolding rangesAfter
+  range-idle v e = steps-next (moveRange s) _ i t t v (rw e)
 
 pub nulls-done : (s : ConstraintSet) (i : ℕ) → i ≡ 128 → nullsAfter s i ≡ nonNullsMoved s
 unfolding nullsAfter nonNullsMoved
@@ -71,25 +125,24 @@ pub ranges-done : (s : ConstraintSet) (i : ℕ) → i ≡ 128 → rangesAfter s 
 unfolding rangesAfter rangesMoved
 ranges-done s i e = rw e
 
--- ---- another set laid into t
-module _ (t : ConstraintSet) (i : ℕ) (b : ConstraintSet) where
-  pub null-laid : (flags : List Bool) → nonNullAt b i ≡ true → withNonNulls t (set flags i true) ≡ mergeNonNull b i (withNonNulls t flags)
+-- ---- the entries of another set laid into t
+module _ (i : ℕ) (t : ConstraintSet) where
+  pub null-laid : (l : List Bool) → getD l i false ≡ true → withNonNulls t (set (nonNulls t) i true) ≡ mergeNonNull l i t
   unfolding putNonNull
-  null-laid flags e = rw e
+  null-laid l e = rw e
 
-  pub null-left : (flags : List Bool) → nonNullAt b i ≡ false → withNonNulls t flags ≡ mergeNonNull b i (withNonNulls t flags)
-  null-left flags e = rw e
+  pub null-left : (l : List Bool) → getD l i false ≡ false → t ≡ mergeNonNull l i t
+  null-left l e = rw e
 
-  pub range-laid : (list : List Entry) (r : ℕ) (now : Entry) → entryAt b i .present ≡ true → r ≡ canonicalAt t i
-      → now ≡ entryOf (tightenBy (rangeIn (getD list r blank)) (entryAt b i .range)) → withRanges t (set list r now) ≡ mergeRange b i (withRanges t list)
-  unfolding layRange
-  range-laid list r now e d en = rw (e, ← d, ← en)
+  pub range-laid : (l : List Entry) (r : ℕ) (range : ValueRange) (now : Entry) → getD l i blank .present ≡ true → r ≡ canonicalAt t i
+      → range ≡ tightenBy (rangeIn (entryAt t r)) (getD l i blank .range) → now ≡ entryOf range → rangeWritten t r now ≡ mergeRange l i t
+  range-laid l r range now e d er en = rw (e, ← d) (range-lay t r (getD l i blank .range) range now er en)
 
-  pub range-left : (list : List Entry) → entryAt b i .present ≡ false → withRanges t list ≡ mergeRange b i (withRanges t list)
-  range-left list e = rw e
+  pub range-left : (l : List Entry) → getD l i blank .present ≡ false → t ≡ mergeRange l i t
+  range-left l e = rw e
 
-pub literal-laid : (b : ConstraintSet) (i : ℕ) (t u : ConstraintSet) → literalAt b i .present ≡ true → u ≡ addLiteral t i (literalAt b i .value) → u ≡ mergeLiteral b i t
-literal-laid b i t u e d = rw e d
+  pub literal-laid : (l : List Holder) (u : ConstraintSet) → getD l i none .present ≡ true → u ≡ addLiteral t i (getD l i none .value) → u ≡ mergeLiteral l i t
+  literal-laid l u e d = rw e d
 
-pub literal-left : (b : ConstraintSet) (i : ℕ) (t : ConstraintSet) → literalAt b i .present ≡ false → t ≡ mergeLiteral b i t
-literal-left b i t e = rw e
+  pub literal-left : (l : List Holder) → getD l i none .present ≡ false → t ≡ mergeLiteral l i t
+  literal-left l e = rw e

@@ -7,24 +7,23 @@ use native.Mathlib.Decide.{decLt, ℕ-discrete}
 use native.Mathlib.Omega.{arith}
 use native.Mathlib.Numerals.{add-one}
 use borrow.Author.Tests.{lt-ltb, le-ltb, eq-eqb, ne-eqb}
-use lib.Dec.{eqb, ltb}
+use lib.Dec.{ltb}
 use lib.ListN.{getD, set}
 use Rattle.value_classes.specs.Parents.{rootOf}
-use Rattle.value_classes.specs.Classes.{unionOf}
 use Rattle.value_classes.specs.Listed.{firstMember, nextMember, membersOf}
 use Rattle.value_classes.specs.declared.ValueEquivalenceClasses.{ValueEquivalenceClasses}
 use Rattle.value_classes.specs.declared.Members.{Members}
 use Rattle.value_classes.proofs.RootLaws.{each-at}
 use Rattle.value_classes.proofs.MemberLaws.{first-at-least, first-at-most, first-member, first-skips}
 use Rattle.value_classes.proofs.Unions.{left-out}
-use Rattle.constraints.specs.Sets.{handles, handleAt, withResiduals, unionValues, hasHandle, roomFor, pushResidual, done, refusedWith, addResidual, stepsTo, joinMember, joinClass, mergeResidual, mergeClasses, mergeLiterals, mergeRanges, mergeNonNulls, mergeValues, normalized, mergedSet, roomTo, mergeRoom, mergeFrom}
+use Rattle.constraints.specs.Sets.{nonNulls, literals, handles, flagIf, withResiduals, unionValues, hasHandle, roomFor, pushResidual, done, refusedWith, addResidual, stepsTo, joinMember, joinClass, mergeResidual, mergeClasses, mergeLiterals, mergeRanges, mergeNonNulls, mergeValues, normalized, mergedSet, roomTo, mergeRoom, mergeFrom}
 use Rattle.constraints.specs.declared.ConstraintSet.{ConstraintSet}
 use Rattle.constraints.specs.declared.Applied.{Applied}
 use Rattle.constraints.proofs.Steps.{steps-skip}
 use Rattle.constraints.proofs.Operations.{union-one}
 use Rattle.constraints.proofs.Merge.{merge-done, merge-refused}
 use Rattle.constraint_set.specs.Chained.{secondOf, chained}
-use Rattle.constraint_set.specs.Kept.{hasIn, keptBy, residualsKept}
+use Rattle.constraint_set.specs.Kept.{keptBy, residualsKept}
 use Rattle.constraint_set.specs.declared.Kept.{Kept}
 use Rattle.constraint_set.proofs.Loops.{steps-next}
 
@@ -169,32 +168,32 @@ pub residual-added : (s : ConstraintSet) (h : ℕ) (k : Kept) → k ≡ keptBy (
 residual-added s h k e = rw e (λ i. record { constraints = kept-set s h i; refused = kept-refused s h i }) ∙ added s h
 
 -- one turn of the loop over the residuals of b
-module _ (t b : ConstraintSet) (i : ℕ) (list : List ℕ) (count : ℕ) (refused : Bool) (k : Kept)
-    (es : withResiduals t list count ≡ stepsTo (mergeResidual b) i t) (er : refused ≡ not (roomTo t b i)) (ek : k ≡ keptBy list count (handleAt b i)) where
+module _ (t : ConstraintSet) (others : List ℕ) (i : ℕ) (list : List ℕ) (count : ℕ) (refused : Bool) (k : Kept)
+    (es : withResiduals t list count ≡ stepsTo (mergeResidual others) i t) (er : refused ≡ not (roomTo t others i)) (ek : k ≡ keptBy list count (getD others i 0)) where
   abbrev u : ConstraintSet
   u = withResiduals t list count
 
-  pub handle-pushed : withResiduals t (k .list) (k .count) ≡ stepsTo (mergeResidual b) (i + 1) t
-  handle-pushed = steps-next (mergeResidual b) t i u (withResiduals t (k .list) (k .count)) es (rw ek (kept-set u (handleAt b i)))
+  pub handle-pushed : withResiduals t (k .list) (k .count) ≡ stepsTo (mergeResidual others) (i + 1) t
+  handle-pushed = steps-next (mergeResidual others) t i u (withResiduals t (k .list) (k .count)) es (rw ek (kept-set u (getD others i 0)))
 
-  pub handle-refused : (refused || k .refused) ≡ not (roomTo t b (i + 1))
+  pub handle-refused : (refused || k .refused) ≡ not (roomTo t others (i + 1))
   unfolding roomTo
   handle-refused =
-      rw (add-one, er, ek, ← es, kept-refused u (handleAt b i)) (turn (roomTo t b i) (roomFor u (handleAt b i)))
+      rw (add-one, er, ek, ← es, kept-refused u (getD others i 0)) (turn (roomTo t others i) (roomFor u (getD others i 0)))
     where
       turn : (x y : Bool) → (not x || not y) ≡ not (x && y)
       turn true y = refl
       turn false y = refl
 
 -- ---- the parts of a merge put together
-module _ (a b t1 t2 t3 t4 : ConstraintSet) (m : Applied)
-    (e1 : t1 ≡ mergeClasses a b) (e2 : t2 ≡ mergeLiterals t1 b) (e3 : t3 ≡ mergeRanges t2 b) (e4 : t4 ≡ mergeNonNulls t3 b) (em : m ≡ residualsKept t4 b) where
-  whole : m ≡ residualsKept (mergeValues a b) b
+module _ (a b t1 t2 t3 t4 : ConstraintSet) (m : Applied) (e1 : t1 ≡ mergeClasses (flagIf (b .contradictory) a) (b .«equivalence_classes»)) (e2 : t2 ≡ mergeLiterals t1 (literals b))
+    (e3 : t3 ≡ mergeRanges t2 (b .ranges)) (e4 : t4 ≡ mergeNonNulls t3 (nonNulls b)) (em : m ≡ residualsKept t4 (handles b) (b .residuals)) where
+  whole : m ≡ residualsKept (mergeValues a b) (handles b) (b .residuals)
   whole = rw (em, e4, e3, e2, e1)
 
   room : (x : Bool) → m .refused ≡ not x → mergeRoom a b ≡ x
   unfolding mergeRoom residualsKept
-  room x e = turn (roomTo (mergeValues a b) b (min (b .residuals) 64)) x (sym (ap (λ (y : Applied). y .refused) whole) ∙ e)
+  room x e = turn (roomTo (mergeValues a b) (handles b) (min (b .residuals) 64)) x (sym (ap (λ (y : Applied). y .refused) whole) ∙ e)
     where
       turn : (y x : Bool) → not y ≡ not x → y ≡ x
       turn true true e = refl

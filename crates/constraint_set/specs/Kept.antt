@@ -19,6 +19,6 @@ keptBy l n h =
     cond (hasIn l n h) (record { list = l; count = n; refused = false })
     (cond (ltb n 64) (record { list = set l n h; count = n + 1; refused = false }) (record { list = l; count = n; refused = true }))
 
--- the residuals of b after those of t, and whether one did not find room
-unfoldable pub residualsKept : ConstraintSet → ConstraintSet → Applied
-residualsKept t b = record { constraints = mergeResiduals t b; refused = not (roomTo t b (min (b .residuals) 64)) }
+-- the first handles of a list after those of t, and whether one did not find room
+unfoldable pub residualsKept : ConstraintSet → List ℕ → ℕ → Applied
+residualsKept t l n = record { constraints = mergeResiduals t l n; refused = not (roomTo t l (min n 64)) }

@@ -2,11 +2,10 @@
 // Nothing is asked of a set or of a number that comes in: what happens to one that breaks the rules is defined too.
 ghost use mathlib.Core.Path.{_≡_};
 ghost use mathlib.Core.Bool.{cond};
-ghost use Prim.Native.Nat.{_<_, min};
-ghost use Rattle.lists.specs.Ranges.{anyFrom};
+ghost use lib.Dec.{eqb};
 ghost use Rattle.value_classes.specs.Classes.{sameClass};
-ghost use Rattle.constraints.specs.Sets.{held, setOk, canonicalAt, entryOf, clashes, putNonNull, putLiteral, rangeIn, lowerBy, upperBy, tightenBy, layRange, putRange, outside, crossed, crossedAt, crossCheck, nonNullsMoved, literalsMoved, rangesMoved, normalized, unionValues, addNonNull, addLiteral, boundsBy, addBound, addRange, addResidual, mergeClasses, mergeLiterals, mergeRanges, mergeNonNulls, mergedSet, mergeFrom};
-ghost use Rattle.constraint_set.specs.Chained.{secondOf, chained};
+ghost use Rattle.constraints.specs.Sets.{held, setOk, canonicalAt, entryOf, clashes, rangeIn, lowerBy, upperBy, tightenBy, outside, crossed, crossCheck, nonNullsMoved, literalsMoved, rangesMoved, normalized, unionValues, addNonNull, addLiteral, boundsBy, addBound, addRange, addResidual, mergeClasses, mergeLiterals, mergeRanges, mergeNonNulls, mergeFrom};
+ghost use Rattle.constraint_set.specs.Chained.{chained};
 ghost use Rattle.constraint_set.specs.Kept.{hasIn, keptBy, residualsKept};
 use comparison::BinaryOp;
 use constraints::Applied;
@@ -132,58 +131,6 @@ fn entry_of(range: ValueRange) -> Entry
     }
 }
 
-// ---- something put at a representative
-
-fn put_non_null(s: ConstraintSet, r: usize) -> ConstraintSet
-    requires { ⌜ r < 128 ⌝ }
-    ensures { λ q. ⌜ q ≡ putNonNull s r ⌝ }
-{
-    let mut t = s;
-    t.non_null_values[r] = true;
-    t
-}
-
-fn put_literal(s: ConstraintSet, r: usize, l: ScalarValue) -> ConstraintSet
-    requires { ⌜ r < 128 ⌝ }
-    ensures { λ q. ⌜ q ≡ putLiteral s r l ⌝ }
-{
-    let old = s.literal_equalities[r];
-    let clash = literal_clashes(old, l);
-    let h = literal_kept(clash, old, l);
-    let mut t = s;
-    let was = t.contradictory;
-    t.literal_equalities[r] = h;
-    t.contradictory = was | clash;
-    t
-}
-
-fn lay_range(s: ConstraintSet, r: usize, new: ValueRange) -> ConstraintSet
-    requires { ⌜ r < 128 ⌝ }
-    ensures { λ q. ⌜ q ≡ layRange s r new ⌝ }
-{
-    let old = s.ranges[r];
-    let range = tightened(old, new);
-    let e = entry_of(range);
-    let mut t = s;
-    t.ranges[r] = e;
-    t
-}
-
-fn put_range(s: ConstraintSet, r: usize, new: ValueRange) -> ConstraintSet
-    requires { ⌜ r < 128 ⌝ }
-    ensures { λ q. ⌜ q ≡ putRange s r new ⌝ }
-{
-    let old = s.ranges[r];
-    let range = tightened(old, new);
-    let empty = range.is_empty();
-    let e = entry_of(range);
-    let mut t = s;
-    let was = t.contradictory;
-    t.ranges[r] = e;
-    t.contradictory = was | empty;
-    t
-}
-
 // ---- literals against ranges
 
 fn is_outside(n: Number, r: ValueRange) -> bool
@@ -216,25 +163,18 @@ fn is_crossed(h: Holder, e: Entry) -> bool
     is_outside(n, r)
 }
 
-fn any_crossed(s: ConstraintSet) -> bool
-    ensures { λ q. ⌜ q ≡ anyFrom (crossedAt s) 0 128 ⌝ }
+pub fn cross_check_literals_and_ranges(s: ConstraintSet) -> ConstraintSet
+    ensures { λ q. ⌜ q ≡ crossCheck s ⌝ }
 {
+    let mut bad = false;
     let mut i: usize = 0;
     while i < 128 {
         let h = s.literal_equalities[i];
         let e = s.ranges[i];
-        if is_crossed(h, e) {
-            return true;
-        }
+        let c = is_crossed(h, e);
+        bad = bad | c;
         i += 1;
     }
-    false
-}
-
-pub fn cross_check_literals_and_ranges(s: ConstraintSet) -> ConstraintSet
-    ensures { λ q. ⌜ q ≡ crossCheck s ⌝ }
-{
-    let bad = any_crossed(s);
     let mut t = s;
     let was = t.contradictory;
     t.contradictory = was | bad;
@@ -246,74 +186,74 @@ pub fn cross_check_literals_and_ranges(s: ConstraintSet) -> ConstraintSet
 fn move_non_nulls(s: ConstraintSet) -> ConstraintSet
     ensures { λ q. ⌜ q ≡ nonNullsMoved s ⌝ }
 {
-    let classes = s.equivalence_classes;
     let old = s.non_null_values;
-    let mut flags = [false; 128];
+    let mut t = s;
+    let classes = t.equivalence_classes;
+    let none = [false; 128];
+    t.non_null_values = none;
     let mut i: usize = 0;
     while i < 128 {
         if old[i] {
             let r = classes.canonical(i);
-            flags[r] = true;
+            t.non_null_values[r] = true;
         }
         i += 1;
     }
-    let mut t = s;
-    t.non_null_values = flags;
     t
 }
 
 fn move_literals(s: ConstraintSet) -> ConstraintSet
     ensures { λ q. ⌜ q ≡ literalsMoved s ⌝ }
 {
-    let classes = s.equivalence_classes;
+    let old = s.literal_equalities;
+    let mut t = s;
+    let classes = t.equivalence_classes;
     let none = Holder::empty();
-    let mut literals = [none; 128];
-    let mut flag = s.contradictory;
+    let nothing = [none; 128];
+    t.literal_equalities = nothing;
     let mut i: usize = 0;
     while i < 128 {
-        let h = s.literal_equalities[i];
+        let h = old[i];
         if h.present {
             let l = h.value;
             let r = classes.canonical(i);
-            let was = literals[r];
+            let was = t.literal_equalities[r];
             let clash = literal_clashes(was, l);
             let now = literal_kept(clash, was, l);
-            literals[r] = now;
-            flag = flag | clash;
+            let flag = t.contradictory;
+            t.literal_equalities[r] = now;
+            t.contradictory = flag | clash;
         }
         i += 1;
     }
-    let mut t = s;
-    t.literal_equalities = literals;
-    t.contradictory = flag;
     t
 }
 
 fn move_ranges(s: ConstraintSet) -> ConstraintSet
     ensures { λ q. ⌜ q ≡ rangesMoved s ⌝ }
 {
-    let classes = s.equivalence_classes;
+    let old = s.ranges;
+    let mut t = s;
+    let classes = t.equivalence_classes;
     let none = Entry::empty();
-    let mut ranges = [none; 128];
-    let mut flag = s.contradictory;
+    let nothing = [none; 128];
+    t.ranges = nothing;
     let mut i: usize = 0;
     while i < 128 {
-        let e = s.ranges[i];
+        let e = old[i];
         if e.present {
             let new = e.range;
             let r = classes.canonical(i);
-            let was = ranges[r];
+            let was = t.ranges[r];
             let range = tightened(was, new);
             let empty = range.is_empty();
             let now = entry_of(range);
-            ranges[r] = now;
-            flag = flag | empty;
+            let flag = t.contradictory;
+            t.ranges[r] = now;
+            t.contradictory = flag | empty;
         }
         i += 1;
     }
-    let mut t = s;
-    t.ranges = ranges;
-    t.contradictory = flag;
     t
 }
 
@@ -350,7 +290,9 @@ pub fn add_non_null(s: ConstraintSet, value: usize) -> ConstraintSet
     }
     let classes = s.equivalence_classes;
     let r = classes.canonical(value);
-    put_non_null(s, r)
+    let mut t = s;
+    t.non_null_values[r] = true;
+    t
 }
 
 pub fn add_literal(s: ConstraintSet, value: usize, literal: ScalarValue) -> ConstraintSet
@@ -359,16 +301,21 @@ pub fn add_literal(s: ConstraintSet, value: usize, literal: ScalarValue) -> Cons
     if 128 <= value {
         return s;
     }
+    let mut t = s;
     if scalar::is_null(literal) {
-        let mut t = s;
         t.contradictory = true;
         return t;
     }
-    let classes = s.equivalence_classes;
+    let classes = t.equivalence_classes;
     let r = classes.canonical(value);
-    let a = put_non_null(s, r);
-    let b = put_literal(a, r, literal);
-    cross_check_literals_and_ranges(b)
+    let old = t.literal_equalities[r];
+    let clash = literal_clashes(old, literal);
+    let h = literal_kept(clash, old, literal);
+    let was = t.contradictory;
+    t.non_null_values[r] = true;
+    t.literal_equalities[r] = h;
+    t.contradictory = was | clash;
+    cross_check_literals_and_ranges(t)
 }
 
 fn bounds_by(op: BinaryOp, x: f64) -> ValueRange
@@ -392,15 +339,22 @@ fn add_bound(s: ConstraintSet, value: usize, op: BinaryOp, x: f64) -> Constraint
     if 128 <= value {
         return s;
     }
-    let classes = s.equivalence_classes;
+    let mut t = s;
+    let classes = t.equivalence_classes;
     let r = classes.canonical(value);
-    let a = put_non_null(s, r);
+    let old = t.ranges[r];
     let new = bounds_by(op, x);
+    let range = tightened(old, new);
+    let e = entry_of(range);
+    t.non_null_values[r] = true;
+    t.ranges[r] = e;
     if comparison::is_bounding(op) {
-        let b = put_range(a, r, new);
-        return cross_check_literals_and_ranges(b);
+        let empty = range.is_empty();
+        let was = t.contradictory;
+        t.contradictory = was | empty;
+        return cross_check_literals_and_ranges(t);
     }
-    lay_range(a, r, new)
+    t
 }
 
 pub fn add_range(s: ConstraintSet, value: usize, op: BinaryOp, literal: ScalarValue) -> Ranged
@@ -485,16 +439,10 @@ pub fn add_residual(s: ConstraintSet, predicate: u16) -> Applied
 // ---- two sets
 
 // The first member that is not the representative, 128 where there is none.
-fn second_member(members: Members, r: usize) -> usize
-    requires { ⌜ r < 128 ⌝ }
-    ensures { λ q. ⌜ q ≡ secondOf members r ⌝ }
+fn second_member(first: usize, next: usize, r: usize) -> usize
+    ensures { λ q. ⌜ q ≡ cond (eqb first r) next first ⌝ }
 {
-    let first = members.first[r] as usize;
-    if first == r {
-        members.next[r] as usize
-    } else {
-        first
-    }
+    if first == r { next } else { first }
 }
 
 fn join_class(t: ConstraintSet, r: usize, start: usize, members: Members) -> ConstraintSet
@@ -514,18 +462,16 @@ fn join_class(t: ConstraintSet, r: usize, start: usize, members: Members) -> Con
     q
 }
 
-fn merge_classes(a: ConstraintSet, b: ConstraintSet) -> ConstraintSet
-    ensures { λ q. ⌜ q ≡ mergeClasses a b ⌝ }
+fn merge_classes(t: ConstraintSet, classes: ValueEquivalenceClasses) -> ConstraintSet
+    ensures { λ q. ⌜ q ≡ mergeClasses t classes ⌝ }
 {
-    let classes = b.equivalence_classes;
     let members = classes.members();
-    let mut q = a;
-    let was = q.contradictory;
-    let too = b.contradictory;
-    q.contradictory = was | too;
+    let mut q = t;
     let mut r: usize = 0;
     while r < 128 {
-        let start = second_member(members, r);
+        let first = members.first[r] as usize;
+        let next = members.next[r] as usize;
+        let start = second_member(first, next, r);
         if start < 128 {
             q = join_class(q, r, start, members);
         }
@@ -534,13 +480,13 @@ fn merge_classes(a: ConstraintSet, b: ConstraintSet) -> ConstraintSet
     q
 }
 
-fn merge_literals(t: ConstraintSet, b: ConstraintSet) -> ConstraintSet
-    ensures { λ q. ⌜ q ≡ mergeLiterals t b ⌝ }
+fn merge_literals(t: ConstraintSet, others: [Holder; 128]) -> ConstraintSet
+    ensures { λ q. ⌜ q ≡ mergeLiterals t others ⌝ }
 {
     let mut q = t;
     let mut i: usize = 0;
     while i < 128 {
-        let h = b.literal_equalities[i];
+        let h = others[i];
         if h.present {
             let l = h.value;
             q = add_literal(q, i, l);
@@ -550,56 +496,51 @@ fn merge_literals(t: ConstraintSet, b: ConstraintSet) -> ConstraintSet
     q
 }
 
-fn merge_ranges(t: ConstraintSet, b: ConstraintSet) -> ConstraintSet
-    ensures { λ q. ⌜ q ≡ mergeRanges t b ⌝ }
+fn merge_ranges(t: ConstraintSet, others: [Entry; 128]) -> ConstraintSet
+    ensures { λ q. ⌜ q ≡ mergeRanges t others ⌝ }
 {
-    let classes = t.equivalence_classes;
-    let mut ranges = t.ranges;
+    let mut q = t;
+    let classes = q.equivalence_classes;
     let mut i: usize = 0;
     while i < 128 {
-        let e = b.ranges[i];
+        let e = others[i];
         if e.present {
             let new = e.range;
             let r = classes.canonical(i);
-            let was = ranges[r];
+            let was = q.ranges[r];
             let range = tightened(was, new);
             let now = entry_of(range);
-            ranges[r] = now;
+            q.ranges[r] = now;
         }
         i += 1;
     }
-    let mut q = t;
-    q.ranges = ranges;
     q
 }
 
-fn merge_non_nulls(t: ConstraintSet, b: ConstraintSet) -> ConstraintSet
-    ensures { λ q. ⌜ q ≡ mergeNonNulls t b ⌝ }
+fn merge_non_nulls(t: ConstraintSet, others: [bool; 128]) -> ConstraintSet
+    ensures { λ q. ⌜ q ≡ mergeNonNulls t others ⌝ }
 {
-    let mut flags = t.non_null_values;
+    let mut q = t;
     let mut i: usize = 0;
     while i < 128 {
-        if b.non_null_values[i] {
-            flags[i] = true;
+        if others[i] {
+            q.non_null_values[i] = true;
         }
         i += 1;
     }
-    let mut q = t;
-    q.non_null_values = flags;
     q
 }
 
-fn merge_residuals(t: ConstraintSet, b: ConstraintSet) -> Applied
-    ensures { λ q. ⌜ q ≡ residualsKept t b ⌝ }
+fn merge_residuals(t: ConstraintSet, others: [u16; 64], many: usize) -> Applied
+    ensures { λ q. ⌜ q ≡ residualsKept t others many ⌝ }
 {
-    let all = b.residuals;
-    let n = if all < 64 { all } else { 64 };
+    let n = if many < 64 { many } else { 64 };
     let mut list = t.residual_predicates;
     let mut count = t.residuals;
     let mut refused = false;
     let mut i: usize = 0;
     while i < n {
-        let h = b.residual_predicates[i];
+        let h = others[i];
         let k = push_handle(list, count, h);
         let longer = k.list;
         let no = k.refused;
@@ -621,11 +562,21 @@ fn merge_residuals(t: ConstraintSet, b: ConstraintSet) -> Applied
 pub fn merge_from(a: ConstraintSet, b: ConstraintSet) -> Applied
     ensures { λ q. ⌜ q ≡ mergeFrom a b ⌝ }
 {
-    let t1 = merge_classes(a, b);
-    let t2 = merge_literals(t1, b);
-    let t3 = merge_ranges(t2, b);
-    let t4 = merge_non_nulls(t3, b);
-    let m = merge_residuals(t4, b);
+    let mut t = a;
+    let was = t.contradictory;
+    let too = b.contradictory;
+    t.contradictory = was | too;
+    let classes = b.equivalence_classes;
+    let t1 = merge_classes(t, classes);
+    let literals = b.literal_equalities;
+    let t2 = merge_literals(t1, literals);
+    let ranges = b.ranges;
+    let t3 = merge_ranges(t2, ranges);
+    let flags = b.non_null_values;
+    let t4 = merge_non_nulls(t3, flags);
+    let list = b.residual_predicates;
+    let count = b.residuals;
+    let m = merge_residuals(t4, list, count);
     if m.refused {
         return Applied {
             constraints: a,

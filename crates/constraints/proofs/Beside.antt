@@ -1,10 +1,9 @@
 -- Which operations leave the classes and the residuals as they are. Assumes nothing.
-use mathlib.Core.Path.{_≡_, refl, sym, ap, _∙_}
+use mathlib.Core.Path.{_≡_, refl, ap}
 use mathlib.Core.Bool.{Bool, true, false, cond}
-use mathlib.Core.List.{List}
-use Prim.Native.Nat.{ℕ, _≤_, _<_}
+use Prim.Native.Nat.{ℕ}
 use native.Mathlib.Omega.{arith}
-use lib.Dec.{T, ltb}
+use lib.Dec.{ltb}
 use lib.ListN.{replicate}
 use lib.Ieee.{Float}
 use Rattle.scalar.specs.Kinds.{isNull}
@@ -13,7 +12,7 @@ use Rattle.value_range.specs.declared.ValueRange.{ValueRange}
 use Rattle.value_classes.specs.declared.ValueEquivalenceClasses.{ValueEquivalenceClasses}
 use Rattle.comparison.specs.Operators.{bounding}
 use Rattle.comparison.specs.declared.BinaryOp.{BinaryOp}
-use Rattle.constraints.specs.Sets.{none, noEntry, parentsOf, nonNulls, handles, literalAt, nonNullAt, entryAt, canonicalAt, withFlag, withNonNulls, withLiterals, withRanges, putNonNull, putLiteral, putRange, layRange, crossCheck, stepsTo, moveNonNull, moveLiteral, moveRange, nonNullsMoved, literalsMoved, rangesMoved, normalized, addNonNull, addLiteral, boundsBy, addBound}
+use Rattle.constraints.specs.Sets.{none, noEntry, parentsOf, handles, literalAt, nonNullAt, entryAt, canonicalAt, withFlag, withNonNulls, withLiterals, withRanges, putNonNull, putLiteral, putRange, layRange, crossCheck, moveNonNull, moveLiteral, moveRange, nonNullsMoved, literalsMoved, rangesMoved, normalized, addNonNull, addLiteral, boundsBy, addBound}
 use Rattle.constraints.specs.declared.ConstraintSet.{ConstraintSet}
 use Rattle.constraints.proofs.Steps.{steps-good, pick-has}
 

@@ -1,7 +1,7 @@
 -- A bound says of a value of the literal's kind what the comparison does, and a value that is no NaN is the same as itself. Assumes nothing.
-use mathlib.Core.Path.{_≡_, refl, sym, ap, ap₂, _∙_, subst}
-use mathlib.Core.Bool.{Bool, true, false, not, _&&_, _||_, and-true}
-use Prim.Native.Nat.{ℕ, _≤_, _<_, _^_}
+use mathlib.Core.Path.{_≡_, refl, sym, ap₂, _∙_, subst}
+use mathlib.Core.Bool.{Bool, true, false, not, _||_, and-true}
+use Prim.Native.Nat.{ℕ, _≤_, _^_}
 use native.Mathlib.Decide.{decLt}
 use native.Mathlib.Omega.{arith}
 use lib.Dec.{T, leb, ltb, eqb, leb→le, le→leb, lt→ltb, eqb→eq, eqb-refl}
@@ -10,7 +10,7 @@ use lib.IntN.{ℤ, pos, negsuc}
 use lib.Signed.{ltZ, leZ}
 use lib.Ieee.{Float, nan, inf, fin, binary64, low, lt, eq, fits}
 use lib.Ieee.Fits.{eq→eqb}
-use Rattle.scalar.specs.Exact.{eqZ, finite, exactIn, wholeIn}
+use Rattle.scalar.specs.Exact.{eqZ, exactIn, wholeIn}
 use Rattle.scalar.specs.Kinds.{kindCode, kindOf, isNull, sameKind}
 use Rattle.scalar.specs.Scalars.{pairwise, scalarToF64, sameScalar, lessScalar, Typed, valueOf}
 use Rattle.scalar.specs.declared.Kind.{Kind}

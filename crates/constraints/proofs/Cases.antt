@@ -1,22 +1,18 @@
 -- Worked cases, by computing: what the theorems on rows leave open, and where the Rust's order shows. Assumes nothing.
 use mathlib.Core.Path.{_≡_, refl}
-use mathlib.Core.Bool.{Bool, true, false}
-use mathlib.Core.List.{List, [], _∷_}
+use mathlib.Core.Bool.{true, false}
 use Prim.Native.Nat.{ℕ, zero, suc}
 use lib.IntN.{pos}
-use lib.ListN.{getD}
-use lib.Ieee.{Float, nan, fin, binary64, lt, eq, ofInt, inFloat}
-use Rattle.lists.specs.Ranges.{anyFrom, allFrom}
-use Rattle.scalar.specs.declared.Kind.the-variants as K
+use lib.Ieee.{nan, fin, binary64, lt, eq, ofInt, inFloat}
+use Rattle.lists.specs.Ranges.{anyFrom}
 use Rattle.scalar.specs.declared.ScalarValue.{ScalarValue}
 use Rattle.scalar.specs.declared.ScalarValue.the-variants as S
 use Rattle.value_range.specs.Ranges.{noBound, boundAt, unboundedRange}
 use Rattle.value_classes.specs.Parents.{parentIn, climb, rootOf, joined, each}
 use Rattle.value_classes.specs.Classes.{emptyClasses, unionOf}
 use Rattle.comparison.specs.declared.BinaryOp.the-variants.{Lt, LtEq, Gt, NotEq}
-use Rattle.constraints.specs.Sets.{none, held, entryOf, literalAt, entryAt, nonNullAt, canonicalAt, putNonNull, putLiteral, layRange, putRange, crossCheck, stepsTo, nonNullsMoved, literalsMoved, rangesMoved, normalized, unionValues, addNonNull, addLiteral, addBound, addRange, pushResidual, addResidual, mergeClasses, mergeLiterals, mergeRanges, mergeNonNulls, mergeResiduals, mergedSet, roomTo, mergeRoom, mergeFrom, emptySet}
+use Rattle.constraints.specs.Sets.{held, entryOf, literalAt, entryAt, canonicalAt, putNonNull, putLiteral, layRange, putRange, crossCheck, stepsTo, nonNullsMoved, literalsMoved, rangesMoved, normalized, unionValues, addLiteral, addBound, addRange, pushResidual, addResidual, mergeClasses, mergeLiterals, mergeRanges, mergeNonNulls, mergeResiduals, mergedSet, emptySet}
 use Rattle.constraints.specs.declared.ConstraintSet.{ConstraintSet}
-use Rattle.constraints.specs.declared.Applied.{Applied}
 
 abbrev zeroPos : ScalarValue
 zeroPos = S.Float64 (fin false 0 (pos 0))

@@ -1,13 +1,12 @@
 -- Every row meets the empty set, from which the operations start. Assumes nothing.
-use mathlib.Core.Path.{_≡_, refl, sym, subst}
-use mathlib.Core.Bool.{Bool, true, false, _&&_}
+use mathlib.Core.Path.{_≡_, sym}
+use mathlib.Core.Bool.{Bool, true, false}
 use mathlib.Core.Logic.{inl}
 use Prim.Native.Nat.{ℕ, _<_}
 use native.Mathlib.Omega.{arith}
 use lib.Dec.{T}
 use lib.ListN.{length-replicate}
 use Rattle.scalar.specs.declared.ScalarValue.{ScalarValue}
-use Rattle.value_classes.specs.Parents.{parentsOk}
 use Rattle.value_classes.specs.Classes.{emptyClasses, canonicalOf}
 use Rattle.value_classes.proofs.RootLaws.{own-root, falls-ok}
 use Rattle.value_classes.proofs.Chains.{empty-sound}

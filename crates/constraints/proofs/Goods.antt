@@ -1,6 +1,6 @@
 -- A good set with one field anew is good where the new field is, and asks of a row what the old one did in the other fields. Assumes nothing.
-use mathlib.Core.Path.{_≡_, refl, sym, _∙_, subst}
-use mathlib.Core.Bool.{Bool, true, false, not, _||_}
+use mathlib.Core.Path.{_≡_, sym, subst}
+use mathlib.Core.Bool.{Bool, false, not}
 use mathlib.Core.List.{List}
 use Prim.Native.Nat.{ℕ, _≤_, _<_}
 use lib.Dec.{T}
@@ -8,7 +8,7 @@ use lib.ListN.{length, getD, replicate, getD-replicate}
 use Rattle.scalar.specs.declared.ScalarValue.{ScalarValue}
 use Rattle.value_classes.specs.declared.ValueEquivalenceClasses.{ValueEquivalenceClasses}
 use Rattle.value_classes.proofs.RootLaws.{Falls}
-use Rattle.constraints.specs.Sets.{none, blank, nonNulls, literals, handles, withClasses, withNonNulls, withLiterals, withRanges, withResiduals, withFlag, flagIf}
+use Rattle.constraints.specs.Sets.{none, blank, withClasses, withNonNulls, withLiterals, withRanges, withResiduals, withFlag}
 use Rattle.constraints.specs.Meets.{nullOk, literalOk, entryOk, Each, Core, SoundHolder, SoundEntry, Good}
 use Rattle.constraints.specs.declared.Holder.{Holder}
 use Rattle.constraints.specs.declared.Entry.{Entry}

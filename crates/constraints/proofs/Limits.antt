@@ -1,8 +1,8 @@
 -- Where a set says less than the comparison that it came of, by rows that meet the set. Assumes nothing.
 use mathlib.Core.Path.{_≡_, refl, sym, subst}
-use mathlib.Core.Bool.{Bool, true, false, not}
+use mathlib.Core.Bool.{true, false}
 use mathlib.Core.Logic.{inl}
-use Prim.Native.Nat.{ℕ, _<_, _≤_}
+use Prim.Native.Nat.{ℕ}
 use native.Mathlib.Omega.{arith}
 use lib.Dec.{T}
 use lib.IntN.{ℤ, pos, negsuc}
@@ -11,7 +11,7 @@ use Rattle.scalar.specs.Exact.{exactAt}
 use Rattle.scalar.specs.Scalars.{Typed, scalarToF64}
 use Rattle.scalar.specs.declared.ScalarValue.{ScalarValue}
 use Rattle.scalar.specs.declared.ScalarValue.the-variants as S
-use Rattle.scalar.proofs.NumberLaws.{Converts, converts}
+use Rattle.scalar.proofs.NumberLaws.{converts}
 use Rattle.comparison.specs.declared.BinaryOp.the-variants.{Lt}
 use Rattle.constraints.specs.Values.{same, placeOf, okRange}
 use Rattle.constraints.specs.Sets.{unionValues, addNonNull, addBound, boundsBy, emptySet}

@@ -1,18 +1,17 @@
 -- Normalizing changes nothing for a row of which members of a class have the same value. Assumes nothing.
-use mathlib.Core.Path.{_≡_, refl, sym, ap, _∙_, subst}
-use mathlib.Core.Bool.{Bool, true, false, not, _||_}
-use mathlib.Core.List.{List}
+use mathlib.Core.Path.{refl, sym, subst}
+use mathlib.Core.Bool.{Bool, false, not}
 use mathlib.Core.Logic.{_↔_}
-use Prim.Native.Nat.{ℕ, _≤_, _<_}
+use Prim.Native.Nat.{ℕ, _<_}
 use native.Mathlib.Omega.{arith}
 use lib.Dec.{T}
-use lib.ListN.{length, getD, replicate, length-replicate}
+use lib.ListN.{replicate, length-replicate}
 use Rattle.scalar.specs.Kinds.{isNull}
 use Rattle.scalar.specs.Scalars.{Typed}
 use Rattle.scalar.specs.declared.ScalarValue.{ScalarValue}
 use Rattle.value_classes.proofs.RootLaws.{root-below}
 use Rattle.constraints.specs.Values.{equals, placeOf, okRange}
-use Rattle.constraints.specs.Sets.{none, blank, noEntry, parentsOf, nonNullAt, literalAt, entryAt, canonicalAt, withNonNulls, withLiterals, withRanges, putNonNull, putLiteral, putRange, crossCheck, stepsTo, moveNonNull, moveLiteral, moveRange, nonNullsMoved, literalsMoved, rangesMoved, normalized}
+use Rattle.constraints.specs.Sets.{none, blank, noEntry, parentsOf, nonNullAt, literalAt, entryAt, canonicalAt, withNonNulls, withLiterals, withRanges, putNonNull, putLiteral, putRange, moveNonNull, moveLiteral, moveRange, nonNullsMoved, literalsMoved, rangesMoved, normalized}
 use Rattle.constraints.specs.Meets.{nullOk, literalOk, entryOk, Core, Like, Together, SoundHolder, SoundEntry, Good}
 use Rattle.constraints.specs.declared.Holder.{Holder}
 use Rattle.constraints.specs.declared.Entry.{Entry}
@@ -21,7 +20,7 @@ use Rattle.constraints.proofs.Goods.{nulls-good, literals-good, ranges-
 use Rattle.constraints.proofs.Likes.{like-sym, like-nullOk, like-literalOk, like-entryOk}
 use Rattle.constraints.proofs.Puts.{null-good, literal-good, range-good, check-good, null-iff, literal-iff, range-iff, check-iff}
 use Rattle.constraints.proofs.Steps.{steps-good, steps-iff, pick-iff, pick-has}
-use Rattle.constraints.proofs.Beside.{Beside, beside-self, beside-parents, beside-nulls, beside-literals}
+use Rattle.constraints.proofs.Beside.{beside-self, beside-parents, beside-nulls, beside-literals}
 
 pub canonical-below : (s : ConstraintSet) → Good s → (i : ℕ) → i < 128 → canonicalAt s i < 128
 canonical-below s g i h = root-below (parentsOf s) 128 i (canonicalAt s i) (g .long) refl h

@@ -1,8 +1,8 @@
 -- What each operation asks of a row, exactly. Assumes nothing.
 use mathlib.Core.Path.{_≡_, refl, sym, ap, _∙_, subst}
-use mathlib.Core.Bool.{Bool, true, false, not, _&&_, _||_, cond}
+use mathlib.Core.Bool.{Bool, true, false, not, _||_, cond}
 use mathlib.Core.List.{List}
-use mathlib.Core.Logic.{_↔_, _⊎_, inl, inr, ⊎-elim}
+use mathlib.Core.Logic.{_↔_, inl, inr, ⊎-elim}
 use Prim.Native.Nat.{ℕ, zero, suc, _+_, _≤_, _<_, min}
 use native.Mathlib.Decide.{ℕ-discrete, decLt}
 use native.Mathlib.Omega.{arith}
@@ -11,27 +11,25 @@ use lib.Dec.{T, T-not, eqb, ltb, eqb→eq, ltb→lt}
 use lib.ListN.{length, getD, set, length-set}
 use lib.Seq.{getD-set-same, getD-set-other}
 use lib.Ieee.{Float, binary64, fits}
-use lib.Ieee.Fits.{and-i, and-l, and-r}
+use lib.Ieee.Fits.{and-l, and-r}
 use Rattle.lists.specs.Ranges.{anyFrom}
 use Rattle.scalar.specs.Exact.{finite}
 use Rattle.scalar.specs.Kinds.{isNull}
 use Rattle.scalar.specs.Scalars.{Typed, sameScalar, scalarToF64}
 use Rattle.scalar.specs.declared.ScalarValue.{ScalarValue}
 use Rattle.scalar.specs.declared.Number.the-variants.{Of, Nothing}
-use Rattle.scalar.proofs.NumberLaws.{Converts, converts}
+use Rattle.scalar.proofs.NumberLaws.{converts}
 use Rattle.value_range.specs.declared.ValueRange.{ValueRange}
 use Rattle.value_classes.specs.Parents.{rootOf, joined}
-use Rattle.value_classes.specs.declared.ValueEquivalenceClasses.{ValueEquivalenceClasses}
 use Rattle.value_classes.proofs.RootLaws.{Falls, Met, root-le, root-idempotent, joined-falls, joined-length, joined-exact}
 use Rattle.value_classes.proofs.Unions.{union-same, union-joined}
 use Rattle.comparison.specs.Operators.{bounding}
 use Rattle.comparison.specs.declared.BinaryOp.{BinaryOp}
 use Rattle.comparison.specs.declared.BinaryOp.the-variants.{Eq, NotEq, Lt, LtEq, Gt, GtEq, IsNotDistinctFrom}
-use Rattle.constraints.specs.Values.{same, equals, Place, placeOf, okRange}
+use Rattle.constraints.specs.Values.{equals, Place, placeOf, okRange}
 use Rattle.constraints.specs.Sets.{parentsOf, handles, handleAt, canonicalAt, withClasses, withResiduals, withFlag, putNonNull, putLiteral, putRange, layRange, crossCheck, normalized, unionValues, addNonNull, addLiteral, boundsBy, addBound, rangedBy, addRange, hasHandle, roomFor, pushResidual, done, refusedWith, addResidual}
 use Rattle.constraints.specs.Meets.{Core, Like, Together, Meets, SoundRange, Good}
 use Rattle.constraints.specs.declared.ConstraintSet.{ConstraintSet}
-use Rattle.constraints.specs.declared.Applied.{Applied}
 use Rattle.constraints.proofs.ValueLaws.{or-elim, same-null}
 use Rattle.constraints.proofs.Goods.{classes-good, residuals-good, flag-good}
 use Rattle.constraints.proofs.Likes.{like-sym, like-trans, like-null, like-place, like-equals}

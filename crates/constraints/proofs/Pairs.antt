@@ -1,5 +1,5 @@
 -- What holds of every two scalars of one variant whose test passes holds of every two whose pairwise test passes. Assumes nothing.
-use mathlib.Core.Bool.{Bool, true, false}
+use mathlib.Core.Bool.{Bool, false}
 use lib.Dec.{T}
 use lib.IntN.{ℤ}
 use lib.Ieee.{Float}

@@ -1,11 +1,11 @@
 -- Where a value lies, against ranges: tightening a range by another admits what both admit, an empty range admits nothing, and a literal outside a range is the value of nothing within. Assumes nothing.
 use mathlib.Core.Path.{_≡_, refl, sym, ap, ap₂, _∙_, subst}
-use mathlib.Core.Bool.{Bool, true, false, not, _&&_, _||_, cond, and-assoc, and-true, and-false, or-true, or-false}
+use mathlib.Core.Bool.{Bool, true, false, not, _&&_, _||_, cond, and-true, and-false}
 use Prim.Native.Nat.{ℕ}
 use native.Mathlib.Omega.{arith}
-use lib.Dec.{T, T-not, not-T}
-use lib.IntN.{ℤ, pos, negsuc}
-use lib.Signed.{ltZ, leZ}
+use lib.Dec.{T}
+use lib.IntN.{ℤ, pos}
+use lib.Signed.{ltZ}
 use lib.Ieee.{Float, nan, inf, fin, binary64, lt, eq, fits}
 use lib.Ieee.Bits.{is-true, is-false}
 use lib.Ieee.Fits.{and-i, and-l, and-r}

@@ -18,7 +18,7 @@ use Rattle.scalar.specs.declared.ScalarValue.{ScalarValue}
 use Rattle.value_range.specs.Ranges.{unboundedRange, emptyRange}
 use Rattle.value_range.specs.declared.ValueRange.{ValueRange}
 use Rattle.constraints.specs.Values.{equals, placeOf, Place, okRange}
-use Rattle.constraints.specs.Sets.{none, held, blank, entryOf, nonNulls, literals, nonNullAt, literalAt, entryAt, withNonNulls, withLiterals, withRanges, flagIf, clashes, putNonNull, putLiteral, rangeIn, tightenBy, putRange, layRange, outside, crossed, crossedAt, crossCheck}
+use Rattle.constraints.specs.Sets.{none, held, blank, entryOf, nonNulls, literals, nonNullAt, literalAt, entryAt, withLiterals, clashes, putNonNull, putLiteral, rangeIn, tightenBy, putRange, layRange, outside, crossedAt, crossCheck}
 use Rattle.constraints.specs.Meets.{nullOk, literalOk, entryOk, Each, Core, SoundRange, SoundEntry, SoundHolder, Good}
 use Rattle.constraints.specs.declared.Holder.{Holder}
 use Rattle.constraints.specs.declared.Entry.{Entry}

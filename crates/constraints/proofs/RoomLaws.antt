@@ -14,7 +14,7 @@ use Rattle.lists.specs.Ranges.{anyFrom}
 use Rattle.scalar.specs.declared.ScalarValue.{ScalarValue}
 use Rattle.value_classes.specs.Classes.{unionOf}
 use Rattle.comparison.specs.declared.BinaryOp.{BinaryOp}
-use Rattle.constraints.specs.Sets.{handles, nonNullAt, literalAt, entryAt, handleAt, canonicalAt, withClasses, withResiduals, withFlag, flagIf, putNonNull, layRange, normalized, unionValues, addNonNull, addLiteral, addBound, hasHandle, roomFor, pushResidual, done, refusedWith, addResidual, stepsTo, joinMember, joinClass, mergeLiteral, mergeRange, mergeNonNull, mergeResidual, mergeClasses, mergeLiterals, mergeRanges, mergeNonNulls, mergeResiduals, mergeValues, mergedSet, roomTo, mergeRoom, mergeFrom}
+use Rattle.constraints.specs.Sets.{nonNulls, literals, handles, nonNullAt, literalAt, entryAt, handleAt, canonicalAt, withClasses, withResiduals, withFlag, flagIf, putNonNull, layRange, normalized, unionValues, addNonNull, addLiteral, addBound, hasHandle, roomFor, pushResidual, addResidual, stepsTo, joinMember, joinClass, mergeLiteral, mergeRange, mergeNonNull, mergeResidual, mergeClasses, mergeLiterals, mergeRanges, mergeNonNulls, mergeResiduals, mergeValues, mergedSet, roomTo, mergeRoom, mergeFrom}
 use Rattle.constraints.specs.Meets.{Good}
 use Rattle.constraints.specs.Room.{listed, has, pushed, pushTo}
 use Rattle.constraints.specs.declared.ConstraintSet.{ConstraintSet}
@@ -147,12 +147,12 @@ module _ (b : ConstraintSet) where
   pub same-values : (a : ConstraintSet) → SameList a (mergeValues a b)
   unfolding mergeNonNulls mergeRanges mergeLiterals mergeClasses
   same-values a =
-      steps-good (SameList a) (mergeNonNull b) 128
+      steps-good (SameList a) (mergeNonNull (nonNulls b)) 128
       (λ i h t m. pick-has (SameList a) (nonNullAt b i) (putNonNull t i) t (λ c. same-through a t (putNonNull t i) m (beside-same t (putNonNull t i) (beside-null t t (beside-self t) i))) m) 128 (omega arith) _
-      (steps-good (SameList a) (mergeRange b) 128
+      (steps-good (SameList a) (mergeRange (b .ranges)) 128
       (λ i h t m. pick-has (SameList a) (entryAt b i .present) (layRange t (canonicalAt t i) (entryAt b i .range)) t
       (λ c. same-through a t (layRange t (canonicalAt t i) (entryAt b i .range)) m (beside-same t (layRange t (canonicalAt t i) (entryAt b i .range)) (beside-lay t t (beside-self t) (canonicalAt t i) (entryAt b i .range)))) m) 128 (omega arith) _
-      (steps-good (SameList a) (mergeLiteral b) 128
+      (steps-good (SameList a) (mergeLiteral (literals b)) 128
       (λ i h t m. pick-has (SameList a) (literalAt b i .present) (addLiteral t i (literalAt b i .value)) t (λ c. same-through a t (addLiteral t i (literalAt b i .value)) m (same-addLiteral t i (literalAt b i .value))) m) 128 (omega arith) _
       (steps-good (SameList a) (joinClass (b .«equivalence_classes»)) 128
       (λ r hr t m.
@@ -162,12 +162,12 @@ module _ (b : ConstraintSet) where
 
   module _ (t : ConstraintSet) (g : Good t) (gb : Good b) where
     abbrev after : ℕ → ConstraintSet
-    after k = stepsTo (mergeResidual b) k t
+    after k = stepsTo (mergeResidual (handles b)) k t
 
     abbrev Merged : ℕ → Type 0
     Merged k =
-        ((roomTo t b k ≡ true) × (listed (after k) ≡ pushTo (listed t) (handles b) k) × (length (pushTo (listed t) (handles b) k) ≤ 64))
-        ⊎ ((roomTo t b k ≡ false) × (64 < length (pushTo (listed t) (handles b) k)))
+        ((roomTo t (handles b) k ≡ true) × (listed (after k) ≡ pushTo (listed t) (handles b) k) × (length (pushTo (listed t) (handles b) k) ≤ 64))
+        ⊎ ((roomTo t (handles b) k ≡ false) × (64 < length (pushTo (listed t) (handles b) k)))
 
     merged : (k : ℕ) → Merged k
     unfolding stepsTo roomTo pushTo
@@ -178,13 +178,13 @@ module _ (b : ConstraintSet) where
         h = handleAt b k
 
         u : ConstraintSet
-        u = stepsTo (mergeResidual b) k t
+        u = stepsTo (mergeResidual (handles b)) k t
 
         w : List ℕ
         w = pushTo (listed t) (handles b) k
 
-        next : (x : Bool) → roomFor u h ≡ x → roomTo t b k ≡ true → listed u ≡ w
-            → ((roomTo t b k && roomFor u h ≡ true) × (listed (pushResidual u h) ≡ pushed w h) × (length (pushed w h) ≤ 64)) ⊎ ((roomTo t b k && roomFor u h ≡ false) × (64 < length (pushed w h)))
+        next : (x : Bool) → roomFor u h ≡ x → roomTo t (handles b) k ≡ true → listed u ≡ w
+            → ((roomTo t (handles b) k && roomFor u h ≡ true) × (listed (pushResidual u h) ≡ pushed w h) × (length (pushed w h) ≤ 64)) ⊎ ((roomTo t (handles b) k && roomFor u h ≡ false) × (64 < length (pushed w h)))
         next true e r l =
             let f = residual-steps-good b gb t g k in
             let m = room-noted u (f .few) (f .handlesLong) h (subst T (sym e) tt) in
@@ -221,10 +221,10 @@ module _ (a b : ConstraintSet) (ga : Good a) (gb : Good b) where
       e : pushTo (listed t) (handles b) n ≡ jointList a b
       e = ap₂ (λ (l : List ℕ) (k : ℕ). pushTo l (handles b) k) (same-listed a t (same-values b a)) few
 
-      go : ((roomTo t b n ≡ true) × (listed (stepsTo (mergeResidual b) n t) ≡ pushTo (listed t) (handles b) n) × (length (pushTo (listed t) (handles b) n) ≤ 64))
-          ⊎ ((roomTo t b n ≡ false) × (64 < length (pushTo (listed t) (handles b) n)))
+      go : ((roomTo t (handles b) n ≡ true) × (listed (stepsTo (mergeResidual (handles b)) n t) ≡ pushTo (listed t) (handles b) n) × (length (pushTo (listed t) (handles b) n) ≤ 64))
+          ⊎ ((roomTo t (handles b) n ≡ false) × (64 < length (pushTo (listed t) (handles b) n)))
           → ((mergeRoom a b ≡ true) × (listed (mergedSet a b) ≡ jointList a b) × (length (jointList a b) ≤ 64)) ⊎ ((mergeRoom a b ≡ false) × (64 < length (jointList a b)))
-      go (inl m) = inl (m .0, same-listed (stepsTo (mergeResidual b) n t) (normalized (stepsTo (mergeResidual b) n t)) (same-normalized (stepsTo (mergeResidual b) n t)) ∙ m .1 ∙ e, subst (λ (l : List ℕ). length l ≤ 64) e (m .2))
+      go (inl m) = inl (m .0, same-listed (stepsTo (mergeResidual (handles b)) n t) (normalized (stepsTo (mergeResidual (handles b)) n t)) (same-normalized (stepsTo (mergeResidual (handles b)) n t)) ∙ m .1 ∙ e, subst (λ (l : List ℕ). length l ≤ 64) e (m .2))
       go (inr m) = inr (m .0, subst (λ (l : List ℕ). 64 < length l) e (m .1))
 
   -- two sets merge exactly if the joint list does not pass 64. Assumes good sets

@@ -1,12 +1,12 @@
 -- Being the same value is symmetric and transitive, and the same values lie at the same place. Assumes nothing.
-use mathlib.Core.Path.{_≡_, refl, sym, ap, ap₂, _∙_, subst}
+use mathlib.Core.Path.{_≡_, refl, sym, ap, _∙_, subst}
 use mathlib.Core.Bool.{Bool, true, false, not, _&&_, _||_, Bool·beq}
 use Prim.Native.Nat.{ℕ}
-use lib.Dec.{T, eqb, eqb→eq, eqb-refl}
-use lib.IntN.{ℤ, pos, negsuc}
-use lib.Ieee.{Float, nan, inf, fin, binary64, lt, eq, fits}
+use lib.Dec.{T, eqb, eqb→eq}
+use lib.IntN.{ℤ}
+use lib.Ieee.{Float, nan, inf, fin, binary64, eq, fits}
 use lib.Ieee.Fits.{and-i, and-l, and-r, eq→eqb}
-use Rattle.scalar.specs.Exact.{eqZ, finite, exactIn, wholeIn}
+use Rattle.scalar.specs.Exact.{eqZ}
 use Rattle.scalar.specs.Kinds.{kindCode, sameKind, isNull}
 use Rattle.scalar.specs.Scalars.{sameScalar, Typed}
 use Rattle.scalar.specs.declared.Kind.{Kind}

@@ -1,5 +1,5 @@
 -- A row and the sets that it meets, and the sets that the operations make. Assumes nothing.
-use mathlib.Core.Bool.{Bool, true, false, not, _||_}
+use mathlib.Core.Bool.{Bool, false, not, _||_}
 use mathlib.Core.Logic.{_⊎_}
 use mathlib.Core.Path.{_≡_}
 use mathlib.Core.List.{List}

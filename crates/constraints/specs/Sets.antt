@@ -17,7 +17,7 @@ use Rattle.scalar.specs.declared.Number.the-variants.{Of, Nothing}
 use Rattle.value_range.specs.Ranges.{noBound, boundAt, unboundedRange, tightenLower, tightenUpper, emptyRange}
 use Rattle.value_range.specs.declared.Bound.{Bound}
 use Rattle.value_range.specs.declared.ValueRange.{ValueRange}
-use Rattle.value_classes.specs.Parents.{rootOf, parentsOk}
+use Rattle.value_classes.specs.Parents.{parentsOk}
 use Rattle.value_classes.specs.Classes.{emptyClasses, canonicalOf, unionOf}
 use Rattle.value_classes.specs.declared.ValueEquivalenceClasses.{ValueEquivalenceClasses}
 use Rattle.value_classes.specs.declared.United.{United}
@@ -275,47 +275,48 @@ joinMember c r i t = cond (eqb (canonicalOf c i) r && not (eqb i r)) (unionValue
 abbrev pub joinClass : ValueEquivalenceClasses → ℕ → ConstraintSet → ConstraintSet
 joinClass c r t = stepsTo (joinMember c r) 128 t
 
-abbrev pub mergeLiteral : ConstraintSet → ℕ → ConstraintSet → ConstraintSet
-mergeLiteral b i t = cond (literalAt b i .present) (addLiteral t i (literalAt b i .value)) t
+abbrev pub mergeLiteral : List Holder → ℕ → ConstraintSet → ConstraintSet
+mergeLiteral l i t = cond (getD l i none .present) (addLiteral t i (getD l i none .value)) t
 
-abbrev pub mergeRange : ConstraintSet → ℕ → ConstraintSet → ConstraintSet
-mergeRange b i t = cond (entryAt b i .present) (layRange t (canonicalAt t i) (entryAt b i .range)) t
+abbrev pub mergeRange : List Entry → ℕ → ConstraintSet → ConstraintSet
+mergeRange l i t = cond (getD l i blank .present) (layRange t (canonicalAt t i) (getD l i blank .range)) t
 
-abbrev pub mergeNonNull : ConstraintSet → ℕ → ConstraintSet → ConstraintSet
-mergeNonNull b i t = cond (nonNullAt b i) (putNonNull t i) t
+abbrev pub mergeNonNull : List Bool → ℕ → ConstraintSet → ConstraintSet
+mergeNonNull l i t = cond (getD l i false) (putNonNull t i) t
 
-abbrev pub mergeResidual : ConstraintSet → ℕ → ConstraintSet → ConstraintSet
-mergeResidual b k t = pushResidual t (handleAt b k)
+abbrev pub mergeResidual : List ℕ → ℕ → ConstraintSet → ConstraintSet
+mergeResidual l k t = pushResidual t (getD l k 0)
 
--- the five loops, one after the other
-unfoldable pub mergeClasses : ConstraintSet → ConstraintSet → ConstraintSet
-mergeClasses a b = stepsTo (joinClass (b .«equivalence_classes»)) 128 (flagIf (b .contradictory) a)
+-- the five loops: over the classes, literals, ranges, non-null values and residuals of the other set
+unfoldable pub mergeClasses : ConstraintSet → ValueEquivalenceClasses → ConstraintSet
+mergeClasses t c = stepsTo (joinClass c) 128 t
 
-unfoldable pub mergeLiterals : ConstraintSet → ConstraintSet → ConstraintSet
-mergeLiterals t b = stepsTo (mergeLiteral b) 128 t
+unfoldable pub mergeLiterals : ConstraintSet → List Holder → ConstraintSet
+mergeLiterals t l = stepsTo (mergeLiteral l) 128 t
 
-unfoldable pub mergeRanges : ConstraintSet → ConstraintSet → ConstraintSet
-mergeRanges t b = stepsTo (mergeRange b) 128 t
+unfoldable pub mergeRanges : ConstraintSet → List Entry → ConstraintSet
+mergeRanges t l = stepsTo (mergeRange l) 128 t
 
-unfoldable pub mergeNonNulls : ConstraintSet → ConstraintSet → ConstraintSet
-mergeNonNulls t b = stepsTo (mergeNonNull b) 128 t
+unfoldable pub mergeNonNulls : ConstraintSet → List Bool → ConstraintSet
+mergeNonNulls t l = stepsTo (mergeNonNull l) 128 t
 
-unfoldable pub mergeResiduals : ConstraintSet → ConstraintSet → ConstraintSet
-mergeResiduals t b = stepsTo (mergeResidual b) (min (b .residuals) 64) t
+unfoldable pub mergeResiduals : ConstraintSet → List ℕ → ℕ → ConstraintSet
+mergeResiduals t l n = stepsTo (mergeResidual l) (min n 64) t
 
 abbrev pub mergeValues : ConstraintSet → ConstraintSet → ConstraintSet
-mergeValues a b = mergeNonNulls (mergeRanges (mergeLiterals (mergeClasses a b) b) b) b
+mergeValues a b =
+    mergeNonNulls (mergeRanges (mergeLiterals (mergeClasses (flagIf (b .contradictory) a) (b .«equivalence_classes»)) (literals b)) (b .ranges)) (nonNulls b)
 
 unfoldable pub mergedSet : ConstraintSet → ConstraintSet → ConstraintSet
-mergedSet a b = normalized (mergeResiduals (mergeValues a b) b)
+mergedSet a b = normalized (mergeResiduals (mergeValues a b) (handles b) (b .residuals))
 
--- each of the first k residuals of b finds room in t on the way
-unfoldable pub roomTo : ConstraintSet → ConstraintSet → ℕ → Bool
-roomTo t b zero = true
-roomTo t b (suc k) = roomTo t b k && roomFor (stepsTo (mergeResidual b) k t) (handleAt b k)
+-- each of the first k handles of a list finds room in t on the way
+unfoldable pub roomTo : ConstraintSet → List ℕ → ℕ → Bool
+roomTo t l zero = true
+roomTo t l (suc k) = roomTo t l k && roomFor (stepsTo (mergeResidual l) k t) (getD l k 0)
 
 unfoldable pub mergeRoom : ConstraintSet → ConstraintSet → Bool
-mergeRoom a b = roomTo (mergeValues a b) b (min (b .residuals) 64)
+mergeRoom a b = roomTo (mergeValues a b) (handles b) (min (b .residuals) 64)
 
 -- both sets as one, or, where there is no room for the residuals, the first
 unfoldable pub mergeFrom : ConstraintSet → ConstraintSet → Applied

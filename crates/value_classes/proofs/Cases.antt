@@ -1,13 +1,11 @@
 -- Worked cases, by computing. Assumes nothing.
-use Prim.Native.Nat.{ℕ}
-use mathlib.Core.Bool.{true, false}
+use mathlib.Core.Bool.{false}
 use mathlib.Core.List.{[], _∷_}
 use mathlib.Core.Path.{_≡_, refl}
-use lib.ListN.{getD}
 use Rattle.lists.specs.Ranges.{allFrom}
 use Rattle.value_classes.specs.Parents.{parentIn, climb, rootOf, parentsOk, joined, each}
 use Rattle.value_classes.specs.Classes.{emptyClasses, canonicalOf, unionOf}
-use Rattle.value_classes.specs.Listed.{membersTo, firstFrom, membersOf}
+use Rattle.value_classes.specs.Listed.{membersTo}
 use Rattle.value_classes.specs.declared.ValueEquivalenceClasses.{ValueEquivalenceClasses}
 
 -- 5 with 9, 9 with 3, 100 with 127

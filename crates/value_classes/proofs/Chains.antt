@@ -1,12 +1,12 @@
 -- After any unions from the empty classes, two identities are in one class exactly if the united pairs chain them together. Assumes nothing.
 use Prim.Native.Nat.{ℕ, _≤_, _<_}
-use mathlib.Core.Bool.{Bool, true}
+use mathlib.Core.Bool.{true}
 use mathlib.Core.List.{List, [], _∷_}
-use mathlib.Core.Logic.{_⊎_, inl, inr, _↔_, ⊎-elim}
+use mathlib.Core.Logic.{inl, inr, _↔_, ⊎-elim}
 use mathlib.Core.Path.{_≡_, refl, sym, ap, _∙_}
 use native.Mathlib.Omega.{arith}
 use lib.ListN.{length}
-use Rattle.value_classes.specs.Parents.{rootOf, parentsOk, joined, each}
+use Rattle.value_classes.specs.Parents.{parentsOk}
 use Rattle.value_classes.specs.Classes.{emptyClasses, canonicalOf, unionOf}
 use Rattle.value_classes.specs.declared.ValueEquivalenceClasses.{ValueEquivalenceClasses}
 use Rattle.value_classes.proofs.RootLaws.{Falls, falls-ok, own, own-falls, own-root, length-each, root-le, joined-length, joined-falls, joined-exact, Met}

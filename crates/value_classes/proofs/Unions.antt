@@ -1,7 +1,7 @@
 -- What `unionOf` comes to on each way through the code of `union`, and what a union keeps. Assumes nothing.
 use Prim.Native.Nat.{ℕ, _≤_, _<_, min, max}
-use mathlib.Core.Bool.{Bool, true, false, cond}
-use mathlib.Core.Path.{_≡_, refl, sym, ap, _∙_}
+use mathlib.Core.Bool.{Bool, true, false}
+use mathlib.Core.Path.{_≡_, sym}
 use native.Mathlib.Decide.{ℕ-discrete}
 use native.Mathlib.Omega.{arith}
 use borrow.Author.Tests.{le-ltb, lt-ltb, eq-eqb, ne-eqb}
@@ -10,7 +10,7 @@ use Rattle.value_classes.specs.Parents.{rootOf, joined}
 use Rattle.value_classes.specs.Classes.{unionOf}
 use Rattle.value_classes.specs.declared.ValueEquivalenceClasses.{ValueEquivalenceClasses}
 use Rattle.value_classes.specs.declared.United.{United}
-use Rattle.value_classes.proofs.RootLaws.{Falls, joined-falls, joined-length, joined-same}
+use Rattle.value_classes.proofs.RootLaws.{Falls, joined-same}
 
 abbrev pub united : ValueEquivalenceClasses → Bool → United
 united c j = record { classes = c; joined = j }

@@ -1,10 +1,11 @@
+use Rattle.constraint_set.proofs.Loops.{bound-added, entry-added}
 use Rattle.constraints.specs.Sets.{addBound}
-use mathlib.Core.Path.{_≡_, sym, _∙_}
-use borrow.Author.Tests.{lt-ltb, le-ltb}
+use borrow.Author.Tests.{le-ltb}
 use Rattle.value_classes.proofs.RootLaws.{root-below}
 use lib.ListN.{length}
 use native.Mathlib.Omega.{arith}
-use Prim.Native.Nat.{_<_}
+use Prim.Native.Nat.{_<_, _-_}
+use mathlib.Core.Path.{_≡_, sym, _∙_}
 use borrow.Author.Needs.{needs}
 use Rattle.constraint_set.proofs.add_bound.Statement.{statement}
 use Rattle.constraint_set.proofs.add_bound.Tie as tie
@@ -22,31 +23,44 @@ returns c = rw (le-ltb _ _ (c .if1 .taken))
 canonical-requires : tie.Need-canonical-requires
 canonical-requires c κs = search needs
 
-put-non-null-requires : tie.Need-put-non-null-requires
-put-non-null-requires c κs = small c
+mul-old : tie.Need-mul-old
+mul-old c = omega (arith, small (c))
+
+element-copy-out-old : tie.Need-element-copy-out-old
+element-copy-out-old c = small (c)
 
 bounds-by-requires : tie.Need-bounds-by-requires
 bounds-by-requires c κs = search needs
 
+tightened-requires : tie.Need-tightened-requires
+tightened-requires c κs = search needs
+
+entry-of-requires : tie.Need-entry-of-requires
+entry-of-requires c κs = search needs
+
+element-write-t : tie.Need-element-write-t
+element-write-t c = small (c .before .before .before .before)
+
+mul-e : tie.Need-mul-e
+mul-e c = omega (arith, small (c .before .before .before .before))
+
+element-set-from-e : tie.Need-element-set-from-e
+element-set-from-e c = small (c .before .before .before .before)
+
 is-bounding-requires : tie.Need-is-bounding-requires
 is-bounding-requires c κs = search needs
 
-put-range-requires : tie.Need-put-range-requires
-put-range-requires c κs = small (c .before .before .before .before)
+is-empty-requires : tie.Need-is-empty-requires
+is-empty-requires c κs = search needs
 
 cross-check-literals-and-ranges-requires : tie.Need-cross-check-literals-and-ranges-requires
 cross-check-literals-and-ranges-requires c κs = search needs
 
 returns-2 : tie.Need-returns-2
-unfolding addBound
-returns-2 c = rw (lt-ltb _ _ (c .before .before .before .before .before .before .before .before .if1 .left), sym (c .before .before .before .is-bounding .ensures) ∙ c .before .before .if2 .taken, c .cross-check-literals-and-ranges .ensures, c .before .put-range .ensures, c .before .before .before .before .bounds-by .ensures, c .before .before .before .before .before .put-non-null .ensures, c .before .before .before .before .before .before .canonical .ensures)
-
-lay-range-requires : tie.Need-lay-range-requires
-lay-range-requires c κs = small (c .before .before .before .before)
+returns-2 c = bound-added (c .before .before .before .before .before .before .before .before .before .before .before .args .s) (c .before .before .before .before .before .before .before .before .before .before .before .args .value) (c .before .before .before .before .before .before .before .before .before .before .if1 .left) _ (c .before .before .before .before .before .before .before .before .canonical .ensures) (c .before .before .before .before .before .before .before .before .before .before .before .args .op) (c .before .before .before .before .before .before .before .before .before .before .before .args .x) _ _ _ _ _ (sym (c .before .before .before .is-bounding .ensures) ∙ c .before .before .if2 .taken) (c .before .before .before .before .before .before .bounds-by .ensures) (c .before .before .before .before .before .tightened .ensures) (c .before .before .before .before .entry-of .ensures) (c .before .is-empty .ensures) (c .cross-check-literals-and-ranges .ensures)
 
 returns-3 : tie.Need-returns-3
-unfolding addBound
-returns-3 c = rw (lt-ltb _ _ (c .before .before .before .before .before .before .before .if1 .left), sym (c .before .before .is-bounding .ensures) ∙ c .before .if2 .left, c .lay-range .ensures, c .before .before .before .bounds-by .ensures, c .before .before .before .before .put-non-null .ensures, c .before .before .before .before .before .canonical .ensures)
+returns-3 c = entry-added (c .before .before .before .before .before .before .before .before .before .args .s) (c .before .before .before .before .before .before .before .before .before .args .value) (c .before .before .before .before .before .before .before .before .if1 .left) _ (c .before .before .before .before .before .before .canonical .ensures) (c .before .before .before .before .before .before .before .before .before .args .op) (c .before .before .before .before .before .before .before .before .before .args .x) _ _ _ (sym (c .before .is-bounding .ensures) ∙ c .if2 .left) (c .before .before .before .before .bounds-by .ensures) (c .before .before .before .tightened .ensures) (c .before .before .entry-of .ensures)
 
 pub add-bound-spec : {M : Type 1} → statement M
 add-bound-spec =
@@ -54,11 +68,16 @@ add-bound-spec =
     (tie.spec
     returns
     canonical-requires
-    put-non-null-requires
+    mul-old
+    element-copy-out-old
     bounds-by-requires
+    tightened-requires
+    entry-of-requires
+    element-write-t
+    mul-e
+    element-set-from-e
     is-bounding-requires
-    put-range-requires
+    is-empty-requires
     cross-check-literals-and-ranges-requires
     returns-2
-    lay-range-requires
     returns-3)

@@ -1,10 +1,11 @@
+use Rattle.constraint_set.proofs.Loops.{literal-added}
 use Rattle.constraints.specs.Sets.{addLiteral}
-use mathlib.Core.Path.{_≡_, sym, _∙_}
 use borrow.Author.Tests.{lt-ltb, le-ltb}
 use Rattle.value_classes.proofs.RootLaws.{root-below}
 use lib.ListN.{length}
 use native.Mathlib.Omega.{arith}
-use Prim.Native.Nat.{_<_}
+use Prim.Native.Nat.{_<_, _-_}
+use mathlib.Core.Path.{_≡_, sym, _∙_}
 use borrow.Author.Needs.{needs}
 use Rattle.constraint_set.proofs.add_literal.Statement.{statement}
 use Rattle.constraint_set.proofs.add_literal.Tie as tie
@@ -29,18 +30,32 @@ returns-2 c = rw (lt-ltb _ _ (c .before .before .if1 .left), sym (c .before .is-
 canonical-requires : tie.Need-canonical-requires
 canonical-requires c κs = search needs
 
-put-non-null-requires : tie.Need-put-non-null-requires
-put-non-null-requires c κs = small c
+mul-old : tie.Need-mul-old
+mul-old c = omega (arith, small (c))
 
-put-literal-requires : tie.Need-put-literal-requires
-put-literal-requires c κs = small (c .before)
+element-copy-out-old : tie.Need-element-copy-out-old
+element-copy-out-old c = small (c)
+
+literal-clashes-requires : tie.Need-literal-clashes-requires
+literal-clashes-requires c κs = search needs
+
+literal-kept-requires : tie.Need-literal-kept-requires
+literal-kept-requires c κs = search needs
+
+element-write-t : tie.Need-element-write-t
+element-write-t c = small (c .before .before .before)
+
+mul-h : tie.Need-mul-h
+mul-h c = omega (arith, small (c .before .before .before))
+
+element-set-from-h : tie.Need-element-set-from-h
+element-set-from-h c = small (c .before .before .before)
 
 cross-check-literals-and-ranges-requires : tie.Need-cross-check-literals-and-ranges-requires
 cross-check-literals-and-ranges-requires c κs = search needs
 
 returns-3 : tie.Need-returns-3
-unfolding addLiteral
-returns-3 c = rw (lt-ltb _ _ (c .before .before .before .before .before .before .before .if1 .left), sym (c .before .before .before .before .before .before .is-null .ensures) ∙ c .before .before .before .before .before .if2 .left, c .cross-check-literals-and-ranges .ensures, c .before .put-literal .ensures, c .before .before .put-non-null .ensures, c .before .before .before .canonical .ensures)
+returns-3 c = literal-added (c .before .before .before .before .before .before .before .before .before .args .s) (c .before .before .before .before .before .before .before .before .before .args .value) (c .before .before .before .before .before .before .before .before .if1 .left) _ (c .before .before .before .before .canonical .ensures) (c .before .before .before .before .before .before .before .before .before .args .literal) _ _ _ (sym (c .before .before .before .before .before .before .before .is-null .ensures) ∙ c .before .before .before .before .before .before .if2 .left) (c .before .before .literal-clashes .ensures) (c .before .literal-kept .ensures) (c .cross-check-literals-and-ranges .ensures)
 
 pub add-literal-spec : {M : Type 1} → statement M
 add-literal-spec =
@@ -50,7 +65,12 @@ add-literal-spec =
     is-null-requires
     returns-2
     canonical-requires
-    put-non-null-requires
-    put-literal-requires
+    mul-old
+    element-copy-out-old
+    literal-clashes-requires
+    literal-kept-requires
+    element-write-t
+    mul-h
+    element-set-from-h
     cross-check-literals-and-ranges-requires
     returns-3)

@@ -9,10 +9,10 @@ use Rattle.constraint_set.proofs.merge_literals.Statement.{statement}
 use Rattle.constraint_set.proofs.merge_literals.Tie as tie
 
 abbrev Inv-loop : tie.InvT-loop
-Inv-loop b q₀ i₀ q i = (i ≤ 128) × (q ≡ stepsTo (mergeLiteral b) i q₀)
+Inv-loop others q₀ i₀ q i = (i ≤ 128) × (q ≡ stepsTo (mergeLiteral others) i q₀)
 
 abbrev μ-loop : tie.MeasureT-loop
-μ-loop b q₀ i₀ q i = 128 - i
+μ-loop others q₀ i₀ q i = 128 - i
 
 loop-holds : tie.Need-loop-holds Inv-loop μ-loop
 unfolding stepsTo
@@ -21,8 +21,8 @@ loop-holds c = (omega arith, refl)
 mul-h : tie.Need-mul-h Inv-loop μ-loop
 mul-h c = search needs
 
-element-copy-out-h : tie.Need-element-copy-out-h Inv-loop μ-loop
-element-copy-out-h c = search needs
+array-copy-out-h : tie.Need-array-copy-out-h Inv-loop μ-loop
+array-copy-out-h c = search needs
 
 add-literal-requires : tie.Need-add-literal-requires Inv-loop μ-loop
 add-literal-requires c κs = search needs
@@ -37,8 +37,8 @@ loop-again : tie.Need-loop-again Inv-loop μ-loop
 loop-again c =
     let v = c .before .before .before .loop .inv in
     ⊎-elim
-    (λ w. (omega arith, rw (w .2) (steps-next (mergeLiteral (c .before .before .before .before .args .t2)) _ (c .before .before .before .loop .i) (c .before .before .before .loop .q) _ (v .1) (literal-laid (c .before .before .before .before .args .t2) (c .before .before .before .loop .i) (c .before .before .before .loop .q) _ (w .0 .taken) (w .1 .ensures)))))
-    (λ w. (omega arith, rw (w .1) (steps-next (mergeLiteral (c .before .before .before .before .args .t2)) _ (c .before .before .before .loop .i) (c .before .before .before .loop .q) _ (v .1) (literal-left (c .before .before .before .before .args .t2) (c .before .before .before .loop .i) (c .before .before .before .loop .q) (w .0 .left)))))
+    (λ w. (omega arith, rw (w .2) (steps-next (mergeLiteral (c .before .before .before .before .args .t2)) _ (c .before .before .before .loop .i) (c .before .before .before .loop .q) _ (v .1) (literal-laid (c .before .before .before .loop .i) (c .before .before .before .loop .q) (c .before .before .before .before .args .t2) _ (w .0 .taken) (w .1 .ensures)))))
+    (λ w. (omega arith, rw (w .1) (steps-next (mergeLiteral (c .before .before .before .before .args .t2)) _ (c .before .before .before .loop .i) (c .before .before .before .loop .q) _ (v .1) (literal-left (c .before .before .before .loop .i) (c .before .before .before .loop .q) (c .before .before .before .before .args .t2) (w .0 .left)))))
     (c .if1 .came)
 
 returns : tie.Need-returns Inv-loop μ-loop
@@ -53,7 +53,7 @@ merge-literals-spec =
     μ-loop
     loop-holds
     mul-h
-    element-copy-out-h
+    array-copy-out-h
     add-literal-requires
     add-i
     loop-less

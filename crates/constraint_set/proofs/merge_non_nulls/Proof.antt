@@ -1,6 +1,6 @@
 use borrow.Author.Needs.{needs}
 use Rattle.constraint_set.proofs.Loops.{steps-next, null-laid, null-left}
-use Rattle.constraints.specs.Sets.{withNonNulls, stepsTo, mergeNonNull, mergeNonNulls}
+use Rattle.constraints.specs.Sets.{stepsTo, mergeNonNull, mergeNonNulls}
 use mathlib.Core.Logic.{⊎-elim}
 use native.Mathlib.Omega.{arith}
 use Prim.Native.Nat.{_≤_, _-_}
@@ -9,20 +9,20 @@ use Rattle.constraint_set.proofs.merge_non_nulls.Statement.{statement}
 use Rattle.constraint_set.proofs.merge_non_nulls.Tie as tie
 
 abbrev Inv-loop : tie.InvT-loop
-Inv-loop t b flags₀ i₀ flags i = (i ≤ 128) × (withNonNulls t flags ≡ stepsTo (mergeNonNull b) i t)
+Inv-loop others q₀ i₀ q i = (i ≤ 128) × (q ≡ stepsTo (mergeNonNull others) i q₀)
 
 abbrev μ-loop : tie.MeasureT-loop
-μ-loop t b flags₀ i₀ flags i = 128 - i
+μ-loop others q₀ i₀ q i = 128 - i
 
 loop-holds : tie.Need-loop-holds Inv-loop μ-loop
 unfolding stepsTo
 loop-holds c = (omega arith, refl)
 
-element-copy-out-if1 : tie.Need-element-copy-out-if1 Inv-loop μ-loop
-element-copy-out-if1 c = search needs
+array-read-if1 : tie.Need-array-read-if1 Inv-loop μ-loop
+array-read-if1 c = search needs
 
-array-write-flags : tie.Need-array-write-flags Inv-loop μ-loop
-array-write-flags c = search needs
+element-write-q : tie.Need-element-write-q Inv-loop μ-loop
+element-write-q c = search needs
 
 add-i : tie.Need-add-i Inv-loop μ-loop
 add-i c = search needs
@@ -32,10 +32,10 @@ loop-less c = search needs
 
 loop-again : tie.Need-loop-again Inv-loop μ-loop
 loop-again c =
-    let v = c .before .before .before .loop .inv in
+    let v = c .before .before .loop .inv in
     ⊎-elim
-    (λ w. (omega arith, rw (w .1) (steps-next (mergeNonNull (c .before .before .before .before .before .args .t2)) _ (c .before .before .before .loop .i) _ _ (v .1) (null-laid (c .before .before .before .before .before .args .t) (c .before .before .before .loop .i) (c .before .before .before .before .before .args .t2) (c .before .before .before .loop .flags) (w .0 .taken)))))
-    (λ w. (omega arith, rw (w .1) (steps-next (mergeNonNull (c .before .before .before .before .before .args .t2)) _ (c .before .before .before .loop .i) _ _ (v .1) (null-left (c .before .before .before .before .before .args .t) (c .before .before .before .loop .i) (c .before .before .before .before .before .args .t2) (c .before .before .before .loop .flags) (w .0 .left)))))
+    (λ w. (omega arith, rw (w .1) (steps-next (mergeNonNull (c .before .before .before .args .t2)) _ (c .before .before .loop .i) (c .before .before .loop .q) _ (v .1) (null-laid (c .before .before .loop .i) (c .before .before .loop .q) (c .before .before .before .args .t2) (w .0 .taken)))))
+    (λ w. (omega arith, rw (w .1) (steps-next (mergeNonNull (c .before .before .before .args .t2)) _ (c .before .before .loop .i) (c .before .before .loop .q) _ (v .1) (null-left (c .before .before .loop .i) (c .before .before .loop .q) (c .before .before .before .args .t2) (w .0 .left)))))
     (c .if1 .came)
 
 returns : tie.Need-returns Inv-loop μ-loop
@@ -49,8 +49,8 @@ merge-non-nulls-spec =
     Inv-loop
     μ-loop
     loop-holds
-    element-copy-out-if1
-    array-write-flags
+    array-read-if1
+    element-write-q
     add-i
     loop-less
     loop-again

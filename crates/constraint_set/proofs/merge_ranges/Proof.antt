@@ -1,38 +1,38 @@
-use Rattle.constraints.specs.Sets.{entryOf}
+use borrow.Author.Needs.{needs}
 use Rattle.constraint_set.proofs.Loops.{steps-next, range-laid, range-left}
+use Rattle.constraints.specs.Sets.{stepsTo, mergeRange, mergeRanges}
+use Rattle.value_classes.specs.declared.ValueEquivalenceClasses.{ValueEquivalenceClasses}
+use Rattle.value_classes.specs.Parents.{rootOf}
 use Rattle.value_classes.proofs.RootLaws.{root-below}
 use lib.ListN.{length}
 use mathlib.Core.Logic.{⊎-elim}
-use Prim.Native.Nat.{_<_}
-use borrow.Author.Needs.{needs}
-use Rattle.constraints.specs.Sets.{withRanges, stepsTo, mergeRange, mergeRanges}
 use native.Mathlib.Omega.{arith}
-use mathlib.Core.Path.{_≡_, refl, ap, _∙_}
-use Prim.Native.Nat.{_≤_, _-_}
+use Prim.Native.Nat.{_≤_, _<_, _-_}
+use mathlib.Core.Path.{_≡_, refl, sym, ap, _∙_}
 use Rattle.constraint_set.proofs.merge_ranges.Statement.{statement}
 use Rattle.constraint_set.proofs.merge_ranges.Tie as tie
 
 abbrev Inv-loop : tie.InvT-loop
-Inv-loop t b classes ranges₀ i₀ ranges i = (i ≤ 128) × (withRanges t ranges ≡ stepsTo (mergeRange b) i t)
+Inv-loop others q₀ classes i₀ q i = (i ≤ 128) × (q ≡ stepsTo (mergeRange others) i q₀) × (q .«equivalence_classes» ≡ classes)
 
 abbrev μ-loop : tie.MeasureT-loop
-μ-loop t b classes ranges₀ i₀ ranges i = 128 - i
+μ-loop others q₀ classes i₀ q i = 128 - i
 
 long : (c : tie.Start Inv-loop μ-loop) → length (c .args .t .«equivalence_classes» .parents) ≡ 128
 long c = search needs
 
 small : (c : tie.After-canonical Inv-loop μ-loop) → c .canonical .result < 128
-small c = root-below _ 128 _ _ (long (c .before .before .before .before .before .before .before .before)) (c .canonical .ensures) (omega arith)
+small c = root-below _ 128 _ _ (long (c .before .before .before .before .before .before .before)) (c .canonical .ensures) (omega arith)
 
 loop-holds : tie.Need-loop-holds Inv-loop μ-loop
 unfolding stepsTo
-loop-holds c = (omega arith, refl)
+loop-holds c = (omega arith, refl, refl)
 
 mul-e : tie.Need-mul-e Inv-loop μ-loop
 mul-e c = search needs
 
-element-copy-out-e : tie.Need-element-copy-out-e Inv-loop μ-loop
-element-copy-out-e c = search needs
+array-copy-out-e : tie.Need-array-copy-out-e Inv-loop μ-loop
+array-copy-out-e c = search needs
 
 canonical-requires : tie.Need-canonical-requires Inv-loop μ-loop
 canonical-requires c κs = search needs
@@ -40,8 +40,8 @@ canonical-requires c κs = search needs
 mul-was : tie.Need-mul-was Inv-loop μ-loop
 mul-was c = omega (arith, small c)
 
-array-copy-out-was : tie.Need-array-copy-out-was Inv-loop μ-loop
-array-copy-out-was c = small c
+element-copy-out-was : tie.Need-element-copy-out-was Inv-loop μ-loop
+element-copy-out-was c = small c
 
 tightened-requires : tie.Need-tightened-requires Inv-loop μ-loop
 tightened-requires c κs = search needs
@@ -49,11 +49,11 @@ tightened-requires c κs = search needs
 entry-of-requires : tie.Need-entry-of-requires Inv-loop μ-loop
 entry-of-requires c κs = search needs
 
-mul-ranges : tie.Need-mul-ranges Inv-loop μ-loop
-mul-ranges c = omega (arith, small (c .before .before .before))
+mul-now : tie.Need-mul-now Inv-loop μ-loop
+mul-now c = omega (arith, small (c .before .before .before))
 
-array-set-from-ranges : tie.Need-array-set-from-ranges Inv-loop μ-loop
-array-set-from-ranges c = small (c .before .before .before)
+element-set-from-now : tie.Need-element-set-from-now Inv-loop μ-loop
+element-set-from-now c = small (c .before .before .before)
 
 add-i : tie.Need-add-i Inv-loop μ-loop
 add-i c = search needs
@@ -64,12 +64,14 @@ loop-less c = search needs
 loop-again : tie.Need-loop-again Inv-loop μ-loop
 loop-again c =
     let v = c .before .before .before .loop .inv in
+    let at = ap (λ (k : ValueEquivalenceClasses). rootOf (k .parents) (c .before .before .before .loop .i)) (sym (v .2)) in
     ⊎-elim
     (λ w. (
       omega arith,
-      rw (w .6) (steps-next (mergeRange (c .before .before .before .before .before .before .args .t2)) _ (c .before .before .before .loop .i) _ _ (v .1) (range-laid (c .before .before .before .before .before .before .args .t) (c .before .before .before .loop .i) (c .before .before .before .before .before .before .args .t2) (c .before .before .before .loop .ranges) _ _ (w .0 .taken) (w .2 .ensures) (w .5 .ensures ∙ ap entryOf (w .4 .ensures)))),
+      rw (w .6) (steps-next (mergeRange (c .before .before .before .before .before .args .t2)) _ (c .before .before .before .loop .i) (c .before .before .before .loop .q) _ (v .1) (range-laid (c .before .before .before .loop .i) (c .before .before .before .loop .q) (c .before .before .before .before .before .args .t2) _ _ _ (w .0 .taken) (w .2 .ensures ∙ at) (w .4 .ensures) (w .5 .ensures))),
+      rw (w .6) (v .2),
     ))
-    (λ w. (omega arith, rw (w .1) (steps-next (mergeRange (c .before .before .before .before .before .before .args .t2)) _ (c .before .before .before .loop .i) _ _ (v .1) (range-left (c .before .before .before .before .before .before .args .t) (c .before .before .before .loop .i) (c .before .before .before .before .before .before .args .t2) (c .before .before .before .loop .ranges) (w .0 .left)))))
+    (λ w. (omega arith, rw (w .1) (steps-next (mergeRange (c .before .before .before .before .before .args .t2)) _ (c .before .before .before .loop .i) (c .before .before .before .loop .q) _ (v .1) (range-left (c .before .before .before .loop .i) (c .before .before .before .loop .q) (c .before .before .before .before .before .args .t2) (w .0 .left))), rw (w .1) (v .2)))
     (c .if1 .came)
 
 returns : tie.Need-returns Inv-loop μ-loop
@@ -84,14 +86,14 @@ merge-ranges-spec =
     μ-loop
     loop-holds
     mul-e
-    element-copy-out-e
+    array-copy-out-e
     canonical-requires
     mul-was
-    array-copy-out-was
+    element-copy-out-was
     tightened-requires
     entry-of-requires
-    mul-ranges
-    array-set-from-ranges
+    mul-now
+    element-set-from-now
     add-i
     loop-less
     loop-again

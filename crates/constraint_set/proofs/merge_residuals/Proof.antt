@@ -11,10 +11,10 @@ use Rattle.constraint_set.proofs.merge_residuals.Statement.{statement}
 use Rattle.constraint_set.proofs.merge_residuals.Tie as tie
 
 abbrev Inv-loop : tie.InvT-loop
-Inv-loop t b all n list₀ count₀ refused₀ i₀ list count refused i = (i ≤ n) × (n ≡ min all 64) × (withResiduals t list count ≡ stepsTo (mergeResidual b) i t) × (refused ≡ not (roomTo t b i))
+Inv-loop t many others n list₀ count₀ refused₀ i₀ list count refused i = (i ≤ n) × (n ≡ min many 64) × (withResiduals t list count ≡ stepsTo (mergeResidual others) i t) × (refused ≡ not (roomTo t others i))
 
 abbrev μ-loop : tie.MeasureT-loop
-μ-loop t b all n list₀ count₀ refused₀ i₀ list count refused i = n - i
+μ-loop t many others n list₀ count₀ refused₀ i₀ list count refused i = n - i
 
 loop-holds : tie.Need-loop-holds Inv-loop μ-loop
 unfolding stepsTo roomTo
@@ -23,8 +23,8 @@ loop-holds c = (omega arith, ⊎-elim (λ w. omega arith) (λ w. omega arith) (c
 mul-h : tie.Need-mul-h Inv-loop μ-loop
 mul-h c = search needs
 
-element-copy-out-h : tie.Need-element-copy-out-h Inv-loop μ-loop
-element-copy-out-h c = search needs
+array-read-h : tie.Need-array-read-h Inv-loop μ-loop
+array-read-h c = search needs
 
 push-handle-requires : tie.Need-push-handle-requires Inv-loop μ-loop
 push-handle-requires c κs = search needs
@@ -37,18 +37,18 @@ loop-less c = search needs
 
 loop-again : tie.Need-loop-again Inv-loop μ-loop
 loop-again c =
-    let v = c .before .before .before .before .loop .inv in (
+    let v = c .before .before .before .loop .inv in (
       omega arith,
       v .1,
-      handle-pushed (c .before .before .before .before .before .before .before .args .t) (c .before .before .before .before .before .before .before .args .t2) (c .before .before .before .before .loop .i) (c .before .before .before .before .loop .list) (c .before .before .before .before .loop .count) (c .before .before .before .before .loop .refused) (c .before .push-handle .result) (v .2) (v .3) (c .before .push-handle .ensures),
-      handle-refused (c .before .before .before .before .before .before .before .args .t) (c .before .before .before .before .before .before .before .args .t2) (c .before .before .before .before .loop .i) (c .before .before .before .before .loop .list) (c .before .before .before .before .loop .count) (c .before .before .before .before .loop .refused) (c .before .push-handle .result) (v .2) (v .3) (c .before .push-handle .ensures),
+      handle-pushed (c .before .before .before .before .before .before .args .t) (c .before .before .before .before .before .before .args .t2) (c .before .before .before .loop .i) (c .before .before .before .loop .list) (c .before .before .before .loop .count) (c .before .before .before .loop .refused) (c .before .push-handle .result) (v .2) (v .3) (c .before .push-handle .ensures),
+      handle-refused (c .before .before .before .before .before .before .args .t) (c .before .before .before .before .before .before .args .t2) (c .before .before .before .loop .i) (c .before .before .before .loop .list) (c .before .before .before .loop .count) (c .before .before .before .loop .refused) (c .before .push-handle .result) (v .2) (v .3) (c .before .push-handle .ensures),
     )
 
 returns : tie.Need-returns Inv-loop μ-loop
 unfolding residualsKept mergeResiduals
 returns c =
     let v = c .before .loop .inv in
-    let e : c .before .loop .i ≡ min (c .before .before .before .before .args .t2 .residuals) 64 = omega arith in
+    let e : c .before .loop .i ≡ min (c .before .before .before .before .args .many) 64 = omega arith in
     λ k. record { constraints = (rw e at (v .2)) k; refused = (rw e at (v .3)) k }
 
 pub merge-residuals-spec : {M : Type 1} → statement M
@@ -59,7 +59,7 @@ merge-residuals-spec =
     μ-loop
     loop-holds
     mul-h
-    element-copy-out-h
+    array-read-h
     push-handle-requires
     add-i
     loop-less

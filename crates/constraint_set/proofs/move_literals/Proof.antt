@@ -1,28 +1,26 @@
-use Rattle.constraint_set.proofs.Loops.{literal-moved, literal-idle, literals-done}
+use borrow.Author.Needs.{needs}
+use Rattle.constraint_set.proofs.Loops.{literalsAfter, literal-moved, literal-idle, literals-done}
+use Rattle.constraints.specs.Sets.{withLiterals, stepsTo}
 use Rattle.value_classes.proofs.RootLaws.{root-below}
 use lib.ListN.{length}
-use Prim.Native.Nat.{_<_}
 use mathlib.Core.Logic.{⊎-elim}
-use Rattle.constraint_set.proofs.Loops.{literalsAfter}
-use borrow.Author.Needs.{needs}
-use Rattle.constraints.specs.Sets.{withFlag, withLiterals, stepsTo}
 use native.Mathlib.Omega.{arith}
+use Prim.Native.Nat.{_≤_, _<_, _-_}
 use mathlib.Core.Path.{_≡_, _∙_}
-use Prim.Native.Nat.{_≤_, _-_}
 use Rattle.constraint_set.proofs.move_literals.Statement.{statement}
 use Rattle.constraint_set.proofs.move_literals.Tie as tie
 
 abbrev Inv-loop : tie.InvT-loop
-Inv-loop s classes literals₀ flag₀ i₀ literals flag i = (i ≤ 128) × (withFlag (withLiterals s literals) flag ≡ literalsAfter s i)
+Inv-loop old t₀ classes i₀ t i = (i ≤ 128) × (t ≡ literalsAfter (withLiterals t₀ old) i)
 
 abbrev μ-loop : tie.MeasureT-loop
-μ-loop s classes literals₀ flag₀ i₀ literals flag i = 128 - i
+μ-loop old t₀ classes i₀ t i = 128 - i
 
-long : (c : tie.Start Inv-loop μ-loop) → length (c .args .t1 .«equivalence_classes» .parents) ≡ 128
+long : (c : tie.Start Inv-loop μ-loop) → length (c .args .s .«equivalence_classes» .parents) ≡ 128
 long c = search needs
 
 small : (c : tie.After-canonical Inv-loop μ-loop) → c .canonical .result < 128
-small c = root-below _ 128 _ _ (long (c .before .before .before .before .before .before .before)) (c .canonical .ensures) (omega arith)
+small c = root-below _ 128 _ _ (long (c .before .before .before .before .before .before .before .before)) (c .canonical .ensures) (omega arith)
 
 empty-requires : tie.Need-empty-requires Inv-loop μ-loop
 empty-requires c κs = search needs
@@ -34,8 +32,8 @@ loop-holds c = (omega arith, rw (c .empty .ensures))
 mul-h : tie.Need-mul-h Inv-loop μ-loop
 mul-h c = search needs
 
-element-copy-out-h : tie.Need-element-copy-out-h Inv-loop μ-loop
-element-copy-out-h c = search needs
+array-copy-out-h : tie.Need-array-copy-out-h Inv-loop μ-loop
+array-copy-out-h c = search needs
 
 canonical-requires : tie.Need-canonical-requires Inv-loop μ-loop
 canonical-requires c κs = search needs
@@ -43,8 +41,8 @@ canonical-requires c κs = search needs
 mul-was : tie.Need-mul-was Inv-loop μ-loop
 mul-was c = omega (arith, small c)
 
-array-copy-out-was : tie.Need-array-copy-out-was Inv-loop μ-loop
-array-copy-out-was c = small c
+element-copy-out-was : tie.Need-element-copy-out-was Inv-loop μ-loop
+element-copy-out-was c = small c
 
 literal-clashes-requires : tie.Need-literal-clashes-requires Inv-loop μ-loop
 literal-clashes-requires c κs = search needs
@@ -52,11 +50,11 @@ literal-clashes-requires c κs = search needs
 literal-kept-requires : tie.Need-literal-kept-requires Inv-loop μ-loop
 literal-kept-requires c κs = search needs
 
-mul-literals : tie.Need-mul-literals Inv-loop μ-loop
-mul-literals c = omega (arith, small (c .before .before .before))
+mul-now : tie.Need-mul-now Inv-loop μ-loop
+mul-now c = omega (arith, small (c .before .before .before))
 
-array-set-from-literals : tie.Need-array-set-from-literals Inv-loop μ-loop
-array-set-from-literals c = small (c .before .before .before)
+element-set-from-now : tie.Need-element-set-from-now Inv-loop μ-loop
+element-set-from-now c = small (c .before .before .before)
 
 add-i : tie.Need-add-i Inv-loop μ-loop
 add-i c = search needs
@@ -68,15 +66,12 @@ loop-again : tie.Need-loop-again Inv-loop μ-loop
 loop-again c =
     let v = c .before .before .before .loop .inv in
     ⊎-elim
-    (λ w. (
-      omega arith,
-      rw (w .5, w .6) (literal-moved (c .before .before .before .before .before .before .args .t1) (c .before .before .before .loop .i) (c .before .before .before .loop .literals) (c .before .before .before .loop .flag) _ _ _ (v .1) (w .0 .taken) (w .1 .ensures) (w .3 .ensures) (w .4 .ensures)),
-    ))
-    (λ w. (omega arith, rw (w .1, w .2) (literal-idle (c .before .before .before .before .before .before .args .t1) (c .before .before .before .loop .i) _ (v .1) (w .0 .left))))
+    (λ w. (omega arith, rw (w .5) (literal-moved (c .before .before .before .before .before .before .before .args .s) (c .before .before .before .loop .i) (c .before .before .before .loop .t) _ _ _ (v .1) (w .0 .taken) (w .1 .ensures) (w .3 .ensures) (w .4 .ensures))))
+    (λ w. (omega arith, rw (w .1) (literal-idle (c .before .before .before .before .before .before .before .args .s) (c .before .before .before .loop .i) (c .before .before .before .loop .t) (v .1) (w .0 .left))))
     (c .if1 .came)
 
 returns : tie.Need-returns Inv-loop μ-loop
-returns c = c .before .loop .inv .1 ∙ literals-done (c .before .before .before .before .args .t1) (c .before .loop .i) (omega arith)
+returns c = c .before .loop .inv .1 ∙ literals-done (c .before .before .before .before .before .args .s) (c .before .loop .i) (omega arith)
 
 pub move-literals-spec : {M : Type 1} → statement M
 move-literals-spec =
@@ -87,14 +82,14 @@ move-literals-spec =
     empty-requires
     loop-holds
     mul-h
-    element-copy-out-h
+    array-copy-out-h
     canonical-requires
     mul-was
-    array-copy-out-was
+    element-copy-out-was
     literal-clashes-requires
     literal-kept-requires
-    mul-literals
-    array-set-from-literals
+    mul-now
+    element-set-from-now
     add-i
     loop-less
     loop-again

@@ -1,22 +1,20 @@
-use Rattle.constraint_set.proofs.Loops.{null-moved, null-idle, nulls-done}
+use borrow.Author.Needs.{needs}
+use Rattle.constraint_set.proofs.Loops.{nullsAfter, null-moved, null-idle, nulls-done}
+use Rattle.constraints.specs.Sets.{withNonNulls, stepsTo}
 use Rattle.value_classes.proofs.RootLaws.{root-below}
 use lib.ListN.{length}
-use Prim.Native.Nat.{_<_}
 use mathlib.Core.Logic.{⊎-elim}
-use Rattle.constraint_set.proofs.Loops.{nullsAfter}
-use borrow.Author.Needs.{needs}
-use Rattle.constraints.specs.Sets.{withNonNulls, stepsTo}
 use native.Mathlib.Omega.{arith}
+use Prim.Native.Nat.{_≤_, _<_, _-_}
 use mathlib.Core.Path.{_≡_, refl, _∙_}
-use Prim.Native.Nat.{_≤_, _-_}
 use Rattle.constraint_set.proofs.move_non_nulls.Statement.{statement}
 use Rattle.constraint_set.proofs.move_non_nulls.Tie as tie
 
 abbrev Inv-loop : tie.InvT-loop
-Inv-loop s classes old flags₀ i₀ flags i = (i ≤ 128) × (withNonNulls s flags ≡ nullsAfter s i)
+Inv-loop old t₀ classes i₀ t i = (i ≤ 128) × (t ≡ nullsAfter (withNonNulls t₀ old) i)
 
 abbrev μ-loop : tie.MeasureT-loop
-μ-loop s classes old flags₀ i₀ flags i = 128 - i
+μ-loop old t₀ classes i₀ t i = 128 - i
 
 long : (c : tie.Start Inv-loop μ-loop) → length (c .args .s .«equivalence_classes» .parents) ≡ 128
 long c = search needs
@@ -34,8 +32,8 @@ array-read-if1 c = search needs
 canonical-requires : tie.Need-canonical-requires Inv-loop μ-loop
 canonical-requires c κs = search needs
 
-array-write-flags : tie.Need-array-write-flags Inv-loop μ-loop
-array-write-flags c = small c
+element-write-t : tie.Need-element-write-t Inv-loop μ-loop
+element-write-t c = small c
 
 add-i : tie.Need-add-i Inv-loop μ-loop
 add-i c = search needs
@@ -47,8 +45,8 @@ loop-again : tie.Need-loop-again Inv-loop μ-loop
 loop-again c =
     let v = c .before .before .loop .inv in
     ⊎-elim
-    (λ w. (omega arith, rw (w .2) (null-moved (c .before .before .before .before .before .args .s) (c .before .before .loop .i) (c .before .before .loop .flags) _ (v .1) (w .0 .taken) (w .1 .ensures))))
-    (λ w. (omega arith, rw (w .1) (null-idle (c .before .before .before .before .before .args .s) (c .before .before .loop .i) _ (v .1) (w .0 .left))))
+    (λ w. (omega arith, rw (w .2) (null-moved (c .before .before .before .before .before .args .s) (c .before .before .loop .i) (c .before .before .loop .t) _ (v .1) (w .0 .taken) (w .1 .ensures))))
+    (λ w. (omega arith, rw (w .1) (null-idle (c .before .before .before .before .before .args .s) (c .before .before .loop .i) (c .before .before .loop .t) (v .1) (w .0 .left))))
     (c .if1 .came)
 
 returns : tie.Need-returns Inv-loop μ-loop
@@ -63,7 +61,7 @@ move-non-nulls-spec =
     loop-holds
     array-read-if1
     canonical-requires
-    array-write-flags
+    element-write-t
     add-i
     loop-less
     loop-again

@@ -1,28 +1,26 @@
-use Rattle.constraint_set.proofs.Loops.{range-moved, range-idle, ranges-done}
+use borrow.Author.Needs.{needs}
+use Rattle.constraint_set.proofs.Loops.{rangesAfter, range-moved, range-idle, ranges-done}
+use Rattle.constraints.specs.Sets.{withRanges, stepsTo}
 use Rattle.value_classes.proofs.RootLaws.{root-below}
 use lib.ListN.{length}
-use Prim.Native.Nat.{_<_}
 use mathlib.Core.Logic.{⊎-elim}
-use Rattle.constraint_set.proofs.Loops.{rangesAfter}
-use borrow.Author.Needs.{needs}
-use Rattle.constraints.specs.Sets.{withFlag, withRanges, stepsTo}
 use native.Mathlib.Omega.{arith}
+use Prim.Native.Nat.{_≤_, _<_, _-_}
 use mathlib.Core.Path.{_≡_, _∙_}
-use Prim.Native.Nat.{_≤_, _-_}
 use Rattle.constraint_set.proofs.move_ranges.Statement.{statement}
 use Rattle.constraint_set.proofs.move_ranges.Tie as tie
 
 abbrev Inv-loop : tie.InvT-loop
-Inv-loop s classes ranges₀ flag₀ i₀ ranges flag i = (i ≤ 128) × (withFlag (withRanges s ranges) flag ≡ rangesAfter s i)
+Inv-loop old t₀ classes i₀ t i = (i ≤ 128) × (t ≡ rangesAfter (withRanges t₀ old) i)
 
 abbrev μ-loop : tie.MeasureT-loop
-μ-loop s classes ranges₀ flag₀ i₀ ranges flag i = 128 - i
+μ-loop old t₀ classes i₀ t i = 128 - i
 
-long : (c : tie.Start Inv-loop μ-loop) → length (c .args .t1 .«equivalence_classes» .parents) ≡ 128
+long : (c : tie.Start Inv-loop μ-loop) → length (c .args .s .«equivalence_classes» .parents) ≡ 128
 long c = search needs
 
 small : (c : tie.After-canonical Inv-loop μ-loop) → c .canonical .result < 128
-small c = root-below _ 128 _ _ (long (c .before .before .before .before .before .before .before .before)) (c .canonical .ensures) (omega arith)
+small c = root-below _ 128 _ _ (long (c .before .before .before .before .before .before .before .before .before)) (c .canonical .ensures) (omega arith)
 
 empty-requires : tie.Need-empty-requires Inv-loop μ-loop
 empty-requires c κs = search needs
@@ -34,8 +32,8 @@ loop-holds c = (omega arith, rw (c .empty .ensures))
 mul-e : tie.Need-mul-e Inv-loop μ-loop
 mul-e c = search needs
 
-element-copy-out-e : tie.Need-element-copy-out-e Inv-loop μ-loop
-element-copy-out-e c = search needs
+array-copy-out-e : tie.Need-array-copy-out-e Inv-loop μ-loop
+array-copy-out-e c = search needs
 
 canonical-requires : tie.Need-canonical-requires Inv-loop μ-loop
 canonical-requires c κs = search needs
@@ -43,8 +41,8 @@ canonical-requires c κs = search needs
 mul-was : tie.Need-mul-was Inv-loop μ-loop
 mul-was c = omega (arith, small c)
 
-array-copy-out-was : tie.Need-array-copy-out-was Inv-loop μ-loop
-array-copy-out-was c = small c
+element-copy-out-was : tie.Need-element-copy-out-was Inv-loop μ-loop
+element-copy-out-was c = small c
 
 tightened-requires : tie.Need-tightened-requires Inv-loop μ-loop
 tightened-requires c κs = search needs
@@ -55,11 +53,11 @@ is-empty-requires c κs = search needs
 entry-of-requires : tie.Need-entry-of-requires Inv-loop μ-loop
 entry-of-requires c κs = search needs
 
-mul-ranges : tie.Need-mul-ranges Inv-loop μ-loop
-mul-ranges c = omega (arith, small (c .before .before .before .before))
+mul-now : tie.Need-mul-now Inv-loop μ-loop
+mul-now c = omega (arith, small (c .before .before .before .before))
 
-array-set-from-ranges : tie.Need-array-set-from-ranges Inv-loop μ-loop
-array-set-from-ranges c = small (c .before .before .before .before)
+element-set-from-now : tie.Need-element-set-from-now Inv-loop μ-loop
+element-set-from-now c = small (c .before .before .before .before)
 
 add-i : tie.Need-add-i Inv-loop μ-loop
 add-i c = search needs
@@ -71,15 +69,12 @@ loop-again : tie.Need-loop-again Inv-loop μ-loop
 loop-again c =
     let v = c .before .before .before .loop .inv in
     ⊎-elim
-    (λ w. (
-      omega arith,
-      rw (w .7, w .8) (range-moved (c .before .before .before .before .before .before .args .t1) (c .before .before .before .loop .i) (c .before .before .before .loop .ranges) (c .before .before .before .loop .flag) _ _ _ _ (v .1) (w .0 .taken) (w .2 .ensures) (w .4 .ensures) (w .5 .ensures) (w .6 .ensures)),
-    ))
-    (λ w. (omega arith, rw (w .1, w .2) (range-idle (c .before .before .before .before .before .before .args .t1) (c .before .before .before .loop .i) _ (v .1) (w .0 .left))))
+    (λ w. (omega arith, rw (w .7) (range-moved (c .before .before .before .before .before .before .before .args .s) (c .before .before .before .loop .i) (c .before .before .before .loop .t) _ _ _ _ (v .1) (w .0 .taken) (w .2 .ensures) (w .4 .ensures) (w .5 .ensures) (w .6 .ensures))))
+    (λ w. (omega arith, rw (w .1) (range-idle (c .before .before .before .before .before .before .before .args .s) (c .before .before .before .loop .i) (c .before .before .before .loop .t) (v .1) (w .0 .left))))
     (c .if1 .came)
 
 returns : tie.Need-returns Inv-loop μ-loop
-returns c = c .before .loop .inv .1 ∙ ranges-done (c .before .before .before .before .args .t1) (c .before .loop .i) (omega arith)
+returns c = c .before .loop .inv .1 ∙ ranges-done (c .before .before .before .before .before .args .s) (c .before .loop .i) (omega arith)
 
 pub move-ranges-spec : {M : Type 1} → statement M
 move-ranges-spec =
@@ -90,15 +85,15 @@ move-ranges-spec =
     empty-requires
     loop-holds
     mul-e
-    element-copy-out-e
+    array-copy-out-e
     canonical-requires
     mul-was
-    array-copy-out-was
+    element-copy-out-was
     tightened-requires
     is-empty-requires
     entry-of-requires
-    mul-ranges
-    array-set-from-ranges
+    mul-now
+    element-set-from-now
     add-i
     loop-less
     loop-again
