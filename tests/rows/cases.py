@@ -200,4 +200,5 @@ def main():
     open(answers, "w").write("".join(a + "\n" for a in c.answers))
 
 
-main()
+if __name__ == "__main__":
+    main()
