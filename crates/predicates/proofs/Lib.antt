@@ -1,1 +1,15 @@
 pub mod Cases
+pub mod Members
+pub mod Readings
+pub mod Conjunctions
+pub mod Comparisons
+pub mod Applying
+pub mod PlanNodes
+pub mod Predicates
+pub mod Answers
+pub mod Plain
+pub mod Merging
+pub mod Examples
+pub mod Evaluations
+pub mod Between
+pub mod Refusals

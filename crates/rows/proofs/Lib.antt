@@ -1,3 +1,4 @@
+pub mod Tables
 pub mod PartLaws
 pub mod InOrderLaws
 pub mod ValueLaws

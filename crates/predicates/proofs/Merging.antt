@@ -16,14 +16,14 @@ use Rattle.constraints.proofs.Merge.{merged-good, merge-iff}
 use Rattle.constraints.proofs.Operations.{no-row}
 use Rattle.plan.specs.declared.Plan.{Plan}
 use Rattle.plan_rules.specs.Rules.{planOk}
 use Rattle.predicates.specs.Facts.{refusalOf, withConstraints, factsOk}
 use Rattle.predicates.specs.Entries.{answered, refused, accepted, override, overridden, inputsMerged, mergeInputs}
 use Rattle.predicates.specs.declared.LogicalFacts.{LogicalFacts}
 use Rattle.predicates.specs.declared.Outcome.{Outcome}
 use Rattle.predicates.specs.declared.Outcome.the-variants.{Accepted, Residuals, NoSuch}
 use Rattle.plan.specs.declared.Expr.{Expr}
-use Rattle.meaning.specs.Meaning.{WholeRow, Consistent, On, MeetsFacts, Wide, GoodFacts, freshFacts, AcceptedAll, AllOn}
-use Rattle.meaning.proofs.Answers.{Reached, ExactAll, all-reached, sequence-sound, sequence-exact}
+use Rattle.predicates.specs.Meaning.{WholeRow, Consistent, On, MeetsFacts, Wide, GoodFacts, freshFacts, AcceptedAll, AllOn}
+use Rattle.predicates.proofs.Answers.{Reached, ExactAll, all-reached, sequence-sound, sequence-exact}
 
 other-outcome : {X : Type 0} (o : Outcome) → (refusalOf o ≡ 0 → ⊥) → o ≡ Accepted → X
 other-outcome o f e = absurd (f (ap refusalOf e))

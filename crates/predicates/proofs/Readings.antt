@@ -8,10 +8,10 @@ use Rattle.scalar.specs.declared.ScalarValue.{ScalarValue}
 use Rattle.scalar.specs.declared.ScalarValue.the-variants as S
 use Rattle.plan_data.specs.Nodes.{operandsOf}
 use Rattle.plan_data.specs.declared.ExprData.{ExprData}
 use Rattle.predicates.specs.Conjuncts.{conjunctsBy, conjunctsTo, conjunctsOf}
 use Rattle.rows.specs.InOrder.{inOrder}
 use Rattle.rows.specs.Values.{nodeValue, valueIn, values, valueAt}
-use Rattle.meaning.proofs.Tables.{table-last, table-at, table-past}
+use Rattle.rows.proofs.Tables.{table-last, table-at, table-past}
 
 module _ (cell : ℕ → ScalarValue) (node : ℕ → ExprData) (items : List ℕ) where
   abbrev nextValue : ℕ → ScalarValue

@@ -20,15 +20,15 @@ use Rattle.plan.specs.declared.Plan.{Plan}
 use Rattle.plan.specs.declared.Expr.{Expr}
 use Rattle.plan_rules.specs.Rules.{planOk, countsWithin}
 use Rattle.plan_rules.proofs.RuleLaws.{rules}
 use Rattle.predicates.specs.Facts.{refusalOf, withConstraints, hasLineage, identityOf, lineageOk, definitionOk, factsOk}
 use Rattle.predicates.specs.Entries.{answered, refused, accepted, predicateApplied, applyPredicate}
 use Rattle.predicates.specs.declared.LogicalFacts.{LogicalFacts}
 use Rattle.predicates.specs.declared.Outcome.{Outcome}
 use Rattle.predicates.specs.declared.Outcome.the-variants.{Accepted, Residuals, NoSuch}
-use Rattle.meaning.specs.Meaning.{WholeRow, Consistent, On, MeetsFacts, AllOf, Wide, GoodFacts, freshFacts, AcceptedAll, AllOn}
-use Rattle.meaning.specs.Conditions.{ExactPredicate}
-use Rattle.meaning.proofs.Applying.{Within}
-use Rattle.meaning.proofs.Predicates.{predicate-good, predicate-sound, predicate-back, predicate-exact}
+use Rattle.predicates.specs.Meaning.{WholeRow, Consistent, On, MeetsFacts, AllOf, Wide, GoodFacts, freshFacts, AcceptedAll, AllOn}
+use Rattle.predicates.specs.Conditions.{ExactPredicate}
+use Rattle.predicates.proofs.Applying.{Within}
+use Rattle.predicates.proofs.Predicates.{predicate-good, predicate-sound, predicate-back, predicate-exact}
 
 -- ---- what an accepted answer was made of
 other-outcome : {X : Type 0} (o : Outcome) → (refusalOf o ≡ 0 → ⊥) → o ≡ Accepted → X

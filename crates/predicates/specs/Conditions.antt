@@ -16,13 +16,13 @@ use Rattle.plan.specs.declared.Plan.{Plan}
 use Rattle.plan_data.specs.Nodes.{nodeAt}
 use Rattle.plan_data.specs.declared.ExprData.{ExprData}
 use Rattle.plan_data.specs.declared.ExprData.the-variants.{Literal, ColumnRef, Unary, Binary, Nary}
 use Rattle.predicates.specs.Facts.{hasLineage, identityOf}
 use Rattle.predicates.specs.Conjuncts.{conjunctsOf}
 use Rattle.predicates.specs.Apply.{seenOf}
 use Rattle.predicates.specs.declared.Seen.{Seen}
 use Rattle.predicates.specs.declared.Seen.the-variants.{Identity, Constant, Unseen}
 use Rattle.rows.specs.Typing.{kindAt}
-use Rattle.meaning.specs.Meaning.{AllOf}
+use Rattle.predicates.specs.Meaning.{AllOf}
 
 -- ---- of one row: no NaN is compared with itself, and a value that is bounded by a literal is NULL or of the literal's kind
 abbrev pub OneKind : ScalarValue → BinaryOp → ScalarValue → Type 0

@@ -18,13 +18,13 @@ use Rattle.plan_data.specs.Nodes.{operandsOf}
 use Rattle.plan_data.specs.declared.NaryOp.the-variants as N
 use Rattle.plan_data.specs.declared.ExprData.{ExprData}
 use Rattle.plan_data.specs.declared.ExprData.the-variants.{Literal, ColumnRef, Unary, Binary, Nary}
 use Rattle.predicates.specs.Conjuncts.{joinedOf, conjunctsBy, conjunctsTo, conjunctsOf}
 use Rattle.rows.specs.Compare.{truthOf, ofTruth}
 use Rattle.rows.specs.Values.{truths, nodeValue, valueIn, values}
-use Rattle.meaning.specs.Meaning.{WholeRow, OnNodes, AllOf}
-use Rattle.meaning.proofs.Tables.{before-all}
-use Rattle.meaning.proofs.Members.{all-append, all-left, all-right, all-map}
-use Rattle.meaning.proofs.Readings.{value-here, value-before, value-past, conjuncts-here, conjuncts-before, conjuncts-past}
+use Rattle.predicates.specs.Meaning.{WholeRow, OnNodes, AllOf}
+use Rattle.rows.proofs.Tables.{before-all}
+use Rattle.predicates.proofs.Members.{all-append, all-left, all-right, all-map}
+use Rattle.predicates.proofs.Readings.{value-here, value-before, value-past, conjuncts-here, conjuncts-before, conjuncts-past}
 
 -- the operands of a node stand before h
 abbrev pub OperandsBelow : List ℕ → ℕ → ExprData → Type 0

@@ -27,18 +27,18 @@ use Rattle.plan.specs.declared.Plan.{Plan}
 use Rattle.plan.specs.declared.Expr.{Expr}
 use Rattle.plan_rules.specs.Rules.{recordOk, itemOk, listsOk, exprOkOf, operatorOkOf, scansOf, countsWithin, planOk}
 use Rattle.plan_data.specs.Nodes.{exprData, nodeAt}
 use Rattle.predicates.specs.Facts.{hasLineage, lineageOk, definitionOk, factsOk}
 use Rattle.predicates.specs.Conjuncts.{joinedOf, conjunctsTo}
 use Rattle.predicates.specs.Apply.{comparisonApplied, conjunctApplied, allApplied}
 use Rattle.predicates.specs.Entries.{predicateApplied, applyPredicate}
 use Rattle.predicates.specs.declared.LogicalFacts.{LogicalFacts}
 use Rattle.predicates.specs.declared.Outcome.the-variants.{Accepted}
 use Rattle.rows.specs.Compare.{compareOf, truthOf}
 use Rattle.rows.specs.InOrder.{inOrder}
 use Rattle.rows.specs.Values.{values, valueAt}
-use Rattle.meaning.specs.Meaning.{WholeRow, On, MeetsFacts, Wide, freshFacts, AllOn}
-use Rattle.meaning.specs.Conditions.{OneKinded, OneKindPlan}
-use Rattle.meaning.proofs.Plain.{sequence-whole}
+use Rattle.predicates.specs.Meaning.{WholeRow, On, MeetsFacts, Wide, freshFacts, AllOn}
+use Rattle.predicates.specs.Conditions.{OneKinded, OneKindPlan}
+use Rattle.predicates.proofs.Plain.{sequence-whole}
 
 -- one column; the expressions are it, an Int32 literal, and a comparison of the column with the expression b
 abbrev planOf : ℕ → ℕ → ℕ → ℕ → Plan

@@ -15,15 +15,15 @@ use Rattle.constraints.proofs.Operations.{no-row}
 use Rattle.plan.specs.declared.Plan.{Plan}
 use Rattle.plan_rules.specs.Rules.{planOk}
 use Rattle.plan_data.specs.Nodes.{nodeAt}
 use Rattle.predicates.specs.Conjuncts.{conjunctsOf}
 use Rattle.predicates.specs.Apply.{conjunctApplied}
 use Rattle.predicates.specs.Entries.{predicateApplied}
-use Rattle.meaning.specs.Meaning.{WholeRow, Consistent, On, AllOf, Wide}
-use Rattle.meaning.specs.Conditions.{ExactNode, ExactPredicate}
-use Rattle.meaning.proofs.Members.{all-map}
-use Rattle.meaning.proofs.Conjunctions.{OperandsBelow, conjuncts-within, conjuncts-iff}
-use Rattle.meaning.proofs.Applying.{Within, Step, conjunct-step, run-step}
-use Rattle.meaning.proofs.PlanNodes.{plan-below, plan-typed}
+use Rattle.predicates.specs.Meaning.{WholeRow, Consistent, On, AllOf, Wide}
+use Rattle.predicates.specs.Conditions.{ExactNode, ExactPredicate}
+use Rattle.predicates.proofs.Members.{all-map}
+use Rattle.predicates.proofs.Conjunctions.{OperandsBelow, conjuncts-within, conjuncts-iff}
+use Rattle.predicates.proofs.Applying.{Within, Step, conjunct-step, run-step}
+use Rattle.predicates.proofs.PlanNodes.{plan-below, plan-typed}
 
 -- a predicate is TRUE of a row exactly where each of its conjuncts is. Assumes a plan that keeps the rules
 pub predicate-conjuncts : (p : Plan) → planOk p ≡ true → (row : WholeRow) (e : ℕ) → e < p .expressions .count → On p row e ↔ AllOf (On p row) (conjunctsOf (nodeAt p) (p .items .a) e)

@@ -20,19 +20,19 @@ use Rattle.plan.specs.declared.Plan.{Plan}
 use Rattle.plan.specs.declared.Expr.{Expr}
 use Rattle.plan_rules.specs.Rules.{recordOk, itemOk, listsOk, exprOkOf, operatorOkOf, scansOf, countsWithin, planOk}
 use Rattle.plan_data.specs.Nodes.{exprData}
 use Rattle.predicates.specs.Facts.{lineageOk, definitionOk, factsOk}
 use Rattle.predicates.specs.Conjuncts.{joinedOf, conjunctsTo}
 use Rattle.predicates.specs.Apply.{comparisonApplied, conjunctApplied, allApplied}
 use Rattle.predicates.specs.Entries.{predicateApplied, applyPredicate}
 use Rattle.predicates.specs.declared.LogicalFacts.{LogicalFacts}
 use Rattle.predicates.specs.declared.Outcome.the-variants.{Accepted}
 use Rattle.rows.specs.Compare.{compareOf}
 use Rattle.rows.specs.InOrder.{inOrder}
 use Rattle.rows.specs.Values.{values}
-use Rattle.meaning.specs.Meaning.{AllOn}
-use Rattle.meaning.proofs.Conjunctions.{truth-back}
-use Rattle.meaning.proofs.Comparisons.{compared-of}
-use Rattle.meaning.proofs.Examples.{fresh, everywhere}
+use Rattle.predicates.specs.Meaning.{AllOn}
+use Rattle.predicates.proofs.Conjunctions.{truth-back}
+use Rattle.predicates.proofs.Comparisons.{compared-of}
+use Rattle.predicates.proofs.Examples.{fresh, everywhere}
 
 abbrev plan : Plan
 plan = record {

@@ -32,17 +32,17 @@ use Rattle.constraints.proofs.Operations.{union-good, union-iff, nonnull-good, 
 use Rattle.plan_data.specs.Nodes.{operandsOf}
 use Rattle.plan_data.specs.declared.ExprData.{ExprData}
 use Rattle.plan_data.specs.declared.ExprData.the-variants.{Literal, ColumnRef, Unary, Binary, Nary}
 use Rattle.predicates.specs.Facts.{hasLineage, identityOf}
 use Rattle.predicates.specs.Apply.{seenOf, isNullLiteral, pairApplied, rangeApplied, boundApplied, boundReversed, operandsApplied, comparisonApplied, literalApplied, nodeApplied, conjunctApplied, allApplied}
 use Rattle.predicates.specs.declared.Seen.{Seen}
 use Rattle.predicates.specs.declared.Seen.the-variants.{Identity, Constant, Unseen}
 use Rattle.rows.specs.Compare.{compareOf, truthOf}
 use Rattle.rows.specs.Values.{nodeValue, valueIn, values, valueAt}
-use Rattle.meaning.specs.Meaning.{WholeRow, Consistent, OnNodes, AllOf}
-use Rattle.meaning.specs.Conditions.{OneKind, ExactSeen, ExactNode}
-use Rattle.meaning.proofs.Readings.{value-here, value-before}
-use Rattle.meaning.proofs.Conjunctions.{OperandsBelow, truth-back}
-use Rattle.meaning.proofs.Comparisons.{compared-of, of-compared, null-left, null-right, eq-iff, distinct-iff, turned, turned-back, bounding-ordinary, tests-bound}
+use Rattle.predicates.specs.Meaning.{WholeRow, Consistent, OnNodes, AllOf}
+use Rattle.predicates.specs.Conditions.{OneKind, ExactSeen, ExactNode}
+use Rattle.predicates.proofs.Readings.{value-here, value-before}
+use Rattle.predicates.proofs.Conjunctions.{OperandsBelow, truth-back}
+use Rattle.predicates.proofs.Comparisons.{compared-of, of-compared, null-left, null-right, eq-iff, distinct-iff, turned, turned-back, bounding-ordinary, tests-bound}
 
 -- a literal holds a value of its type
 abbrev pub TypedNode : ExprData → Type 0

@@ -5,7 +5,7 @@ use Prim.Native.Nat.{ℕ, zero, suc, _+_, _<_}
 use native.Mathlib.Omega.{arith}
 use lib.ListN.{getD, take, drop}
 use lib.Seq.{getD-drop}
-use Rattle.meaning.specs.Meaning.{AllOf}
+use Rattle.predicates.specs.Meaning.{AllOf}
 
 module _ {A : Type 0} (P : A → Type 0) where
   -- of two lists one after the other, and back

@@ -15,7 +15,7 @@ use Rattle.rows.specs.Evaluate.{valueOn, typed, evaluateOf, refusalOf, valueFou
 use Rattle.rows.specs.declared.Row.{Row}
 use Rattle.rows.specs.declared.Evaluation.{Evaluation}
 use Rattle.rows.specs.declared.Evaluation.the-variants.{Value, NoSuch, Untyped, BadRow}
-use Rattle.meaning.specs.Meaning.{On}
+use Rattle.predicates.specs.Meaning.{On}
 
 -- an evaluated predicate is TRUE of a row exactly where the evaluator answers TRUE. Assumes nothing
 pub evaluated-on : (p : Plan) (e : Expr) (row : Row) (ids : ℕ → ScalarValue) (v : ScalarValue) → evaluateOf p e row ≡ Value v

@@ -19,10 +19,10 @@ use Rattle.plan_rules.specs.Rules.{recordOk, itemOk, listsOk, exprOkOf, planOk}
 use Rattle.plan_rules.proofs.RuleLaws.{rules}
 use Rattle.plan_data.specs.Nodes.{exprData, nodeAt}
 use Rattle.plan_data.specs.declared.ExprData.{ExprData}
-use Rattle.meaning.specs.Meaning.{Wide}
-use Rattle.meaning.proofs.Members.{all-run}
-use Rattle.meaning.proofs.Conjunctions.{OperandsBelow}
-use Rattle.meaning.proofs.Applying.{TypedNode}
+use Rattle.predicates.specs.Meaning.{Wide}
+use Rattle.predicates.proofs.Members.{all-run}
+use Rattle.predicates.proofs.Conjunctions.{OperandsBelow}
+use Rattle.predicates.proofs.Applying.{TypedNode}
 
 either : (P : ExprData → Type 0) (b : Bool) (x y : ExprData) → (T b → P x) → P y → P (cond b x y)
 either P true x y f q = f tt

@@ -23,20 +23,20 @@ use Rattle.plan.specs.declared.Expr.{Expr}
 use Rattle.plan_data.specs.Nodes.{nodeAt}
 use Rattle.plan_data.specs.declared.ExprData.{ExprData}
 use Rattle.plan_data.specs.declared.ExprData.the-variants.{Literal, ColumnRef, Unary, Binary, Nary}
 use Rattle.predicates.specs.Facts.{hasLineage, identityOf}
 use Rattle.predicates.specs.Conjuncts.{conjunctsOf}
 use Rattle.predicates.specs.Apply.{seenOf}
 use Rattle.predicates.specs.Entries.{applyPredicate}
 use Rattle.predicates.specs.declared.LogicalFacts.{LogicalFacts}
 use Rattle.predicates.specs.declared.Outcome.the-variants.{Accepted}
 use Rattle.predicates.specs.declared.Seen.{Seen}
 use Rattle.predicates.specs.declared.Seen.the-variants.{Identity, Constant, Unseen}
 use Rattle.rows.specs.Typing.{kindOfNode, kindAt}
-use Rattle.meaning.specs.Meaning.{WholeRow, Consistent, On, MeetsFacts, AllOf, Wide, GoodFacts, freshFacts, AcceptedAll, AllOn}
-use Rattle.meaning.specs.Conditions.{OneKind, ExactSeen, ExactNode, ExactPredicate, ofKind, Kinded, OneKinded, OneKindPlan, intOrBoolean}
-use Rattle.meaning.proofs.Members.{all-map}
-use Rattle.meaning.proofs.Conjunctions.{conjuncts-within}
-use Rattle.meaning.proofs.Answers.{apply-parts, apply-exact, sequence-exact}
+use Rattle.predicates.specs.Meaning.{WholeRow, Consistent, On, MeetsFacts, AllOf, Wide, GoodFacts, freshFacts, AcceptedAll, AllOn}
+use Rattle.predicates.specs.Conditions.{OneKind, ExactSeen, ExactNode, ExactPredicate, ofKind, Kinded, OneKinded, OneKindPlan, intOrBoolean}
+use Rattle.predicates.proofs.Members.{all-map}
+use Rattle.predicates.proofs.Conjunctions.{conjuncts-within}
+use Rattle.predicates.proofs.Answers.{apply-parts, apply-exact, sequence-exact}
 
 -- ---- kinds
 same-through : (k l m : Kind) → T (sameKind k l) → T (sameKind l m) → T (sameKind k m)
