@@ -61,10 +61,9 @@ abbrev pub nullWritten : ConstraintSet → ℕ → ConstraintSet
 nullWritten s r = withNonNulls s (set (nonNulls s) r true)
 
 module _ (s : ConstraintSet) (i : ℕ) (h : i < 128) (r : ℕ) (d : r ≡ canonicalAt s i) where
-  pub literal-added : (l : ScalarValue) (clash : Bool) (now : Holder) (q : ConstraintSet) → isNull l ≡ false → clash ≡ clashes (literalAt s r) l → now ≡ cond clash (literalAt s r) (held l)
-      → q ≡ crossCheck (literalWritten (nullWritten s r) r now clash) → q ≡ addLiteral s i l
-  unfolding addLiteral putNonNull
-  literal-added l clash now q n ec en eq = rw (lt-ltb _ _ h, n, ← d) (eq ∙ ap crossCheck (literal-put (nullWritten s r) r l clash now ec en))
+  pub literal-added : (l : ScalarValue) (u q : ConstraintSet) → isNull l ≡ false → u ≡ putLiteral (putNonNull s r) r l → q ≡ crossCheck u → q ≡ addLiteral s i l
+  unfolding addLiteral
+  literal-added l u q n eu eq = rw (lt-ltb _ _ h, n, ← d) (eq ∙ ap crossCheck eu)
 
   pub bound-added : (op : BinaryOp) (x : Float) (new range : ValueRange) (now : Entry) (empty : Bool) (q : ConstraintSet) → bounding op ≡ true → new ≡ boundsBy op x → range ≡ tightenBy (rangeIn (entryAt s r)) new
       → now ≡ entryOf range → empty ≡ emptyRange range → q ≡ crossCheck (flagIf empty (rangeWritten (nullWritten s r) r now)) → q ≡ addBound s i op x

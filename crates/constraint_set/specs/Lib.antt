@@ -1,2 +1,3 @@
 pub mod Chained
 pub mod Kept
+pub mod Checked

@@ -1,11 +1,13 @@
 // What is done with a constraint set, after the methods of the Rust's ConstraintSet: a set goes in by value and comes back.
 // Nothing is asked of a set or of a number that comes in: what happens to one that breaks the rules is defined too.
 ghost use mathlib.Core.Path.{_≡_};
-ghost use mathlib.Core.Bool.{cond};
+ghost use mathlib.Core.Bool.{true, cond};
+ghost use Prim.Native.Nat.{_<_};
 ghost use lib.Dec.{eqb};
 ghost use Rattle.value_classes.specs.Classes.{sameClass};
-ghost use Rattle.constraints.specs.Sets.{held, setOk, canonicalAt, entryOf, clashes, rangeIn, lowerBy, upperBy, tightenBy, outside, crossed, crossCheck, nonNullsMoved, literalsMoved, rangesMoved, normalized, unionValues, addNonNull, addLiteral, boundsBy, addBound, addRange, addResidual, mergeClasses, mergeLiterals, mergeRanges, mergeNonNulls, mergeFrom};
+ghost use Rattle.constraints.specs.Sets.{held, setOk, canonicalAt, entryOf, clashes, rangeIn, lowerBy, upperBy, tightenBy, outside, crossed, crossCheck, nonNullsMoved, literalsMoved, rangesMoved, normalized, putNonNull, putLiteral, unionValues, addNonNull, addLiteral, boundsBy, addBound, addRange, addResidual, mergeClasses, mergeLiterals, mergeRanges, mergeNonNulls, mergeFrom};
 ghost use Rattle.constraint_set.specs.Chained.{chained};
+ghost use Rattle.constraint_set.specs.Checked.{Checked};
 ghost use Rattle.constraint_set.specs.Kept.{hasIn, keptBy, residualsKept};
 use comparison::BinaryOp;
 use constraints::Applied;
@@ -295,19 +297,12 @@ pub fn add_non_null(s: ConstraintSet, value: usize) -> ConstraintSet
     t
 }
 
-pub fn add_literal(s: ConstraintSet, value: usize, literal: ScalarValue) -> ConstraintSet
-    ensures { λ q. ⌜ q ≡ addLiteral s value literal ⌝ }
+// A literal at the representative r, which is then not NULL.
+fn put_literal(s: ConstraintSet, r: usize, literal: ScalarValue) -> ConstraintSet
+    requires { ⌜ r < 128 ⌝ }
+    ensures { λ q. ⌜ q ≡ putLiteral (putNonNull s r) r literal ⌝ }
 {
-    if 128 <= value {
-        return s;
-    }
     let mut t = s;
-    if scalar::is_null(literal) {
-        t.contradictory = true;
-        return t;
-    }
-    let classes = t.equivalence_classes;
-    let r = classes.canonical(value);
     let old = t.literal_equalities[r];
     let clash = literal_clashes(old, literal);
     let h = literal_kept(clash, old, literal);
@@ -315,7 +310,44 @@ pub fn add_literal(s: ConstraintSet, value: usize, literal: ScalarValue) -> Cons
     t.non_null_values[r] = true;
     t.literal_equalities[r] = h;
     t.contradictory = was | clash;
-    cross_check_literals_and_ranges(t)
+    t
+}
+
+pub fn add_literal(s: ConstraintSet, value: usize, literal: ScalarValue) -> ConstraintSet
+    ensures { λ q. ⌜ q ≡ addLiteral s value literal ⌝ }
+{
+    if 128 <= value {
+        return s;
+    }
+    if scalar::is_null(literal) {
+        let mut t = s;
+        t.contradictory = true;
+        return t;
+    }
+    let classes = s.equivalence_classes;
+    let r = classes.canonical(value);
+    let u = put_literal(s, r, literal);
+    cross_check_literals_and_ranges(u)
+}
+
+// The same where the set was checked before, if `checked` says so: only one place can have come to be crossed.
+fn lay_literal(s: ConstraintSet, value: usize, literal: ScalarValue, checked: bool) -> ConstraintSet
+    requires { ⌜ value < 128 ⌝ }
+    requires { ⌜ (checked ≡ true → Checked s) ⌝ }
+    ensures { λ q. ⌜ q ≡ addLiteral s value literal ⌝ }
+{
+    if !checked | scalar::is_null(literal) {
+        return add_literal(s, value, literal);
+    }
+    let classes = s.equivalence_classes;
+    let r = classes.canonical(value);
+    let mut u = put_literal(s, r, literal);
+    let h = u.literal_equalities[r];
+    let e = u.ranges[r];
+    let c = is_crossed(h, e);
+    let was = u.contradictory;
+    u.contradictory = was | c;
+    u
 }
 
 fn bounds_by(op: BinaryOp, x: f64) -> ValueRange
@@ -484,12 +516,14 @@ fn merge_literals(t: ConstraintSet, others: [Holder; 128]) -> ConstraintSet
     ensures { λ q. ⌜ q ≡ mergeLiterals t others ⌝ }
 {
     let mut q = t;
+    let mut checked = false;
     let mut i: usize = 0;
     while i < 128 {
         let h = others[i];
         if h.present {
             let l = h.value;
-            q = add_literal(q, i, l);
+            q = lay_literal(q, i, l, checked);
+            checked = true;
         }
         i += 1;
     }

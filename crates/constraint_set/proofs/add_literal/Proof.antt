@@ -2,60 +2,47 @@ use Rattle.constraint_set.proofs.Loops.{literal-added}
 use Rattle.constraints.specs.Sets.{addLiteral}
 use borrow.Author.Tests.{lt-ltb, le-ltb}
 use Rattle.value_classes.proofs.RootLaws.{root-below}
-use lib.ListN.{length}
 use native.Mathlib.Omega.{arith}
-use Prim.Native.Nat.{_<_, _-_}
-use mathlib.Core.Path.{_≡_, sym, _∙_}
+use mathlib.Core.Path.{sym, _∙_}
 use borrow.Author.Needs.{needs}
 use Rattle.constraint_set.proofs.add_literal.Statement.{statement}
 use Rattle.constraint_set.proofs.add_literal.Tie as tie
+use Rattle.constraint_set.proofs.add_literal.Reads as reads
+use Rattle.constraint_set.proofs.add_literal.Lts as lts
+use Rattle.constraint_set.proofs.cross_check_literals_and_ranges.Reads as cross-check-literals-and-ranges-reads
+use Rattle.constraint_set.proofs.put_literal.Reads as put-literal-reads
+use Rattle.scalar.proofs.is_null.Reads as is-null-reads
+use Rattle.value_classes.proofs.ValueEquivalenceClasses.canonical.Reads as canonical-reads
 
-long : (c : tie.Start) → length (c .args .s .«equivalence_classes» .parents) ≡ 128
-long c = search needs
-
-small : (c : tie.After-canonical) → c .canonical .result < 128
-small c = root-below _ 128 _ _ (long (c .before .before .before .before .before)) (c .canonical .ensures) (omega arith)
-
+-- src/lib.rt:320:9
 returns : tie.Need-returns
 unfolding addLiteral
 returns c = rw (le-ltb _ _ (c .if1 .taken))
 
+-- src/lib.rt:322:8
 is-null-requires : tie.Need-is-null-requires
 is-null-requires c κs = search needs
 
+-- src/lib.rt:325:9
 returns-2 : tie.Need-returns-2
 unfolding addLiteral
 returns-2 c = rw (lt-ltb _ _ (c .before .before .if1 .left), sym (c .before .is-null .ensures) ∙ c .if2 .taken)
 
+-- src/lib.rt:328:9
 canonical-requires : tie.Need-canonical-requires
 canonical-requires c κs = search needs
 
-mul-old : tie.Need-mul-old
-mul-old c = omega (arith, small (c))
+-- src/lib.rt:329:9
+put-literal-requires : tie.Need-put-literal-requires
+put-literal-requires c κs = root-below (c .before .before .before .before .before .args .s .«equivalence_classes» .parents) 128 _ _ (search needs) (c .canonical .ensures) (omega arith)
 
-element-copy-out-old : tie.Need-element-copy-out-old
-element-copy-out-old c = small (c)
-
-literal-clashes-requires : tie.Need-literal-clashes-requires
-literal-clashes-requires c κs = search needs
-
-literal-kept-requires : tie.Need-literal-kept-requires
-literal-kept-requires c κs = search needs
-
-element-write-t : tie.Need-element-write-t
-element-write-t c = small (c .before .before .before)
-
-mul-h : tie.Need-mul-h
-mul-h c = omega (arith, small (c .before .before .before))
-
-element-set-from-h : tie.Need-element-set-from-h
-element-set-from-h c = small (c .before .before .before)
-
+-- src/lib.rt:330:5
 cross-check-literals-and-ranges-requires : tie.Need-cross-check-literals-and-ranges-requires
 cross-check-literals-and-ranges-requires c κs = search needs
 
+-- src/lib.rt:316:1
 returns-3 : tie.Need-returns-3
-returns-3 c = literal-added (c .before .before .before .before .before .before .before .before .before .args .s) (c .before .before .before .before .before .before .before .before .before .args .value) (c .before .before .before .before .before .before .before .before .if1 .left) _ (c .before .before .before .before .canonical .ensures) (c .before .before .before .before .before .before .before .before .before .args .literal) _ _ _ (sym (c .before .before .before .before .before .before .before .is-null .ensures) ∙ c .before .before .before .before .before .before .if2 .left) (c .before .before .literal-clashes .ensures) (c .before .literal-kept .ensures) (c .cross-check-literals-and-ranges .ensures)
+returns-3 c = literal-added (c .before .before .before .before .before .before .before .args .s) (c .before .before .before .before .before .before .before .args .value) (c .before .before .before .before .before .before .if1 .left) _ (c .before .before .canonical .ensures) (c .before .before .before .before .before .before .before .args .literal) _ _ (sym (c .before .before .before .before .before .is-null .ensures) ∙ c .before .before .before .before .if2 .left) (c .before .put-literal .ensures) (c .cross-check-literals-and-ranges .ensures)
 
 pub add-literal-spec : {M : Type 1} → statement M
 add-literal-spec =
@@ -65,12 +52,6 @@ add-literal-spec =
     is-null-requires
     returns-2
     canonical-requires
-    mul-old
-    element-copy-out-old
-    literal-clashes-requires
-    literal-kept-requires
-    element-write-t
-    mul-h
-    element-set-from-h
+    put-literal-requires
     cross-check-literals-and-ranges-requires
     returns-3)

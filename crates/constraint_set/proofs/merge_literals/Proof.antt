@@ -1,46 +1,60 @@
 use borrow.Author.Needs.{needs}
+use Rattle.constraint_set.specs.Checked.{Checked}
+use Rattle.constraint_set.proofs.Checking.{unchecked, added-checked}
 use Rattle.constraint_set.proofs.Loops.{steps-next, literal-laid, literal-left}
 use Rattle.constraints.specs.Sets.{stepsTo, mergeLiteral, mergeLiterals}
 use mathlib.Core.Logic.{⊎-elim}
+use mathlib.Core.Bool.{true}
 use native.Mathlib.Omega.{arith}
 use Prim.Native.Nat.{_≤_, _-_}
-use mathlib.Core.Path.{_≡_, refl}
+use mathlib.Core.Path.{_≡_, refl, sym, subst, _∙_}
 use Rattle.constraint_set.proofs.merge_literals.Statement.{statement}
 use Rattle.constraint_set.proofs.merge_literals.Tie as tie
+use Rattle.constraint_set.proofs.merge_literals.Reads as reads
+use Rattle.constraint_set.proofs.merge_literals.Lts as lts
+use Rattle.constraint_set.proofs.lay_literal.Reads as lay-literal-reads
 
 abbrev Inv-loop : tie.InvT-loop
-Inv-loop others q₀ i₀ q i = (i ≤ 128) × (q ≡ stepsTo (mergeLiteral others) i q₀)
+Inv-loop others q₀ checked₀ i₀ q checked i = (i ≤ 128) × (q ≡ stepsTo (mergeLiteral others) i q₀) × (checked ≡ true → Checked q)
 
 abbrev μ-loop : tie.MeasureT-loop
-μ-loop others q₀ i₀ q i = 128 - i
+μ-loop others q₀ checked₀ i₀ q checked i = 128 - i
 
+-- src/lib.rt:521:5
 loop-holds : tie.Need-loop-holds Inv-loop μ-loop
 unfolding stepsTo
-loop-holds c = (omega arith, refl)
+loop-holds c = (omega arith, refl, unchecked (c .args .t))
 
+-- src/lib.rt:522:17
 mul-h : tie.Need-mul-h Inv-loop μ-loop
 mul-h c = search needs
 
+-- src/lib.rt:522:17
 array-copy-out-h : tie.Need-array-copy-out-h Inv-loop μ-loop
 array-copy-out-h c = search needs
 
-add-literal-requires : tie.Need-add-literal-requires Inv-loop μ-loop
-add-literal-requires c κs = search needs
+-- src/lib.rt:525:13
+lay-literal-requires : tie.Need-lay-literal-requires Inv-loop μ-loop
+lay-literal-requires c κs = (c .before .before .loop-test .taken, c .before .before .before .loop .inv .2)
 
+-- src/lib.rt:528:9
 add-i : tie.Need-add-i Inv-loop μ-loop
 add-i c = search needs
 
+-- src/lib.rt:521:5
 loop-less : tie.Need-loop-less Inv-loop μ-loop
 loop-less c = search needs
 
+-- src/lib.rt:521:5
 loop-again : tie.Need-loop-again Inv-loop μ-loop
 loop-again c =
     let v = c .before .before .before .loop .inv in
     ⊎-elim
-    (λ w. (omega arith, rw (w .2) (steps-next (mergeLiteral (c .before .before .before .before .args .t2)) _ (c .before .before .before .loop .i) (c .before .before .before .loop .q) _ (v .1) (literal-laid (c .before .before .before .loop .i) (c .before .before .before .loop .q) (c .before .before .before .before .args .t2) _ (w .0 .taken) (w .1 .ensures)))))
-    (λ w. (omega arith, rw (w .1) (steps-next (mergeLiteral (c .before .before .before .before .args .t2)) _ (c .before .before .before .loop .i) (c .before .before .before .loop .q) _ (v .1) (literal-left (c .before .before .before .loop .i) (c .before .before .before .loop .q) (c .before .before .before .before .args .t2) (w .0 .left)))))
+    (λ w. (omega arith, rw (w .2) (steps-next (mergeLiteral (c .before .before .before .before .args .t2)) _ (c .before .before .before .loop .i) (c .before .before .before .loop .q) _ (v .1) (literal-laid (c .before .before .before .loop .i) (c .before .before .before .loop .q) (c .before .before .before .before .args .t2) _ (w .0 .taken) (w .1 .ensures))), λ e. subst Checked (sym (w .2)) (added-checked (c .before .before .before .loop .q) (c .before .before .before .loop .i) _ _ (c .before .before .loop-test .taken) (w .1 .ensures))))
+    (λ w. (omega arith, rw (w .1) (steps-next (mergeLiteral (c .before .before .before .before .args .t2)) _ (c .before .before .before .loop .i) (c .before .before .before .loop .q) _ (v .1) (literal-left (c .before .before .before .loop .i) (c .before .before .before .loop .q) (c .before .before .before .before .args .t2) (w .0 .left))), λ e. subst Checked (sym (w .1)) (v .2 (sym (w .2) ∙ e))))
     (c .if1 .came)
 
+-- src/lib.rt:515:1
 returns : tie.Need-returns Inv-loop μ-loop
 unfolding mergeLiterals
 returns c = let e : c .before .loop .i ≡ 128 = omega arith in rw e at (c .before .loop .inv .1)
@@ -54,7 +68,7 @@ merge-literals-spec =
     loop-holds
     mul-h
     array-copy-out-h
-    add-literal-requires
+    lay-literal-requires
     add-i
     loop-less
     loop-again

@@ -1,0 +1,111 @@
+-- A check of one place where the others were checked before. Assumes nothing.
+use mathlib.Core.Path.{_≡_, refl, sym, ap, subst, _∙_}
+use mathlib.Core.Bool.{Bool, true, false, cond, not, _||_}
+use mathlib.Core.Logic.{_⊎_, inl, inr, ⊎-elim}
+use Prim.Native.Nat.{ℕ, zero, suc, _<_, _≤_, _+_}
+use native.Mathlib.Decide.{ℕ-discrete}
+use native.Mathlib.Omega.{arith}
+use lib.Dec.{T}
+use lib.ListN.{getD, set}
+use lib.Seq.{getD-set-other}
+use borrow.Author.Tests.{lt-ltb}
+use Rattle.lists.specs.Ranges.{anyFrom}
+use Rattle.scalar.specs.Kinds.{isNull}
+use Rattle.scalar.specs.declared.ScalarValue.{ScalarValue}
+use Rattle.constraints.specs.Sets.{none, literals, literalAt, entryAt, crossed, crossedAt, crossCheck, withFlag, flagIf, clashes, held, canonicalAt, putNonNull, putLiteral, addLiteral}
+use Rattle.constraints.specs.declared.Holder.{Holder}
+use Rattle.constraints.specs.declared.ConstraintSet.{ConstraintSet}
+use Rattle.constraints.proofs.Operations.{any-at}
+use Rattle.constraint_set.specs.Checked.{Checked}
+use Rattle.constraint_set.proofs.Loops.{literal-added}
+
+-- ---- a test that passes somewhere
+or-second : (a b : Bool) → b ≡ true → (a || b) ≡ true
+or-second true b e = refl
+or-second false b e = e
+
+-- the flag stays where a test is replaced by another that says the same where the flag is clear
+same-or : (f a x : Bool) → (a ≡ true → (f ≡ true) ⊎ (x ≡ true)) → (x ≡ true → a ≡ true) → (f || a) ≡ (f || x)
+same-or true a x p q = refl
+same-or false true x p q = ⊎-elim (λ e. cc) (λ e. sym e) (p refl)
+same-or false false true p q = q refl
+same-or false false false p q = refl
+
+-- a set that was just checked
+pub just-checked : (s : ConstraintSet) → Checked (crossCheck s)
+unfolding crossCheck
+just-checked s = twice (s .contradictory) (anyFrom (crossedAt s) 0 128)
+  where
+    twice : (a b : Bool) → ((a || b) || b) ≡ (a || b)
+    twice true b = refl
+    twice false true = refl
+    twice false false = refl
+
+-- and one to which a literal was added
+pub added-checked : (s : ConstraintSet) (i : ℕ) (l : ScalarValue) (q : ConstraintSet) → i < 128 → q ≡ addLiteral s i l → Checked q
+unfolding addLiteral
+added-checked s i l q h e = subst Checked (sym (e ∙ ap (λ (b : Bool). cond b (whole (isNull l)) s) (lt-ltb i 128 h))) (go (isNull l))
+  where
+    whole : Bool → ConstraintSet
+    whole b = cond b (withFlag s true) (crossCheck (putLiteral (putNonNull s (canonicalAt s i)) (canonicalAt s i) l))
+
+    go : (b : Bool) → Checked (whole b)
+    go true = refl
+    go false = just-checked (putLiteral (putNonNull s (canonicalAt s i)) (canonicalAt s i) l)
+
+-- ---- a literal in a set that was checked
+is-true : (b : Bool) → T b → b ≡ true
+is-true true t = refl
+is-true false t = absurd t
+
+any-true : (f : ℕ → Bool) (n i k : ℕ) → i ≤ k → k < i + n → f k ≡ true → anyFrom f i n ≡ true
+unfolding anyFrom
+any-true f zero i k lo hi e = absurd (omega arith)
+any-true f (suc n) i k lo hi e = elim (ℕ-discrete k i) [
+  | yes q ↦ ap (λ (b : Bool). b || anyFrom f (suc i) n) (subst (λ (j : ℕ). f j ≡ true) q e)
+  | no d ↦ or-second (f i) (anyFrom f (suc i) n) (any-true f n (suc i) k (omega arith) (omega arith) e)
+]
+
+module _ (s : ConstraintSet) (c : Checked s) (r : ℕ) (low : r < 128) (l : ScalarValue) where
+  abbrev after : ConstraintSet
+  after = putLiteral (putNonNull s r) r l
+
+  other : (k : ℕ) → (k ≡ r → ⊥) → crossedAt after k ≡ crossedAt s k
+  unfolding putLiteral putNonNull
+  other k d = ap (λ (h : Holder). crossed h (entryAt s k)) (getD-set-other (literals s) r k _ none d)
+
+  -- the flag of a checked set that is crossed somewhere
+  flagged : (k : ℕ) → k < 128 → crossedAt s k ≡ true → s .contradictory ≡ true
+  flagged k h e = sym c ∙ or-second (s .contradictory) _ (any-true (crossedAt s) 128 0 k (omega arith) (omega arith) e)
+
+  stays : s .contradictory ≡ true → after .contradictory ≡ true
+  unfolding putLiteral putNonNull
+  stays e = ap (λ (b : Bool). b || clashes (literalAt s r) l) e
+
+  forth : anyFrom (crossedAt after) 0 128 ≡ true → (after .contradictory ≡ true) ⊎ (crossedAt after r ≡ true)
+  forth e =
+      let w = any-at (crossedAt after) 128 0 (subst T (sym e) tt) in
+      elim (ℕ-discrete (w .0) r) [
+        | yes q ↦ inr (subst (λ (k : ℕ). crossedAt after k ≡ true) q (is-true _ (w .3)))
+        | no d ↦ inl (stays (flagged (w .0) (omega arith) (sym (other (w .0) d) ∙ is-true _ (w .3))))
+      ]
+
+  -- its check is that of the one place
+  pub one-place : crossCheck after ≡ flagIf (crossedAt after r) after
+  unfolding crossCheck
+  one-place =
+      ap (λ (b : Bool). withFlag after b)
+      (same-or (after .contradictory) (anyFrom (crossedAt after) 0 128) (crossedAt after r) forth (any-true (crossedAt after) 128 0 r (omega arith) (omega arith)))
+
+  pub literal-checked : (i : ℕ) → i < 128 → r ≡ canonicalAt s i → isNull l ≡ false → (u : ConstraintSet) (x : Bool) → u ≡ after → x ≡ crossedAt u r → flagIf x u ≡ addLiteral s i l
+  literal-checked i h d n u x eu ex =
+      ap (λ (b : Bool). flagIf b u) ex ∙ ap (λ (v : ConstraintSet). flagIf (crossedAt v r) v) eu ∙ sym one-place
+      ∙ literal-added s i h r d l after (crossCheck after) n refl refl
+
+-- ---- the flag `checked` of the code
+pub unchecked : (s : ConstraintSet) → false ≡ true → Checked s
+unchecked s e = absurd (subst T (sym e) tt)
+
+pub both-told : (a b : Bool) → (not a || b) ≡ false → (a ≡ true) × (b ≡ false)
+both-told true b e = (refl, e)
+both-told false b e = absurd (subst T e tt)

@@ -1,0 +1,9 @@
+-- A set whose flag says already what a check of its literals against its ranges would find. Assumes nothing.
+use mathlib.Core.Bool.{_||_}
+use mathlib.Core.Path.{_≡_}
+use Rattle.lists.specs.Ranges.{anyFrom}
+use Rattle.constraints.specs.Sets.{crossedAt}
+use Rattle.constraints.specs.declared.ConstraintSet.{ConstraintSet}
+
+abbrev pub Checked : ConstraintSet → Type 0
+Checked s = (s .contradictory || anyFrom (crossedAt s) 0 128) ≡ s .contradictory
