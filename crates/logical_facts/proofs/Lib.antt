@@ -1,0 +1,3 @@
+pub mod Applying
+pub mod Overriding
+pub mod WaysOut

@@ -1,0 +1,75 @@
+use mathlib.Core.Path.{sym, ap, _∙_}
+use borrow.Author.Tests.{not-true, not-false}
+use Rattle.predicates.specs.Entries.{answered, predicateApplied}
+use Rattle.logical_facts.proofs.WaysOut.{apply-fail-1, apply-fail-2, apply-fail-3, apply-pass}
+use borrow.Author.Needs.{needs}
+use Rattle.logical_facts.proofs.apply_predicate.Statement.{statement}
+use Rattle.logical_facts.proofs.apply_predicate.Tie as tie
+use Rattle.logical_facts.proofs.apply_predicate.Reads as reads
+use Rattle.logical_facts.proofs.apply_predicate.Lts as lts
+use Rattle.logical_facts.proofs.answer.Reads as answer-reads
+use Rattle.logical_facts.proofs.apply_to.Reads as apply-to-reads
+use Rattle.logical_facts.proofs.facts_ok.Reads as facts-ok-reads
+use Rattle.logical_facts.proofs.no_such.Reads as no-such-reads
+use Rattle.plan_rules.proofs.plan_ok.Reads as plan-ok-reads
+
+-- src/lib.rt:456:9
+plan-ok-requires : tie.Need-plan-ok-requires
+plan-ok-requires c κs = search needs
+
+-- src/lib.rt:457:9
+no-such-requires : tie.Need-no-such-requires
+no-such-requires c κs = search needs
+
+-- src/lib.rt:457:9
+returns : tie.Need-returns
+returns c = c .no-such .ensures ∙ apply-fail-1 (c .before .before .before .before .before .before .args .p) (c .before .before .before .before .before .before .args .t2) (c .before .before .before .before .before .before .args .e) (sym (c .before .before .plan-ok .ensures) ∙ not-true _ (c .before .if1 .taken))
+
+-- src/lib.rt:460:9
+no-such-requires-2 : tie.Need-no-such-requires-2
+no-such-requires-2 c κs = search needs
+
+-- src/lib.rt:460:9
+returns-2 : tie.Need-returns-2
+returns-2 c = c .no-such2 .ensures ∙ apply-fail-2 (c .before .before .before .before .before .before .before .args .p) (c .before .before .before .before .before .before .before .args .t2) (c .before .before .before .before .before .before .before .args .e) (sym (c .before .before .before .plan-ok .ensures) ∙ not-false _ (c .before .before .if1 .left)) (c .before .if2 .taken)
+
+-- src/lib.rt:462:9
+facts-ok-requires : tie.Need-facts-ok-requires
+facts-ok-requires c κs = search needs
+
+-- src/lib.rt:463:9
+no-such-requires-3 : tie.Need-no-such-requires-3
+no-such-requires-3 c κs = search needs
+
+-- src/lib.rt:463:9
+returns-3 : tie.Need-returns-3
+returns-3 c = c .no-such3 .ensures ∙ apply-fail-3 (c .before .before .before .before .before .before .before .before .before .args .p) (c .before .before .before .before .before .before .before .before .before .args .t2) (c .before .before .before .before .before .before .before .before .before .args .e) (sym (c .before .before .before .before .before .plan-ok .ensures) ∙ not-false _ (c .before .before .before .before .if1 .left)) (c .before .before .before .if2 .left) (sym (c .before .before .facts-ok .ensures) ∙ not-true _ (c .before .if3 .taken))
+
+-- src/lib.rt:465:9
+apply-to-requires : tie.Need-apply-to-requires
+apply-to-requires c κs = search needs
+
+-- src/lib.rt:477:5
+answer-requires : tie.Need-answer-requires
+answer-requires c κs = search needs
+
+-- src/lib.rt:449:1
+returns-4 : tie.Need-returns-4
+unfolding predicateApplied
+returns-4 c = c .answer .ensures ∙ ap (answered (c .before .before .before .before .before .before .before .before .before .before .before .before .before .before .before .before .before .before .before .before .before .args .t2) (c .before .before .before .before .before .before .before .before .before .before .before .before .before .before .before .before .before .before .before .before .before .args .t2)) (c .before .apply-to .ensures) ∙ apply-pass (c .before .before .before .before .before .before .before .before .before .before .before .before .before .before .before .before .before .before .before .before .before .args .p) (c .before .before .before .before .before .before .before .before .before .before .before .before .before .before .before .before .before .before .before .before .before .args .t2) (c .before .before .before .before .before .before .before .before .before .before .before .before .before .before .before .before .before .before .before .before .before .args .e) (sym (c .before .before .before .before .before .before .before .before .before .before .before .before .before .before .before .before .before .plan-ok .ensures) ∙ not-false _ (c .before .before .before .before .before .before .before .before .before .before .before .before .before .before .before .before .if1 .left)) (c .before .before .before .before .before .before .before .before .before .before .before .before .before .before .before .if2 .left) (sym (c .before .before .before .before .before .before .before .before .before .before .before .before .before .before .facts-ok .ensures) ∙ not-false _ (c .before .before .before .before .before .before .before .before .before .before .before .before .before .if3 .left))
+
+pub apply-predicate-spec : {M : Type 1} → statement M
+apply-predicate-spec =
+    tie.close
+    (tie.spec
+    plan-ok-requires
+    no-such-requires
+    returns
+    no-such-requires-2
+    returns-2
+    facts-ok-requires
+    no-such-requires-3
+    returns-3
+    apply-to-requires
+    answer-requires
+    returns-4)

@@ -1,0 +1,57 @@
+use mathlib.Core.Path.{sym, _∙_}
+use borrow.Author.Tests.{not-true, not-false}
+use Rattle.logical_facts.proofs.WaysOut.{facts-fail-1, facts-fail-2, facts-fail-3, facts-pass}
+use borrow.Author.Needs.{needs}
+use Rattle.logical_facts.proofs.facts_ok.Statement.{statement}
+use Rattle.logical_facts.proofs.facts_ok.Tie as tie
+use Rattle.logical_facts.proofs.facts_ok.Reads as reads
+use Rattle.logical_facts.proofs.facts_ok.Lts as lts
+use Rattle.constraint_set.proofs.set_ok.Reads as set-ok-reads
+use Rattle.logical_facts.proofs.definitions_ok.Reads as definitions-ok-reads
+use Rattle.logical_facts.proofs.lineages_ok.Reads as lineages-ok-reads
+use Rattle.logical_facts.proofs.residuals_ok.Reads as residuals-ok-reads
+
+-- src/lib.rt:407:9
+lineages-ok-requires : tie.Need-lineages-ok-requires
+lineages-ok-requires c κs = search needs
+
+-- src/lib.rt:408:9
+returns : tie.Need-returns
+returns c = facts-fail-1 (c .before .before .before .before .before .before .before .before .args .p) (c .before .before .before .before .before .before .before .before .args .t2) (sym (c .before .lineages-ok .ensures) ∙ not-true _ (c .if1 .taken))
+
+-- src/lib.rt:410:9
+definitions-ok-requires : tie.Need-definitions-ok-requires
+definitions-ok-requires c κs = search needs
+
+-- src/lib.rt:411:9
+returns-2 : tie.Need-returns-2
+returns-2 c = facts-fail-2 (c .before .before .before .before .before .before .before .before .before .before .before .before .before .args .p) (c .before .before .before .before .before .before .before .before .before .before .before .before .before .args .t2) (sym (c .before .before .before .before .before .before .lineages-ok .ensures) ∙ not-false _ (c .before .before .before .before .before .if1 .left)) (sym (c .before .definitions-ok .ensures) ∙ not-true _ (c .if2 .taken))
+
+-- src/lib.rt:413:9
+set-ok-requires : tie.Need-set-ok-requires
+set-ok-requires c κs = search needs
+
+-- src/lib.rt:414:9
+returns-3 : tie.Need-returns-3
+returns-3 c = facts-fail-3 (c .before .before .before .before .before .before .before .before .before .before .before .before .before .before .before .args .p) (c .before .before .before .before .before .before .before .before .before .before .before .before .before .before .before .args .t2) (sym (c .before .before .before .before .before .before .before .before .lineages-ok .ensures) ∙ not-false _ (c .before .before .before .before .before .before .before .if1 .left)) (sym (c .before .before .before .definitions-ok .ensures) ∙ not-false _ (c .before .before .if2 .left)) (sym (c .before .set-ok .ensures) ∙ not-true _ (c .if3 .taken))
+
+-- src/lib.rt:416:5
+residuals-ok-requires : tie.Need-residuals-ok-requires
+residuals-ok-requires c κs = search needs
+
+-- src/lib.rt:399:1
+returns-4 : tie.Need-returns-4
+returns-4 c = c .residuals-ok .ensures ∙ facts-pass (c .before .before .before .before .before .before .before .before .before .before .before .before .before .before .before .before .args .p) (c .before .before .before .before .before .before .before .before .before .before .before .before .before .before .before .before .args .t2) (sym (c .before .before .before .before .before .before .before .before .before .lineages-ok .ensures) ∙ not-false _ (c .before .before .before .before .before .before .before .before .if1 .left)) (sym (c .before .before .before .before .definitions-ok .ensures) ∙ not-false _ (c .before .before .before .if2 .left)) (sym (c .before .before .set-ok .ensures) ∙ not-false _ (c .before .if3 .left))
+
+pub facts-ok-spec : {M : Type 1} → statement M
+facts-ok-spec =
+    tie.close
+    (tie.spec
+    lineages-ok-requires
+    returns
+    definitions-ok-requires
+    returns-2
+    set-ok-requires
+    returns-3
+    residuals-ok-requires
+    returns-4)

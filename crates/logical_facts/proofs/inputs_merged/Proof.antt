@@ -1,0 +1,30 @@
+use Rattle.logical_facts.proofs.WaysOut.{merged-parts}
+use borrow.Author.Needs.{needs}
+use Rattle.logical_facts.proofs.inputs_merged.Statement.{statement}
+use Rattle.logical_facts.proofs.inputs_merged.Tie as tie
+use Rattle.logical_facts.proofs.inputs_merged.Reads as reads
+use Rattle.logical_facts.proofs.inputs_merged.Lts as lts
+use Rattle.logical_facts.proofs.answer.Reads as answer-reads
+use Rattle.logical_facts.proofs.merge_constraints.Reads as merge-constraints-reads
+use Rattle.logical_facts.proofs.override_columns.Reads as override-columns-reads
+
+-- src/lib.rt:526:9
+override-columns-requires : tie.Need-override-columns-requires
+override-columns-requires c κs = search needs
+
+-- src/lib.rt:536:9
+merge-constraints-requires : tie.Need-merge-constraints-requires
+merge-constraints-requires c κs = search needs
+
+-- src/lib.rt:537:5
+answer-requires : tie.Need-answer-requires
+answer-requires c κs = search needs
+
+-- src/lib.rt:519:1
+returns : tie.Need-returns
+returns c = merged-parts (c .before .before .before .before .before .before .before .before .before .before .before .args .left) (c .before .before .before .before .before .before .before .before .before .before .before .args .right) (c .before .before .before .before .before .before .before .before .before .before .before .args .merge) (c .before .before .before .before .before .before .override-columns .result) (c .before .merge-constraints .result) (c .answer .result) (c .before .before .before .before .before .before .override-columns .ensures) (c .before .merge-constraints .ensures) (c .answer .ensures)
+
+pub inputs-merged-spec : {M : Type 1} → statement M
+inputs-merged-spec =
+    tie.close
+    (tie.spec override-columns-requires merge-constraints-requires answer-requires returns)

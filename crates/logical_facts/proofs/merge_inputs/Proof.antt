@@ -1,0 +1,72 @@
+use mathlib.Core.Path.{sym, _∙_}
+use borrow.Author.Tests.{not-true, not-false}
+use Rattle.logical_facts.proofs.WaysOut.{merge-fail-1, merge-fail-2, merge-fail-3, merge-pass}
+use borrow.Author.Needs.{needs}
+use Rattle.logical_facts.proofs.merge_inputs.Statement.{statement}
+use Rattle.logical_facts.proofs.merge_inputs.Tie as tie
+use Rattle.logical_facts.proofs.merge_inputs.Reads as reads
+use Rattle.logical_facts.proofs.merge_inputs.Lts as lts
+use Rattle.logical_facts.proofs.facts_ok.Reads as facts-ok-reads
+use Rattle.logical_facts.proofs.inputs_merged.Reads as inputs-merged-reads
+use Rattle.logical_facts.proofs.no_such.Reads as no-such-reads
+use Rattle.plan_rules.proofs.plan_ok.Reads as plan-ok-reads
+
+-- src/lib.rt:543:9
+plan-ok-requires : tie.Need-plan-ok-requires
+plan-ok-requires c κs = search needs
+
+-- src/lib.rt:544:9
+no-such-requires : tie.Need-no-such-requires
+no-such-requires c κs = search needs
+
+-- src/lib.rt:544:9
+returns : tie.Need-returns
+returns c = c .no-such .ensures ∙ merge-fail-1 (c .before .before .before .args .p) (c .before .before .before .args .left) (c .before .before .before .args .right) (c .before .before .before .args .merge) (sym (c .before .before .plan-ok .ensures) ∙ not-true _ (c .before .if1 .taken))
+
+-- src/lib.rt:546:9
+facts-ok-requires : tie.Need-facts-ok-requires
+facts-ok-requires c κs = search needs
+
+-- src/lib.rt:547:9
+no-such-requires-2 : tie.Need-no-such-requires-2
+no-such-requires-2 c κs = search needs
+
+-- src/lib.rt:547:9
+returns-2 : tie.Need-returns-2
+returns-2 c = c .no-such2 .ensures ∙ merge-fail-2 (c .before .before .before .before .before .args .p) (c .before .before .before .before .before .args .left) (c .before .before .before .before .before .args .right) (c .before .before .before .before .before .args .merge) (sym (c .before .before .before .before .plan-ok .ensures) ∙ not-false _ (c .before .before .before .if1 .left)) (sym (c .before .before .facts-ok .ensures) ∙ not-true _ (c .before .if2 .taken))
+
+-- src/lib.rt:549:9
+facts-ok-requires-2 : tie.Need-facts-ok-requires-2
+facts-ok-requires-2 c κs = search needs
+
+-- src/lib.rt:550:9
+no-such-requires-3 : tie.Need-no-such-requires-3
+no-such-requires-3 c κs = search needs
+
+-- src/lib.rt:550:9
+returns-3 : tie.Need-returns-3
+returns-3 c = c .no-such3 .ensures ∙ merge-fail-3 (c .before .before .before .before .before .before .before .args .p) (c .before .before .before .before .before .before .before .args .left) (c .before .before .before .before .before .before .before .args .right) (c .before .before .before .before .before .before .before .args .merge) (sym (c .before .before .before .before .before .before .plan-ok .ensures) ∙ not-false _ (c .before .before .before .before .before .if1 .left)) (sym (c .before .before .before .before .facts-ok .ensures) ∙ not-false _ (c .before .before .before .if2 .left)) (sym (c .before .before .facts-ok2 .ensures) ∙ not-true _ (c .before .if3 .taken))
+
+-- src/lib.rt:552:5
+inputs-merged-requires : tie.Need-inputs-merged-requires
+inputs-merged-requires c κs = search needs
+
+-- src/lib.rt:540:1
+returns-4 : tie.Need-returns-4
+returns-4 c = c .inputs-merged .ensures ∙ merge-pass (c .before .before .before .before .before .before .before .args .p) (c .before .before .before .before .before .before .before .args .left) (c .before .before .before .before .before .before .before .args .right) (c .before .before .before .before .before .before .before .args .merge) (sym (c .before .before .before .before .before .before .plan-ok .ensures) ∙ not-false _ (c .before .before .before .before .before .if1 .left)) (sym (c .before .before .before .before .facts-ok .ensures) ∙ not-false _ (c .before .before .before .if2 .left)) (sym (c .before .before .facts-ok2 .ensures) ∙ not-false _ (c .before .if3 .left))
+
+pub merge-inputs-spec : {M : Type 1} → statement M
+merge-inputs-spec =
+    tie.close
+    (tie.spec
+    plan-ok-requires
+    no-such-requires
+    returns
+    facts-ok-requires
+    no-such-requires-2
+    returns-2
+    facts-ok-requires-2
+    no-such-requires-3
+    returns-3
+    inputs-merged-requires
+    returns-4)

@@ -1,0 +1,16 @@
+use borrow.Author.Tests.{ne-eqb}
+use Rattle.logical_facts.proofs.over16.Statement.{statement}
+use Rattle.logical_facts.proofs.over16.Tie as tie
+use Rattle.logical_facts.proofs.over16.Reads as reads
+use Rattle.logical_facts.proofs.over16.Lts as lts
+
+-- src/lib.rt:487:1
+returns : tie.Need-returns
+returns c = rw (c .if1 .taken)
+
+-- src/lib.rt:487:1
+returns-2 : tie.Need-returns-2
+returns-2 c = rw (ne-eqb _ 0 (c .if1 .left))
+
+pub over16-spec : {M : Type 1} → statement M
+over16-spec = tie.close (tie.spec returns returns-2)

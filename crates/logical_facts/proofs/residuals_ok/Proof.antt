@@ -1,0 +1,65 @@
+use Prim.Native.Nat.{ℕ}
+use lib.Dec.{ltb}
+use borrow.Author.Tests.{le-ltb, lt-ltb}
+use Rattle.predicates.specs.Facts.{residualOk}
+use Rattle.lists.proofs.RangeLaws.{all-done, all-fails, all-passes}
+use Rattle.lists.specs.Ranges.{allFrom}
+use denote.Ref.{now}
+use native.Mathlib.Omega.{arith}
+use native.Mathlib.Nat.{sub-zero}
+use Prim.Native.Nat.{_-_, _≤_}
+use mathlib.Core.Path.{_≡_, sym, ap, _∙_}
+use borrow.Author.Needs.{needs}
+use Rattle.logical_facts.proofs.residuals_ok.Statement.{statement}
+use Rattle.logical_facts.proofs.residuals_ok.Tie as tie
+use Rattle.logical_facts.proofs.residuals_ok.Reads as reads
+use Rattle.logical_facts.proofs.residuals_ok.Lts as lts
+use Rattle.lists.proofs.at16.Reads as at16-reads
+
+abbrev Inv-loop : tie.InvT-loop
+Inv-loop ne s n k₀ k = (k ≤ n) × (allFrom (residualOk s ne) 0 n ≡ allFrom (residualOk s ne) k (n - k))
+
+abbrev μ-loop : tie.MeasureT-loop
+μ-loop ne s n k₀ k = n - k
+
+-- src/lib.rt:390:5
+loop-holds : tie.Need-loop-holds Inv-loop μ-loop
+loop-holds c = (omega arith, ap (allFrom (residualOk (c .args .t1) (c .args .ne)) 0) (sym (sub-zero (c .args .t1 .residuals))))
+
+-- src/lib.rt:391:18
+at16-requires : tie.Need-at16-requires Inv-loop μ-loop
+at16-requires c κs = search needs
+
+-- src/lib.rt:392:13
+returns : tie.Need-returns Inv-loop μ-loop
+returns c = sym (c .before .before .before .before .before .before .loop .inv .1 ∙ all-fails (residualOk (c .before .before .before .before .before .before .before .args .t1) (c .before .before .before .before .before .before .before .args .ne)) (c .before .before .before .before .before .before .loop .k) (c .before .before .before .before .before .before .before .args .t1 .residuals) (c .before .before .before .before .before .loop-test .taken) (ap (λ (v : ℕ). ltb v (c .before .before .before .before .before .before .before .args .ne)) (sym (c .before .at16 .ensures)) ∙ le-ltb _ _ (c .if1 .taken)))
+
+-- src/lib.rt:394:9
+add-k : tie.Need-add-k Inv-loop μ-loop
+add-k c = search needs
+
+-- src/lib.rt:390:5
+loop-less : tie.Need-loop-less Inv-loop μ-loop
+loop-less c = search needs
+
+-- src/lib.rt:390:5
+loop-again : tie.Need-loop-again Inv-loop μ-loop
+loop-again c = (omega arith, c .before .before .before .before .before .before .loop .inv .1 ∙ all-passes (residualOk (c .before .before .before .before .before .before .before .args .t1) (c .before .before .before .before .before .before .before .args .ne)) (c .before .before .before .before .before .before .loop .k) (c .before .before .before .before .before .before .before .args .t1 .residuals) (c .before .before .before .before .before .loop-test .taken) (ap (λ (v : ℕ). ltb v (c .before .before .before .before .before .before .before .args .ne)) (sym (c .before .at16 .ensures)) ∙ lt-ltb _ _ (c .if1 .left)))
+
+-- src/lib.rt:385:1
+returns-2 : tie.Need-returns-2 Inv-loop μ-loop
+returns-2 c = sym (c .before .loop .inv .1 ∙ all-done (residualOk (c .before .before .args .t1) (c .before .before .args .ne)) (c .before .loop .k) (c .before .before .args .t1 .residuals) (c .loop-test .left))
+
+pub residuals-ok-spec : {M : Type 1} → statement M
+residuals-ok-spec =
+    tie.close
+    (tie.spec
+    Inv-loop
+    μ-loop
+    loop-holds
+    at16-requires
+    returns
+    add-k
+    loop-less
+    loop-again
+    returns-2)
