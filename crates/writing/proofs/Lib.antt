@@ -1,2 +1,3 @@
 pub mod Wrotes
 pub mod Signs
+pub mod Whole

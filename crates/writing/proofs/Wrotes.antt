@@ -32,15 +32,15 @@ stored-append (v ∷ x) y o a = stored-append x y (set o a v) (suc a) ∙ ap (λ
     shift : (a n : ℕ) → suc a + n ≡ a + suc n
     shift a n = omega arith
 
-after-in : (m a n : ℕ) → a < m → a + n ≤ m → after m a n ≡ a + n
+pub after-in : (m a n : ℕ) → a < m → a + n ≤ m → after m a n ≡ a + n
 unfolding after
 after-in m a n h k = rw (lt-ltb a m h) (omega arith)
 
-after-end : (m a n : ℕ) → a < m → m ≤ a + n → after m a n ≡ m
+pub after-end : (m a n : ℕ) → a < m → m ≤ a + n → after m a n ≡ m
 unfolding after
 after-end m a n h k = rw (lt-ltb a m h) (omega arith)
 
-after-past : (m a n : ℕ) → m ≤ a → after m a n ≡ a
+pub after-past : (m a n : ℕ) → m ≤ a → after m a n ≡ a
 unfolding after
 after-past m a n h = rw (le-ltb a m h)
 

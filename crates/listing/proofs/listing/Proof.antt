@@ -1,0 +1,37 @@
+use Rattle.listing.specs.Listing.{listingText}
+use Rattle.listing.proofs.Lengths.{listing-length}
+use Rattle.listing.proofs.Owned.{facts-typed}
+use Rattle.writing.proofs.Wrotes.{wrote-then}
+use borrow.Author.Needs.{needs}
+use Rattle.listing.proofs.listing.Statement.{statement}
+use Rattle.listing.proofs.listing.Tie as tie
+
+header-requires : tie.Need-header-requires
+header-requires c κs = search needs
+
+column-lines-requires : tie.Need-column-lines-requires
+column-lines-requires c κs = search needs
+
+define-lines-requires : tie.Need-define-lines-requires
+define-lines-requires c κs = search needs
+
+set-text-requires : tie.Need-set-text-requires
+set-text-requires c κs = search needs
+
+same-length : tie.Need-same-length
+same-length c = search needs
+
+returns : tie.Need-returns
+unfolding listingText
+returns c = ((wrote-then _ _ _ _ _ _ _ _ (c .before .before .before .before .before .before .before .before .before .before .before .before .before .before .header .ensures) (c .before .before .before .before .before .before .before .before .before .before .before .before .before .before .header .kept .0) (wrote-then _ _ _ _ _ _ _ _ (c .before .before .before .before .before .before .before .before .before .before .column-lines .ensures) (c .before .before .before .before .before .before .before .before .before .before .column-lines .kept .0) (wrote-then _ _ _ _ _ _ _ _ (c .before .before .before .before .before .before .define-lines .ensures) (c .before .before .before .before .before .before .define-lines .kept .0) (c .before .before .set-text .ensures)))), listing-length _ _ _ (c .before .before .before .before .before .before .before .before .before .before .before .before .before .before .before .before .before .before .before .before .fits .h .fits) (facts-typed (c .before .before .before .before .before .before .before .before .before .before .before .before .before .before .before .before .before .before .before .before .args .f) _ (c .before .before .before .before .before .before .before .before .before .before .before .before .before .before .before .before .before .before .before .before .good .1 .1 .1 .1 .0)))
+
+pub listing-spec : {M : Type 1} → statement M
+listing-spec =
+    tie.close
+    (tie.spec
+    header-requires
+    column-lines-requires
+    define-lines-requires
+    set-text-requires
+    same-length
+    returns)

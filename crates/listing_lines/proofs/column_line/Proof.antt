@@ -1,0 +1,53 @@
+use borrow.Author.Tests.{eq-eqb, ne-eqb, not-true, not-false}
+use Rattle.listing_lines.specs.Lines.{columnLine}
+use Rattle.writing.proofs.Wrotes.{wrote-none, wrote-then}
+use borrow.Author.Needs.{needs}
+use Rattle.listing_lines.proofs.column_line.Statement.{statement}
+use Rattle.listing_lines.proofs.column_line.Tie as tie
+
+returns : tie.Need-returns
+unfolding columnLine
+returns c = rw (eq-eqb _ _ (c .if1 .taken)) (wrote-none _ _)
+
+slice-aggregate-text : tie.Need-slice-aggregate-text
+slice-aggregate-text c = search needs
+
+text-requires : tie.Need-text-requires
+text-requires c κs = search needs
+
+decimal-requires : tie.Need-decimal-requires
+decimal-requires c κs = search needs
+
+byte-requires : tie.Need-byte-requires
+byte-requires c κs = search needs
+
+sub-name : tie.Need-sub-name
+sub-name c = search needs
+
+name-requires : tie.Need-name-requires
+name-requires c κs = search needs
+
+byte-requires-2 : tie.Need-byte-requires-2
+byte-requires-2 c κs = search needs
+
+same-length : tie.Need-same-length
+same-length c = search needs
+
+returns-2 : tie.Need-returns-2
+unfolding columnLine
+returns-2 c = rw (ne-eqb _ _ (c .before .before .before .before .before .before .before .before .before .before .before .before .before .before .before .before .before .before .before .before .before .if1 .left)) (wrote-then _ _ _ _ _ _ _ _ (c .before .before .before .before .before .before .before .before .before .before .before .before .before .before .before .before .before .before .text .ensures) (c .before .before .before .before .before .before .before .before .before .before .before .before .before .before .before .before .before .before .text .kept .0) (wrote-then _ _ _ _ _ _ _ _ (c .before .before .before .before .before .before .before .before .before .before .before .before .before .before .decimal .ensures) (c .before .before .before .before .before .before .before .before .before .before .before .before .before .before .decimal .kept .0) (wrote-then _ _ _ _ _ _ _ _ (c .before .before .before .before .before .before .before .before .before .before .byte .ensures) (c .before .before .before .before .before .before .before .before .before .before .byte .kept .0) (wrote-then _ _ _ _ _ _ _ _ (c .before .before .before .before .before .before .name .ensures) (c .before .before .before .before .before .before .name .kept .0) (c .before .before .byte2 .ensures)))))
+
+pub column-line-spec : {M : Type 1} → statement M
+column-line-spec =
+    tie.close
+    (tie.spec
+    returns
+    slice-aggregate-text
+    text-requires
+    decimal-requires
+    byte-requires
+    sub-name
+    name-requires
+    byte-requires-2
+    same-length
+    returns-2)

@@ -1,0 +1,26 @@
+use Rattle.listing_lines.specs.Lines.{memberText}
+use borrow.Author.Tests.{eq-eqb, ne-eqb, not-true, not-false}
+use Rattle.writing.proofs.Wrotes.{wrote-none, wrote-then}
+use borrow.Author.Needs.{needs}
+use Rattle.listing_lines.proofs.member.Statement.{statement}
+use Rattle.listing_lines.proofs.member.Tie as tie
+
+byte-requires : tie.Need-byte-requires
+byte-requires c κs = search needs
+
+name-requires : tie.Need-name-requires
+name-requires c κs = search needs
+
+same-length : tie.Need-same-length
+same-length c = search needs
+
+returns : tie.Need-returns
+unfolding memberText
+returns c = rw (eq-eqb _ _ (c .before .before .before .before .before .before .before .before .if1 .taken)) (wrote-then _ _ _ _ _ _ _ _ (c .before .before .before .before .before .before .byte .ensures) (c .before .before .before .before .before .before .byte .kept .0) (c .before .before .name .ensures))
+
+returns-2 : tie.Need-returns-2
+unfolding memberText
+returns-2 c = rw (ne-eqb _ _ (c .if1 .left)) (wrote-none _ _)
+
+pub member-spec : {M : Type 1} → statement M
+member-spec = tie.close (tie.spec byte-requires name-requires same-length returns returns-2)
