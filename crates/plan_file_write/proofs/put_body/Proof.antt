@@ -1,0 +1,61 @@
+use Rattle.plan_file_write.proofs.WriteLaws.{body-wrote}
+use mathlib.Core.Path.{_∙_}
+use Rattle.writing.proofs.Wrotes.{wrote-then}
+use borrow.Author.Needs.{needs}
+use Rattle.plan_file_write.proofs.put_body.Statement.{statement}
+use Rattle.plan_file_write.proofs.put_body.Tie as tie
+use Rattle.plan_file_write.proofs.put_body.Reads as reads
+use Rattle.plan_file_write.proofs.put_body.Lts as lts
+use Rattle.plan_file_write.proofs.put_bits.Reads as put-bits-reads
+use Rattle.plan_file_write.proofs.put_code.Reads as put-code-reads
+use Rattle.plan_file_write.proofs.put_word.Reads as put-word-reads
+
+-- src/lib.rt:74:9
+put-code-requires : tie.Need-put-code-requires
+put-code-requires c κs = search needs
+
+-- src/lib.rt:75:9
+put-word-requires : tie.Need-put-word-requires
+put-word-requires c κs = search needs
+
+-- src/lib.rt:76:9
+put-word-requires-2 : tie.Need-put-word-requires-2
+put-word-requires-2 c κs = search needs
+
+-- src/lib.rt:77:9
+put-word-requires-3 : tie.Need-put-word-requires-3
+put-word-requires-3 c κs = search needs
+
+-- src/lib.rt:78:9
+put-word-requires-4 : tie.Need-put-word-requires-4
+put-word-requires-4 c κs = search needs
+
+-- src/lib.rt:79:9
+put-code-requires-2 : tie.Need-put-code-requires-2
+put-code-requires-2 c κs = search needs
+
+-- src/lib.rt:80:5
+put-bits-requires : tie.Need-put-bits-requires
+put-bits-requires c κs = search needs
+
+-- src/lib.rt:71:1
+same-length : tie.Need-same-length
+same-length c = c .before .before .put-bits .kept .0 ∙ c .before .before .before .before .before .before .put-code2 .kept .0 ∙ c .before .before .before .before .before .before .before .before .before .before .before .put-word4 .kept .0 ∙ c .before .before .before .before .before .before .before .before .before .before .before .before .before .before .before .put-word3 .kept .0 ∙ c .before .before .before .before .before .before .before .before .before .before .before .before .before .before .before .before .before .before .before .put-word2 .kept .0 ∙ c .before .before .before .before .before .before .before .before .before .before .before .before .before .before .before .before .before .before .before .before .before .before .before .put-word .kept .0 ∙ c .before .before .before .before .before .before .before .before .before .before .before .before .before .before .before .before .before .before .before .before .before .before .before .before .before .before .before .put-code .kept .0
+
+-- src/lib.rt:71:1
+returns : tie.Need-returns
+returns c = body-wrote _ _ _ _ _ _ (wrote-then _ _ _ _ _ _ _ _ (c .before .before .before .before .before .before .before .before .before .before .before .before .before .before .before .before .before .before .before .before .before .before .before .before .before .before .before .put-code .ensures) (c .before .before .before .before .before .before .before .before .before .before .before .before .before .before .before .before .before .before .before .before .before .before .before .before .before .before .before .put-code .kept .0) (wrote-then _ _ _ _ _ _ _ _ (c .before .before .before .before .before .before .before .before .before .before .before .before .before .before .before .before .before .before .before .before .before .before .before .put-word .ensures) (c .before .before .before .before .before .before .before .before .before .before .before .before .before .before .before .before .before .before .before .before .before .before .before .put-word .kept .0) (wrote-then _ _ _ _ _ _ _ _ (c .before .before .before .before .before .before .before .before .before .before .before .before .before .before .before .before .before .before .before .put-word2 .ensures) (c .before .before .before .before .before .before .before .before .before .before .before .before .before .before .before .before .before .before .before .put-word2 .kept .0) (wrote-then _ _ _ _ _ _ _ _ (c .before .before .before .before .before .before .before .before .before .before .before .before .before .before .before .put-word3 .ensures) (c .before .before .before .before .before .before .before .before .before .before .before .before .before .before .before .put-word3 .kept .0) (wrote-then _ _ _ _ _ _ _ _ (c .before .before .before .before .before .before .before .before .before .before .before .put-word4 .ensures) (c .before .before .before .before .before .before .before .before .before .before .before .put-word4 .kept .0) (wrote-then _ _ _ _ _ _ _ _ (c .before .before .before .before .before .before .put-code2 .ensures) (c .before .before .before .before .before .before .put-code2 .kept .0) (c .before .before .put-bits .ensures)))))))
+
+pub put-body-spec : {M : Type 1} → statement M
+put-body-spec =
+    tie.close
+    (tie.spec
+    put-code-requires
+    put-word-requires
+    put-word-requires-2
+    put-word-requires-3
+    put-word-requires-4
+    put-code-requires-2
+    put-bits-requires
+    same-length
+    returns)

@@ -1,0 +1,32 @@
+use borrow.Author.Needs.{needs}
+use Rattle.plan_file_write.proofs.put_expr.Statement.{statement}
+use Rattle.plan_file_write.proofs.put_expr.Tie as tie
+use Rattle.plan_file_write.proofs.put_expr.Reads as reads
+use Rattle.plan_file_write.proofs.put_expr.Lts as lts
+use Rattle.lists.proofs.at16.Reads as at16-reads
+use Rattle.plan.proofs.expr_record.Reads as expr-record-reads
+use Rattle.plan_file_write.proofs.put_listed.Reads as put-listed-reads
+
+-- src/lib.rt:184:9
+expr-record-requires : tie.Need-expr-record-requires
+expr-record-requires c κs = search needs
+
+-- src/lib.rt:185:9
+at16-requires : tie.Need-at16-requires
+at16-requires c κs = search needs
+
+-- src/lib.rt:186:5
+put-listed-requires : tie.Need-put-listed-requires
+put-listed-requires c κs = search needs
+
+-- src/lib.rt:169:1
+same-length : tie.Need-same-length
+same-length c = search needs
+
+-- src/lib.rt:169:1
+returns : tie.Need-returns
+returns c = rw (c .before .before .before .before .before .expr-record .ensures, c .before .before .before .before .at16 .ensures) at (c .before .before .put-listed .ensures)
+
+pub put-expr-spec : {M : Type 1} → statement M
+put-expr-spec =
+    tie.close (tie.spec expr-record-requires at16-requires put-listed-requires same-length returns)

@@ -1,0 +1,62 @@
+use borrow.Author.Needs.{needs}
+use Rattle.plan_file_write.specs.Written.{exprBytes}
+use native.Mathlib.Omega.{arith}
+use Prim.Native.Nat.{ℕ, _≤_, _-_}
+use lib.ListN.{length}
+use mathlib.Core.Path.{_≡_, refl, _∙_}
+use Rattle.writing.specs.Text.{Wrote, lines}
+use Rattle.writing.proofs.Wrotes.{wrote-none, wrote-then, lines-more}
+use Rattle.plan_file_write.proofs.put_exprs.Statement.{statement}
+use Rattle.plan_file_write.proofs.put_exprs.Tie as tie
+use Rattle.plan_file_write.proofs.put_exprs.Reads as reads
+use Rattle.plan_file_write.proofs.put_exprs.Lts as lts
+use Rattle.plan_file_write.proofs.put_expr.Reads as put-expr-reads
+
+abbrev Inv-loop : tie.InvT-loop
+Inv-loop out₀ at kind code a b bits start first second n p₀ i₀ out p i = (i ≤ n) × (length out ≡ length out₀) × Wrote out₀ at out p (lines i (exprBytes kind code a b bits start first second))
+
+abbrev μ-loop : tie.MeasureT-loop
+μ-loop out₀ at kind code a b bits start first second n p₀ i₀ out p i = n - i
+
+-- src/lib.rt:206:5
+loop-holds : tie.Need-loop-holds Inv-loop μ-loop
+unfolding lines
+loop-holds c = (omega arith, refl, wrote-none _ _)
+
+-- src/lib.rt:207:9
+put-expr-requires : tie.Need-put-expr-requires Inv-loop μ-loop
+put-expr-requires c κs = search needs
+
+-- src/lib.rt:208:9
+add-i : tie.Need-add-i Inv-loop μ-loop
+add-i c = search needs
+
+-- src/lib.rt:206:5
+loop-less : tie.Need-loop-less Inv-loop μ-loop
+loop-less c = search needs
+
+-- src/lib.rt:206:5
+loop-again : tie.Need-loop-again Inv-loop μ-loop
+loop-again c = (search needs, c .before .before .put-expr .kept .0 ∙ c .before .before .before .before .before .loop .inv .1, rw (lines-more) (wrote-then _ _ _ _ _ _ _ _ (c .before .before .before .before .before .loop .inv .2) (c .before .before .before .before .before .loop .inv .1) (c .before .before .put-expr .ensures)))
+
+-- src/lib.rt:189:1
+same-length : tie.Need-same-length Inv-loop μ-loop
+same-length c = search needs
+
+-- src/lib.rt:189:1
+returns : tie.Need-returns Inv-loop μ-loop
+returns c = let e : c .before .loop .i ≡ c .before .before .before .before .before .before .before .before .before .before .before .args .n = omega arith in rw e at (c .before .loop .inv .2)
+
+pub put-exprs-spec : {M : Type 1} → statement M
+put-exprs-spec =
+    tie.close
+    (tie.spec
+    Inv-loop
+    μ-loop
+    loop-holds
+    put-expr-requires
+    add-i
+    loop-less
+    loop-again
+    same-length
+    returns)

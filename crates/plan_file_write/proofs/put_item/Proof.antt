@@ -1,0 +1,48 @@
+use borrow.Author.Needs.{needs}
+use Rattle.plan_file_write.proofs.put_item.Statement.{statement}
+use Rattle.plan_file_write.proofs.put_item.Tie as tie
+use Rattle.plan_file_write.proofs.put_item.Reads as reads
+use Rattle.plan_file_write.proofs.put_item.Lts as lts
+use Rattle.lists.proofs.at16.Reads as at16-reads
+use Rattle.plan_file_write.proofs.item_kind.Reads as item-kind-reads
+use Rattle.plan_file_write.proofs.put_record.Reads as put-record-reads
+
+-- src/lib.rt:106:13
+add-i : tie.Need-add-i
+add-i c = search needs
+
+-- src/lib.rt:111:19
+item-kind-requires : tie.Need-item-kind-requires
+item-kind-requires c κs = search needs
+
+-- src/lib.rt:113:16
+at16-requires : tie.Need-at16-requires
+at16-requires c κs = search needs
+
+-- src/lib.rt:114:16
+at16-requires-2 : tie.Need-at16-requires-2
+at16-requires-2 c κs = search needs
+
+-- src/lib.rt:107:5
+put-record-requires : tie.Need-put-record-requires
+put-record-requires c κs = search needs
+
+-- src/lib.rt:103:1
+same-length : tie.Need-same-length
+same-length c = search needs
+
+-- src/lib.rt:103:1
+returns : tie.Need-returns
+returns c = rw (c .before .before .before .before .at16 .ensures, c .before .before .before .at162 .ensures, c .before .before .before .before .before .item-kind .ensures) at (c .before .before .put-record .ensures)
+
+pub put-item-spec : {M : Type 1} → statement M
+put-item-spec =
+    tie.close
+    (tie.spec
+    add-i
+    item-kind-requires
+    at16-requires
+    at16-requires-2
+    put-record-requires
+    same-length
+    returns)

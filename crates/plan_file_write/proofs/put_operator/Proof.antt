@@ -1,0 +1,33 @@
+use borrow.Author.Needs.{needs}
+use Rattle.plan_file_write.proofs.put_operator.Statement.{statement}
+use Rattle.plan_file_write.proofs.put_operator.Tie as tie
+use Rattle.plan_file_write.proofs.put_operator.Reads as reads
+use Rattle.plan_file_write.proofs.put_operator.Lts as lts
+use Rattle.lists.proofs.at16.Reads as at16-reads
+use Rattle.plan.proofs.operator_record.Reads as operator-record-reads
+use Rattle.plan_file_write.proofs.put_listed.Reads as put-listed-reads
+
+-- src/lib.rt:229:9
+operator-record-requires : tie.Need-operator-record-requires
+operator-record-requires c κs = search needs
+
+-- src/lib.rt:230:9
+at16-requires : tie.Need-at16-requires
+at16-requires c κs = search needs
+
+-- src/lib.rt:231:5
+put-listed-requires : tie.Need-put-listed-requires
+put-listed-requires c κs = search needs
+
+-- src/lib.rt:213:1
+same-length : tie.Need-same-length
+same-length c = search needs
+
+-- src/lib.rt:213:1
+returns : tie.Need-returns
+returns c = rw (c .before .before .before .before .before .operator-record .ensures, c .before .before .before .before .at16 .ensures) at (c .before .before .put-listed .ensures)
+
+pub put-operator-spec : {M : Type 1} → statement M
+put-operator-spec =
+    tie.close
+    (tie.spec operator-record-requires at16-requires put-listed-requires same-length returns)

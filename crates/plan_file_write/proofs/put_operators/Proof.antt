@@ -1,0 +1,62 @@
+use borrow.Author.Needs.{needs}
+use Rattle.plan_file_write.specs.Written.{operatorBytes}
+use native.Mathlib.Omega.{arith}
+use Prim.Native.Nat.{ℕ, _≤_, _-_}
+use lib.ListN.{length}
+use mathlib.Core.Path.{_≡_, refl, _∙_}
+use Rattle.writing.specs.Text.{Wrote, lines}
+use Rattle.writing.proofs.Wrotes.{wrote-none, wrote-then, lines-more}
+use Rattle.plan_file_write.proofs.put_operators.Statement.{statement}
+use Rattle.plan_file_write.proofs.put_operators.Tie as tie
+use Rattle.plan_file_write.proofs.put_operators.Reads as reads
+use Rattle.plan_file_write.proofs.put_operators.Lts as lts
+use Rattle.plan_file_write.proofs.put_operator.Reads as put-operator-reads
+
+abbrev Inv-loop : tie.InvT-loop
+Inv-loop out₀ at kind code a b c d start first second n p₀ i₀ out p i = (i ≤ n) × (length out ≡ length out₀) × Wrote out₀ at out p (lines i (operatorBytes kind code a b c d start first second))
+
+abbrev μ-loop : tie.MeasureT-loop
+μ-loop out₀ at kind code a b c d start first second n p₀ i₀ out p i = n - i
+
+-- src/lib.rt:252:5
+loop-holds : tie.Need-loop-holds Inv-loop μ-loop
+unfolding lines
+loop-holds c = (omega arith, refl, wrote-none _ _)
+
+-- src/lib.rt:253:9
+put-operator-requires : tie.Need-put-operator-requires Inv-loop μ-loop
+put-operator-requires c κs = search needs
+
+-- src/lib.rt:254:9
+add-i : tie.Need-add-i Inv-loop μ-loop
+add-i c = search needs
+
+-- src/lib.rt:252:5
+loop-less : tie.Need-loop-less Inv-loop μ-loop
+loop-less c = search needs
+
+-- src/lib.rt:252:5
+loop-again : tie.Need-loop-again Inv-loop μ-loop
+loop-again c = (search needs, c .before .before .put-operator .kept .0 ∙ c .before .before .before .before .before .loop .inv .1, rw (lines-more) (wrote-then _ _ _ _ _ _ _ _ (c .before .before .before .before .before .loop .inv .2) (c .before .before .before .before .before .loop .inv .1) (c .before .before .put-operator .ensures)))
+
+-- src/lib.rt:234:1
+same-length : tie.Need-same-length Inv-loop μ-loop
+same-length c = search needs
+
+-- src/lib.rt:234:1
+returns : tie.Need-returns Inv-loop μ-loop
+returns c = let e : c .before .loop .i ≡ c .before .before .before .before .before .before .before .before .before .before .before .before .args .n = omega arith in rw e at (c .before .loop .inv .2)
+
+pub put-operators-spec : {M : Type 1} → statement M
+put-operators-spec =
+    tie.close
+    (tie.spec
+    Inv-loop
+    μ-loop
+    loop-holds
+    put-operator-requires
+    add-i
+    loop-less
+    loop-again
+    same-length
+    returns)

@@ -1,0 +1,35 @@
+use Rattle.plan_file_write.specs.Written.{recordBytes}
+use Rattle.writing.proofs.Wrotes.{wrote-then}
+use borrow.Author.Needs.{needs}
+use Rattle.plan_file_write.proofs.put_record.Statement.{statement}
+use Rattle.plan_file_write.proofs.put_record.Tie as tie
+use Rattle.plan_file_write.proofs.put_record.Reads as reads
+use Rattle.plan_file_write.proofs.put_record.Lts as lts
+use Rattle.kinds.proofs.row_of.Reads as row-of-reads
+use Rattle.plan_file_write.proofs.put_body.Reads as put-body-reads
+use Rattle.writing.proofs.byte.Reads as byte-reads
+
+-- src/lib.rt:86:9
+row-of-requires : tie.Need-row-of-requires
+row-of-requires c κs = search needs
+
+-- src/lib.rt:87:9
+byte-requires : tie.Need-byte-requires
+byte-requires c κs = search needs
+
+-- src/lib.rt:88:5
+put-body-requires : tie.Need-put-body-requires
+put-body-requires c κs = search needs
+
+-- src/lib.rt:83:1
+same-length : tie.Need-same-length
+same-length c = search needs
+
+-- src/lib.rt:83:1
+returns : tie.Need-returns
+unfolding recordBytes
+returns c = rw (c .before .before .before .before .before .before .before .before .row-of .ensures) at (wrote-then _ _ _ _ _ _ _ _ (c .before .before .before .before .before .before .byte .ensures) (c .before .before .before .before .before .before .byte .kept .0) (c .before .before .put-body .ensures))
+
+pub put-record-spec : {M : Type 1} → statement M
+put-record-spec =
+    tie.close (tie.spec row-of-requires byte-requires put-body-requires same-length returns)

@@ -1,0 +1,30 @@
+use borrow.Author.Tests.{ne-eqb}
+use Rattle.plan_file_laws.specs.Writing.{putWord}
+use Rattle.writing.proofs.Wrotes.{wrote-none}
+use borrow.Author.Needs.{needs}
+use Rattle.plan_file_write.proofs.put_word.Statement.{statement}
+use Rattle.plan_file_write.proofs.put_word.Tie as tie
+use Rattle.plan_file_write.proofs.put_word.Reads as reads
+use Rattle.plan_file_write.proofs.put_word.Lts as lts
+use Rattle.plan_file_write.proofs.put2.Reads as put2-reads
+
+-- src/lib.rt:45:9
+returns : tie.Need-returns
+unfolding putWord
+returns c = rw (c .if1 .taken) (wrote-none _ _)
+
+-- src/lib.rt:47:5
+put2-requires : tie.Need-put2-requires
+put2-requires c κs = search needs
+
+-- src/lib.rt:41:1
+same-length : tie.Need-same-length
+same-length c = search needs
+
+-- src/lib.rt:41:1
+returns-2 : tie.Need-returns-2
+unfolding putWord
+returns-2 c = rw (ne-eqb _ 0 (c .before .before .before .before .if1 .left)) (c .before .before .put2 .ensures)
+
+pub put-word-spec : {M : Type 1} → statement M
+put-word-spec = tie.close (tie.spec returns put2-requires same-length returns-2)
