@@ -1,0 +1,4 @@
+pub mod Columns
+pub mod Operators
+pub mod Deriving
+pub mod Residuals

@@ -1,0 +1,20 @@
+use mathlib.Core.Path.{_≡_, refl, sym, ap, _∙_}
+use Rattle.deriving.specs.Operators.{fitted, filtered}
+use Rattle.predicates.specs.Entries.{answered, predicateApplied}
+use Rattle.constraints.specs.declared.Applied.{Applied}
+use borrow.Author.Needs.{needs}
+use Rattle.operator_facts.proofs.filter.Statement.{statement}
+use Rattle.operator_facts.proofs.filter.Tie as tie
+
+apply-to-requires : tie.Need-apply-to-requires
+apply-to-requires c κs = search needs
+
+fit-applied-requires : tie.Need-fit-applied-requires
+fit-applied-requires c κs = search needs
+
+returns : tie.Need-returns
+unfolding filtered predicateApplied
+returns c = c .fit-applied .ensures ∙ ap (λ (a : Applied). fitted (c .before .before .before .before .before .before .before .before .before .before .before .before .before .before .before .before .args .h) (answered (c .before .before .before .before .before .before .before .before .before .before .before .before .before .before .before .before .args .t4) (c .before .before .before .before .before .before .before .before .before .before .before .before .before .before .before .before .args .t4) a)) (c .before .apply-to .ensures)
+
+pub filter-spec : {M : Type 1} → statement M
+filter-spec = tie.close (tie.spec apply-to-requires fit-applied-requires returns)
