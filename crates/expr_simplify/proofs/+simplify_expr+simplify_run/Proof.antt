@@ -1,0 +1,308 @@
+use Rattle.expr_simplify.proofs.Runs.{run-none, run-some, enter-off, enter-past, enter-boolean, enter-other, enter-not, enter-compare, enter-and, enter-or, next-small}
+use Rattle.expr_simplify.proofs.Ways.{off, stay}
+use Rattle.expr_simplify.specs.declared.Tally.{Tally}
+use Rattle.expr_simplify.specs.Passage.{itemsOf, tablesOf, resultOf, outOf, placed}
+use Rattle.simplifying.specs.OneExpression.{operandsFrom, simplifyAt}
+use denote.Ref.{now}
+use Prim.Native.Nat.{ℕ, _+_, _*_, _<_}
+use mathlib.Core.Bool.{true, false}
+use mathlib.Core.Path.{_≡_, ap, _∙_}
+use native.Mathlib.Omega.{arith}
+use borrow.Author.Tests.{not-true, not-false}
+use borrow.Author.Needs.{needs}
+use borrow.Fn.Kinds.{In}
+use borrow.Fn.PlainCycle.{Measures, is, falls, and}
+use Rattle.expr_simplify.proofs.simplify_expr.Reads as simplify-expr
+use Rattle.expr_simplify.proofs.simplify_expr.Kinds as simplify-expr-kinds
+use Rattle.expr_simplify.proofs.+simplify_expr+simplify_run.Lts-simplify_expr as simplify-expr-lts
+use Rattle.expr_simplify.proofs.simplify_run.Reads as simplify-run
+use Rattle.expr_simplify.proofs.simplify_run.Kinds as simplify-run-kinds
+use Rattle.expr_simplify.proofs.+simplify_expr+simplify_run.Lts-simplify_run as simplify-run-lts
+use Rattle.expr_simplify.proofs.bottom.Reads as bottom-reads
+use Rattle.expr_simplify.proofs.compare_step.Reads as compare-step-reads
+use Rattle.expr_simplify.proofs.count.Reads as count-reads
+use Rattle.expr_simplify.proofs.is_literal.Reads as is-literal-reads
+use Rattle.expr_simplify.proofs.no_tally.Reads as no-tally-reads
+use Rattle.expr_simplify.proofs.not_step.Reads as not-step-reads
+use Rattle.expr_simplify.proofs.put_back.Reads as put-back-reads
+use Rattle.expr_simplify.proofs.refused.Reads as refused-reads
+use Rattle.expr_simplify.proofs.same.Reads as same-reads
+use Rattle.expr_simplify.proofs.shape_at.Reads as shape-at-reads
+use Rattle.lists.proofs.at16.Reads as at16-reads
+use Rattle.expr_simplify.proofs.+simplify_expr+simplify_run.{statement}
+use Rattle.expr_simplify.proofs.+simplify_expr+simplify_run.Tie.{close}
+
+abbrev μ-simplify-expr : Measures 8 simplify-expr-kinds.ps ℕ
+μ-simplify-expr κs a = a .1 .1 .1 .1 .1 .1 .1 .1 .1 .1 .0 * 1048576
+
+abbrev μ-simplify-run : Measures 8 simplify-run-kinds.ps ℕ
+μ-simplify-run κs a = a .1 .1 .1 .1 .1 .1 .1 .1 .1 .0 * 1048576 + a .1 .1 .1 .1 .1 .1 .1 .1 .1 .1 .1 .1 .0
+
+abbrev simplify-expr-at : ℕ → In 8 simplify-expr-kinds.ps
+simplify-expr-at t =
+    and 8 simplify-expr-kinds.ps (is 8 simplify-expr-kinds.ps μ-simplify-expr t) simplify-expr.Pre
+
+abbrev simplify-expr-below : ℕ → In 8 simplify-expr-kinds.ps
+simplify-expr-below t =
+    and
+    8
+    simplify-expr-kinds.ps
+    (falls 8 simplify-expr-kinds.ps _<_ μ-simplify-expr t)
+    simplify-expr.Pre
+
+abbrev simplify-run-at : ℕ → In 8 simplify-run-kinds.ps
+simplify-run-at t =
+    and 8 simplify-run-kinds.ps (is 8 simplify-run-kinds.ps μ-simplify-run t) simplify-run.Pre
+
+abbrev simplify-run-below : ℕ → In 8 simplify-run-kinds.ps
+simplify-run-below t =
+    and
+    8
+    simplify-run-kinds.ps
+    (falls 8 simplify-run-kinds.ps _<_ μ-simplify-run t)
+    simplify-run.Pre
+
+abbrev simplify-expr-calls : ℕ → simplify-expr-lts.Claims
+simplify-expr-calls t = (refused-reads.Asked, refused-reads.Learnt, same-reads.Asked, same-reads.Learnt, shape-at-reads.Asked, shape-at-reads.Learnt, simplify-expr-below t, simplify-expr.Post, not-step-reads.Asked, not-step-reads.Learnt, compare-step-reads.Asked, compare-step-reads.Learnt, no-tally-reads.Asked, no-tally-reads.Learnt, simplify-run-below t, simplify-run.Post)
+
+abbrev simplify-run-calls : ℕ → simplify-run-lts.Claims
+simplify-run-calls t = (bottom-reads.Asked, bottom-reads.Learnt, at16-reads.Asked, at16-reads.Learnt, simplify-expr-below t, simplify-expr.Post, shape-at-reads.Asked, shape-at-reads.Learnt, is-literal-reads.Asked, is-literal-reads.Learnt, count-reads.Asked, count-reads.Learnt, simplify-run-below t, simplify-run.Post, put-back-reads.Asked, put-back-reads.Learnt)
+
+simplify-expr-refused-requires : (t : ℕ) → simplify-expr-lts.Need-refused-requires (simplify-expr-calls t) (simplify-expr-at t) simplify-expr.Post
+simplify-expr-refused-requires t c κs =
+    search needs
+
+simplify-expr-returns : (t : ℕ) → simplify-expr-lts.Need-returns (simplify-expr-calls t) (simplify-expr-at t) simplify-expr.Post
+simplify-expr-returns t c =
+    let a = c .before .before .before .args in off (now (a .kind)) (now (a .code)) (now (a .a)) (now (a .b)) (now (a .start)) (now (a .bits)) (now (a .ia)) (now (a .ib)) (c .refused .result) (a .s) (c .refused .ensures) ∙ enter-off (a .h) (a .s .ok) (tablesOf (now (a .kind)) (now (a .code)) (now (a .a)) (now (a .b)) (now (a .start)) (now (a .bits)) (now (a .ia)) (now (a .ib)) (a .s)) (a .e) (not-true _ (c .before .if1 .taken))
+
+simplify-expr-same-requires : (t : ℕ) → simplify-expr-lts.Need-same-requires (simplify-expr-calls t) (simplify-expr-at t) simplify-expr.Post
+simplify-expr-same-requires t c κs =
+    search needs
+
+simplify-expr-returns-2 : (t : ℕ) → simplify-expr-lts.Need-returns-2 (simplify-expr-calls t) (simplify-expr-at t) simplify-expr.Post
+simplify-expr-returns-2 t c =
+    let a = c .before .before .before .before .args in stay (now (a .kind)) (now (a .code)) (now (a .a)) (now (a .b)) (now (a .start)) (now (a .bits)) (now (a .ia)) (now (a .ib)) (c .same .result) (a .s) (a .e) (c .same .ensures) ∙ enter-past (a .h) (a .s .ok) (tablesOf (now (a .kind)) (now (a .code)) (now (a .a)) (now (a .b)) (now (a .start)) (now (a .bits)) (now (a .ia)) (now (a .ib)) (a .s)) (a .e) (not-false _ (c .before .before .if1 .left)) (c .before .if2 .taken)
+
+simplify-expr-shape-at-requires : (t : ℕ) → simplify-expr-lts.Need-shape-at-requires (simplify-expr-calls t) (simplify-expr-at t) simplify-expr.Post
+simplify-expr-shape-at-requires t c κs =
+    search needs
+
+simplify-expr-enum-told : (t : ℕ) → simplify-expr-lts.Need-enum-told (simplify-expr-calls t) (simplify-expr-at t) simplify-expr.Post
+simplify-expr-enum-told t c =
+    search needs
+
+simplify-expr-same-requires-2 : (t : ℕ) → simplify-expr-lts.Need-same-requires-2 (simplify-expr-calls t) (simplify-expr-at t) simplify-expr.Post
+simplify-expr-same-requires-2 t c κs =
+    search needs
+
+simplify-expr-enum-known-shape : (t : ℕ) → simplify-expr-lts.Need-enum-known-shape (simplify-expr-calls t) (simplify-expr-at t) simplify-expr.Post
+simplify-expr-enum-known-shape t c =
+    search needs
+
+simplify-expr-simplify-expr-requires : (t : ℕ) → simplify-expr-lts.Need-simplify-expr-requires (simplify-expr-calls t) (simplify-expr-at t) simplify-expr.Post
+simplify-expr-simplify-expr-requires t c κs =
+    (omega (arith, c .before .before .before .before .before .before .before .before .before .before .before .before .before .before .before .before .before .before .before .before .before .before .before .before .if2 .left, c .before .before .before .before .before .before .before .before .before .before .before .before .before .before .before .before .before .before .before .before .before .before .before .before .before .before .before .pre .0), tt)
+
+simplify-expr-not-step-requires : (t : ℕ) → simplify-expr-lts.Need-not-step-requires (simplify-expr-calls t) (simplify-expr-at t) simplify-expr.Post
+simplify-expr-not-step-requires t c κs =
+    search needs
+
+simplify-expr-enum-known-shape-2 : (t : ℕ) → simplify-expr-lts.Need-enum-known-shape-2 (simplify-expr-calls t) (simplify-expr-at t) simplify-expr.Post
+simplify-expr-enum-known-shape-2 t c =
+    search needs
+
+simplify-expr-simplify-expr-requires-2 : (t : ℕ) → simplify-expr-lts.Need-simplify-expr-requires-2 (simplify-expr-calls t) (simplify-expr-at t) simplify-expr.Post
+simplify-expr-simplify-expr-requires-2 t c κs =
+    (omega (arith, c .before .before .before .before .before .before .before .before .before .before .before .before .before .before .before .before .before .before .before .before .before .before .before .before .if2 .left, c .before .before .before .before .before .before .before .before .before .before .before .before .before .before .before .before .before .before .before .before .before .before .before .before .before .before .before .pre .0), tt)
+
+simplify-expr-simplify-expr-requires-3 : (t : ℕ) → simplify-expr-lts.Need-simplify-expr-requires-3 (simplify-expr-calls t) (simplify-expr-at t) simplify-expr.Post
+simplify-expr-simplify-expr-requires-3 t c κs =
+    (omega (arith, c .before .before .before .before .before .before .before .before .before .before .before .before .before .before .before .before .before .before .before .before .before .before .before .before .before .before .before .before .before .before .before .before .before .if2 .left, c .before .before .before .before .before .before .before .before .before .before .before .before .before .before .before .before .before .before .before .before .before .before .before .before .before .before .before .before .before .before .before .before .before .before .before .before .pre .0), tt)
+
+simplify-expr-compare-step-requires : (t : ℕ) → simplify-expr-lts.Need-compare-step-requires (simplify-expr-calls t) (simplify-expr-at t) simplify-expr.Post
+simplify-expr-compare-step-requires t c κs =
+    search needs
+
+simplify-expr-enum-known-shape-3 : (t : ℕ) → simplify-expr-lts.Need-enum-known-shape-3 (simplify-expr-calls t) (simplify-expr-at t) simplify-expr.Post
+simplify-expr-enum-known-shape-3 t c =
+    search needs
+
+simplify-expr-no-tally-requires : (t : ℕ) → simplify-expr-lts.Need-no-tally-requires (simplify-expr-calls t) (simplify-expr-at t) simplify-expr.Post
+simplify-expr-no-tally-requires t c κs =
+    search needs
+
+simplify-expr-cast-simplify-run : (t : ℕ) → simplify-expr-lts.Need-cast-simplify-run (simplify-expr-calls t) (simplify-expr-at t) simplify-expr.Post
+simplify-expr-cast-simplify-run t c =
+    search needs
+
+simplify-expr-cast-simplify-run-2 : (t : ℕ) → simplify-expr-lts.Need-cast-simplify-run-2 (simplify-expr-calls t) (simplify-expr-at t) simplify-expr.Post
+simplify-expr-cast-simplify-run-2 t c =
+    search needs
+
+simplify-expr-simplify-run-requires : (t : ℕ) → simplify-expr-lts.Need-simplify-run-requires (simplify-expr-calls t) (simplify-expr-at t) simplify-expr.Post
+simplify-expr-simplify-run-requires t c κs =
+    let z : c .before .before .before .before .before .before .before .before .no-tally .result .kept ≡ 0 = ap (λ (x : Tally). x .kept) (c .before .before .before .before .before .before .before .before .no-tally .ensures) in (omega (arith, c .before .before .before .before .before .before .before .before .before .before .before .before .before .before .before .before .before .before .before .before .before .before .before .before .before .if2 .left, c .before .before .before .before .before .before .before .before .before .before .before .before .before .before .before .before .before .before .before .before .before .before .before .before .before .before .before .before .pre .0, c .before .before .before .before .before .before .before .before .before .known-told3 .given), (omega (arith, c .before .before .before .before .before .before .before .before .before .known-told3 .given), omega (arith, z, c .before .before .before .before .before .before .before .before .before .known-told3 .given)))
+
+simplify-expr-enum-known-shape-4 : (t : ℕ) → simplify-expr-lts.Need-enum-known-shape-4 (simplify-expr-calls t) (simplify-expr-at t) simplify-expr.Post
+simplify-expr-enum-known-shape-4 t c =
+    search needs
+
+simplify-expr-no-tally-requires-2 : (t : ℕ) → simplify-expr-lts.Need-no-tally-requires-2 (simplify-expr-calls t) (simplify-expr-at t) simplify-expr.Post
+simplify-expr-no-tally-requires-2 t c κs =
+    search needs
+
+simplify-expr-cast-simplify-run-3 : (t : ℕ) → simplify-expr-lts.Need-cast-simplify-run-3 (simplify-expr-calls t) (simplify-expr-at t) simplify-expr.Post
+simplify-expr-cast-simplify-run-3 t c =
+    search needs
+
+simplify-expr-cast-simplify-run-4 : (t : ℕ) → simplify-expr-lts.Need-cast-simplify-run-4 (simplify-expr-calls t) (simplify-expr-at t) simplify-expr.Post
+simplify-expr-cast-simplify-run-4 t c =
+    search needs
+
+simplify-expr-simplify-run-requires-2 : (t : ℕ) → simplify-expr-lts.Need-simplify-run-requires-2 (simplify-expr-calls t) (simplify-expr-at t) simplify-expr.Post
+simplify-expr-simplify-run-requires-2 t c κs =
+    let z : c .before .before .before .before .before .before .before .before .no-tally2 .result .kept ≡ 0 = ap (λ (x : Tally). x .kept) (c .before .before .before .before .before .before .before .before .no-tally2 .ensures) in (omega (arith, c .before .before .before .before .before .before .before .before .before .before .before .before .before .before .before .before .before .before .before .before .before .before .before .before .before .if2 .left, c .before .before .before .before .before .before .before .before .before .before .before .before .before .before .before .before .before .before .before .before .before .before .before .before .before .before .before .before .pre .0, c .before .before .before .before .before .before .before .before .before .known-told4 .given), (omega (arith, c .before .before .before .before .before .before .before .before .before .known-told4 .given), omega (arith, z, c .before .before .before .before .before .before .before .before .before .known-told4 .given)))
+
+simplify-expr-enum-told-2 : (t : ℕ) → simplify-expr-lts.Need-enum-told-2 (simplify-expr-calls t) (simplify-expr-at t) simplify-expr.Post
+simplify-expr-enum-told-2 t c =
+    search needs
+
+simplify-expr-same-requires-3 : (t : ℕ) → simplify-expr-lts.Need-same-requires-3 (simplify-expr-calls t) (simplify-expr-at t) simplify-expr.Post
+simplify-expr-same-requires-3 t c κs =
+    search needs
+
+simplify-expr-returns-3 : (t : ℕ) → simplify-expr-lts.Need-returns-3 (simplify-expr-calls t) (simplify-expr-at t) simplify-expr.Post
+simplify-expr-returns-3 t c =
+    let a = c .before .before .before .before .before .before .before .before .before .before .before .before .before .before .before .before .before .before .before .args in stay (now (a .kind)) (now (a .code)) (now (a .a)) (now (a .b)) (now (a .start)) (now (a .bits)) (now (a .ia)) (now (a .ib)) (c .same2 .result) (a .s) (a .e) (c .same2 .ensures) ∙ enter-boolean (a .h) (a .s .ok) (tablesOf (now (a .kind)) (now (a .code)) (now (a .a)) (now (a .b)) (now (a .start)) (now (a .bits)) (now (a .ia)) (now (a .ib)) (a .s)) (a .e) (not-false _ (c .before .before .before .before .before .before .before .before .before .before .before .before .before .before .before .before .before .if1 .left)) (c .before .before .before .before .before .before .before .before .before .before .before .before .before .before .before .before .if2 .left) (c .before .before .before .shape-at .result) (c .before .before .before .shape-at .ensures) _ (c .before .enum-told .given .1)
+
+simplify-expr-returns-4 : (t : ℕ) → simplify-expr-lts.Need-returns-4 (simplify-expr-calls t) (simplify-expr-at t) simplify-expr.Post
+simplify-expr-returns-4 t c =
+    let a = c .before .before .before .before .before .before .before .before .before .before .before .before .before .before .before .before .before .before .before .before .before .before .before .before .before .before .before .before .before .before .before .before .before .before .before .args in c .not-step .ensures (c .before .before .before .before .before .before .before .simplify-expr .last .1 .1 .1 .1 .1 .1 .0) (c .before .before .before .before .before .before .before .simplify-expr .last .1 .1 .1 .1 .1 .1 .1 .0) ∙ enter-not (a .h) (a .s .ok) (tablesOf (now (a .kind)) (now (a .code)) (now (a .a)) (now (a .b)) (now (a .start)) (now (a .bits)) (now (a .ia)) (now (a .ib)) (a .s)) (a .e) (not-false _ (c .before .before .before .before .before .before .before .before .before .before .before .before .before .before .before .before .before .before .before .before .before .before .before .before .before .before .before .before .before .before .before .before .before .if1 .left)) (c .before .before .before .before .before .before .before .before .before .before .before .before .before .before .before .before .before .before .before .before .before .before .before .before .before .before .before .before .before .before .before .before .if2 .left) (c .before .before .before .before .before .before .before .before .before .before .before .before .before .before .before .before .before .before .before .shape-at .result) (c .before .before .before .before .before .before .before .before .before .before .before .before .before .before .before .before .before .before .before .shape-at .ensures) (c .before .before .before .before .before .before .before .before .before .before .before .before .before .before .before .before .before .shape .given .0 .0) (c .before .before .before .before .before .before .before .before .before .before .before .before .before .before .before .before .before .shape .given .1) (resultOf (c .before .before .before .before .before .before .before .simplify-expr .last .0) (c .before .before .before .before .before .before .before .simplify-expr .last .1 .0) (c .before .before .before .before .before .before .before .simplify-expr .last .1 .1 .0) (c .before .before .before .before .before .before .before .simplify-expr .last .1 .1 .1 .0) (c .before .before .before .before .before .before .before .simplify-expr .last .1 .1 .1 .1 .0) (c .before .before .before .before .before .before .before .simplify-expr .last .1 .1 .1 .1 .1 .0) (c .before .before .before .before .before .before .before .simplify-expr .last .1 .1 .1 .1 .1 .1 .0) (c .before .before .before .before .before .before .before .simplify-expr .last .1 .1 .1 .1 .1 .1 .1 .0) (c .before .before .before .before .before .before .before .simplify-expr .result)) (c .before .before .before .before .before .before .before .simplify-expr .ensures)
+
+simplify-expr-returns-5 : (t : ℕ) → simplify-expr-lts.Need-returns-5 (simplify-expr-calls t) (simplify-expr-at t) simplify-expr.Post
+simplify-expr-returns-5 t c =
+    let a = c .before .before .before .before .before .before .before .before .before .before .before .before .before .before .before .before .before .before .before .before .before .before .before .before .before .before .before .before .before .before .before .before .before .before .before .before .before .before .before .before .before .before .before .before .args in c .compare-step .ensures (c .before .before .before .before .before .before .before .simplify-expr3 .last .1 .1 .1 .1 .1 .1 .0) (c .before .before .before .before .before .before .before .simplify-expr3 .last .1 .1 .1 .1 .1 .1 .1 .0) ∙ enter-compare (a .h) (a .s .ok) (tablesOf (now (a .kind)) (now (a .code)) (now (a .a)) (now (a .b)) (now (a .start)) (now (a .bits)) (now (a .ia)) (now (a .ib)) (a .s)) (a .e) (not-false _ (c .before .before .before .before .before .before .before .before .before .before .before .before .before .before .before .before .before .before .before .before .before .before .before .before .before .before .before .before .before .before .before .before .before .before .before .before .before .before .before .before .before .before .if1 .left)) (c .before .before .before .before .before .before .before .before .before .before .before .before .before .before .before .before .before .before .before .before .before .before .before .before .before .before .before .before .before .before .before .before .before .before .before .before .before .before .before .before .before .if2 .left) (c .before .before .before .before .before .before .before .before .before .before .before .before .before .before .before .before .before .before .before .before .before .before .before .before .before .before .before .before .shape-at .result) (c .before .before .before .before .before .before .before .before .before .before .before .before .before .before .before .before .before .before .before .before .before .before .before .before .before .before .before .before .shape-at .ensures) (c .before .before .before .before .before .before .before .before .before .before .before .before .before .before .before .before .before .before .before .before .before .before .before .before .before .before .shape2 .given .0 .0) (c .before .before .before .before .before .before .before .before .before .before .before .before .before .before .before .before .before .before .before .before .before .before .before .before .before .before .shape2 .given .0 .1 .0) (c .before .before .before .before .before .before .before .before .before .before .before .before .before .before .before .before .before .before .before .before .before .before .before .before .before .before .shape2 .given .0 .1 .1 .0) (c .before .before .before .before .before .before .before .before .before .before .before .before .before .before .before .before .before .before .before .before .before .before .before .before .before .before .shape2 .given .1) (resultOf (c .before .before .before .before .before .before .before .before .before .before .before .before .before .before .before .before .simplify-expr2 .last .0) (c .before .before .before .before .before .before .before .before .before .before .before .before .before .before .before .before .simplify-expr2 .last .1 .0) (c .before .before .before .before .before .before .before .before .before .before .before .before .before .before .before .before .simplify-expr2 .last .1 .1 .0) (c .before .before .before .before .before .before .before .before .before .before .before .before .before .before .before .before .simplify-expr2 .last .1 .1 .1 .0) (c .before .before .before .before .before .before .before .before .before .before .before .before .before .before .before .before .simplify-expr2 .last .1 .1 .1 .1 .0) (c .before .before .before .before .before .before .before .before .before .before .before .before .before .before .before .before .simplify-expr2 .last .1 .1 .1 .1 .1 .0) (c .before .before .before .before .before .before .before .before .before .before .before .before .before .before .before .before .simplify-expr2 .last .1 .1 .1 .1 .1 .1 .0) (c .before .before .before .before .before .before .before .before .before .before .before .before .before .before .before .before .simplify-expr2 .last .1 .1 .1 .1 .1 .1 .1 .0) (c .before .before .before .before .before .before .before .before .before .before .before .before .before .before .before .before .simplify-expr2 .result)) (resultOf (c .before .before .before .before .before .before .before .simplify-expr3 .last .0) (c .before .before .before .before .before .before .before .simplify-expr3 .last .1 .0) (c .before .before .before .before .before .before .before .simplify-expr3 .last .1 .1 .0) (c .before .before .before .before .before .before .before .simplify-expr3 .last .1 .1 .1 .0) (c .before .before .before .before .before .before .before .simplify-expr3 .last .1 .1 .1 .1 .0) (c .before .before .before .before .before .before .before .simplify-expr3 .last .1 .1 .1 .1 .1 .0) (c .before .before .before .before .before .before .before .simplify-expr3 .last .1 .1 .1 .1 .1 .1 .0) (c .before .before .before .before .before .before .before .simplify-expr3 .last .1 .1 .1 .1 .1 .1 .1 .0) (c .before .before .before .before .before .before .before .simplify-expr3 .result)) (c .before .before .before .before .before .before .before .before .before .before .before .before .before .before .before .before .simplify-expr2 .ensures) (c .before .before .before .before .before .before .before .simplify-expr3 .ensures)
+
+simplify-expr-returns-6 : (t : ℕ) → simplify-expr-lts.Need-returns-6 (simplify-expr-calls t) (simplify-expr-at t) simplify-expr.Post
+simplify-expr-returns-6 t c =
+    let a = c .before .before .before .before .before .before .before .before .before .before .before .before .before .before .before .before .before .before .before .before .before .before .before .before .before .before .before .before .before .before .args in enter-and (a .h) (a .s .ok) (tablesOf (now (a .kind)) (now (a .code)) (now (a .a)) (now (a .b)) (now (a .start)) (now (a .bits)) (now (a .ia)) (now (a .ib)) (a .s)) (a .e) (not-false _ (c .before .before .before .before .before .before .before .before .before .before .before .before .before .before .before .before .before .before .before .before .before .before .before .before .before .before .before .before .if1 .left)) (c .before .before .before .before .before .before .before .before .before .before .before .before .before .before .before .before .before .before .before .before .before .before .before .before .before .before .before .if2 .left) (c .before .before .before .before .before .before .before .before .before .before .before .before .before .before .shape-at .result) (c .before .before .before .before .before .before .before .before .before .before .before .before .before .before .shape-at .ensures) (c .before .before .before .before .before .before .before .before .before .before .before .before .shape3 .given .0 .0) (c .before .before .before .before .before .before .before .before .before .before .before .before .shape3 .given .0 .1 .0) (c .before .before .before .before .before .before .before .before .before .before .before .before .shape3 .given .1) (outOf (c .before .simplify-run .last .0) (c .before .simplify-run .last .1 .0) (c .before .simplify-run .last .1 .1 .0) (c .before .simplify-run .last .1 .1 .1 .0) (c .before .simplify-run .last .1 .1 .1 .1 .0) (c .before .simplify-run .last .1 .1 .1 .1 .1 .0) (c .before .simplify-run .last .1 .1 .1 .1 .1 .1 .0) (c .before .simplify-run .last .1 .1 .1 .1 .1 .1 .1 .0) (c .before .simplify-run .result)) (c .before .simplify-run .ensures ∙ ap (λ (u : Tally). placed true (a .e) u (operandsFrom simplifyAt true (a .e) (a .s .ok) (tablesOf (now (a .kind)) (now (a .code)) (now (a .a)) (now (a .b)) (now (a .start)) (now (a .bits)) (now (a .ia)) (now (a .ib)) (a .s)) (c .before .before .before .before .before .before .before .before .before .before .before .before .shape3 .given .0 .0) (c .before .before .before .before .before .before .before .before .before .before .before .before .shape3 .given .0 .1 .0))) (c .before .before .before .before .before .before .before .before .before .before .no-tally .ensures))
+
+simplify-expr-returns-7 : (t : ℕ) → simplify-expr-lts.Need-returns-7 (simplify-expr-calls t) (simplify-expr-at t) simplify-expr.Post
+simplify-expr-returns-7 t c =
+    let a = c .before .before .before .before .before .before .before .before .before .before .before .before .before .before .before .before .before .before .before .before .before .before .before .before .before .before .before .before .before .before .args in enter-or (a .h) (a .s .ok) (tablesOf (now (a .kind)) (now (a .code)) (now (a .a)) (now (a .b)) (now (a .start)) (now (a .bits)) (now (a .ia)) (now (a .ib)) (a .s)) (a .e) (not-false _ (c .before .before .before .before .before .before .before .before .before .before .before .before .before .before .before .before .before .before .before .before .before .before .before .before .before .before .before .before .if1 .left)) (c .before .before .before .before .before .before .before .before .before .before .before .before .before .before .before .before .before .before .before .before .before .before .before .before .before .before .before .if2 .left) (c .before .before .before .before .before .before .before .before .before .before .before .before .before .before .shape-at .result) (c .before .before .before .before .before .before .before .before .before .before .before .before .before .before .shape-at .ensures) (c .before .before .before .before .before .before .before .before .before .before .before .before .shape4 .given .0 .0) (c .before .before .before .before .before .before .before .before .before .before .before .before .shape4 .given .0 .1 .0) (c .before .before .before .before .before .before .before .before .before .before .before .before .shape4 .given .1) (outOf (c .before .simplify-run2 .last .0) (c .before .simplify-run2 .last .1 .0) (c .before .simplify-run2 .last .1 .1 .0) (c .before .simplify-run2 .last .1 .1 .1 .0) (c .before .simplify-run2 .last .1 .1 .1 .1 .0) (c .before .simplify-run2 .last .1 .1 .1 .1 .1 .0) (c .before .simplify-run2 .last .1 .1 .1 .1 .1 .1 .0) (c .before .simplify-run2 .last .1 .1 .1 .1 .1 .1 .1 .0) (c .before .simplify-run2 .result)) (c .before .simplify-run2 .ensures ∙ ap (λ (u : Tally). placed false (a .e) u (operandsFrom simplifyAt false (a .e) (a .s .ok) (tablesOf (now (a .kind)) (now (a .code)) (now (a .a)) (now (a .b)) (now (a .start)) (now (a .bits)) (now (a .ia)) (now (a .ib)) (a .s)) (c .before .before .before .before .before .before .before .before .before .before .before .before .shape4 .given .0 .0) (c .before .before .before .before .before .before .before .before .before .before .before .before .shape4 .given .0 .1 .0))) (c .before .before .before .before .before .before .before .before .before .before .no-tally2 .ensures))
+
+simplify-expr-returns-8 : (t : ℕ) → simplify-expr-lts.Need-returns-8 (simplify-expr-calls t) (simplify-expr-at t) simplify-expr.Post
+simplify-expr-returns-8 t c =
+    let a = c .before .before .before .before .before .before .before .before .before .before .before .before .before .before .before .before .before .before .before .args in stay (now (a .kind)) (now (a .code)) (now (a .a)) (now (a .b)) (now (a .start)) (now (a .bits)) (now (a .ia)) (now (a .ib)) (c .same3 .result) (a .s) (a .e) (c .same3 .ensures) ∙ enter-other (a .h) (a .s .ok) (tablesOf (now (a .kind)) (now (a .code)) (now (a .a)) (now (a .b)) (now (a .start)) (now (a .bits)) (now (a .ia)) (now (a .ib)) (a .s)) (a .e) (not-false _ (c .before .before .before .before .before .before .before .before .before .before .before .before .before .before .before .before .before .if1 .left)) (c .before .before .before .before .before .before .before .before .before .before .before .before .before .before .before .before .if2 .left) (c .before .before .before .shape-at .result) (c .before .before .before .shape-at .ensures) (c .before .enum-told2 .given .1)
+
+simplify-run-bottom-requires : (t : ℕ) → simplify-run-lts.Need-bottom-requires (simplify-run-calls t) (simplify-run-at t) simplify-run.Post
+simplify-run-bottom-requires t c κs =
+    search needs
+
+simplify-run-returns : (t : ℕ) → simplify-run-lts.Need-returns (simplify-run-calls t) (simplify-run-at t) simplify-run.Post
+simplify-run-returns t c =
+    let a = c .before .before .before .before .before .before .before .before .args in run-none (a .all) (a .h) (a .s .ok) (tablesOf (now (a .kind)) (now (a .code)) (now (a .a)) (now (a .b)) (now (a .start)) (now (a .bits)) (now (a .ia)) (now (a .ib)) (a .s)) (a .p) (a .m) (a .t) (c .before .before .before .before .before .before .before .if1 .taken) _ (c .bottom .ensures (now (a .ia)) (now (a .ib)))
+
+simplify-run-at16-requires : (t : ℕ) → simplify-run-lts.Need-at16-requires (simplify-run-calls t) (simplify-run-at t) simplify-run.Post
+simplify-run-at16-requires t c κs =
+    search needs
+
+simplify-run-simplify-expr-requires : (t : ℕ) → simplify-run-lts.Need-simplify-expr-requires (simplify-run-calls t) (simplify-run-at t) simplify-run.Post
+simplify-run-simplify-expr-requires t c κs =
+    (omega (arith, c .before .before .before .before .before .before .before .before .before .before .before .if1 .left, c .before .before .before .before .before .before .before .before .before .before .before .before .pre .0), tt)
+
+simplify-run-cast-shape-at : (t : ℕ) → simplify-run-lts.Need-cast-shape-at (simplify-run-calls t) (simplify-run-at t) simplify-run.Post
+simplify-run-cast-shape-at t c =
+    search needs
+
+simplify-run-shape-at-requires : (t : ℕ) → simplify-run-lts.Need-shape-at-requires (simplify-run-calls t) (simplify-run-at t) simplify-run.Post
+simplify-run-shape-at-requires t c κs =
+    search needs
+
+simplify-run-is-literal-requires : (t : ℕ) → simplify-run-lts.Need-is-literal-requires (simplify-run-calls t) (simplify-run-at t) simplify-run.Post
+simplify-run-is-literal-requires t c κs =
+    search needs
+
+simplify-run-is-literal-requires-2 : (t : ℕ) → simplify-run-lts.Need-is-literal-requires-2 (simplify-run-calls t) (simplify-run-at t) simplify-run.Post
+simplify-run-is-literal-requires-2 t c κs =
+    search needs
+
+simplify-run-count-requires : (t : ℕ) → simplify-run-lts.Need-count-requires (simplify-run-calls t) (simplify-run-at t) simplify-run.Post
+simplify-run-count-requires t c κs =
+    omega (arith, c .before .before .before .before .before .before .before .before .before .before .before .before .before .before .before .before .before .before .before .before .before .before .before .before .before .before .before .if1 .left, c .before .before .before .before .before .before .before .before .before .before .before .before .before .before .before .before .before .before .before .before .before .before .before .before .before .before .before .before .pre .1 .1)
+
+simplify-run-add-simplify-run : (t : ℕ) → simplify-run-lts.Need-add-simplify-run (simplify-run-calls t) (simplify-run-at t) simplify-run.Post
+simplify-run-add-simplify-run t c =
+    omega (arith, c .before .before .before .before .before .before .before .before .before .before .before .before .before .before .before .before .before .before .before .before .before .before .before .before .before .before .before .before .before .before .before .before .before .before .before .before .before .pre .1 .0)
+
+simplify-run-sub-simplify-run : (t : ℕ) → simplify-run-lts.Need-sub-simplify-run (simplify-run-calls t) (simplify-run-at t) simplify-run.Post
+simplify-run-sub-simplify-run t c =
+    omega (arith, c .before .before .before .before .before .before .before .before .before .before .before .before .before .before .before .before .before .before .before .before .before .before .before .before .before .before .before .before .before .before .before .before .before .before .before .before .if1 .left)
+
+simplify-run-simplify-run-requires : (t : ℕ) → simplify-run-lts.Need-simplify-run-requires (simplify-run-calls t) (simplify-run-at t) simplify-run.Post
+simplify-run-simplify-run-requires t c κs =
+    let a = c .before .before .before .before .before .before .before .before .before .before .before .before .before .before .before .before .before .before .before .before .before .before .before .before .before .before .before .before .before .before .before .before .before .before .before .before .before .args in (omega (arith, c .before .before .before .before .before .before .before .before .before .before .before .before .before .before .before .before .before .before .before .before .before .before .before .before .before .before .before .before .before .before .before .before .before .before .before .before .if1 .left, c .before .before .before .before .before .before .before .before .before .before .before .before .before .before .before .before .before .before .before .before .before .before .before .before .before .before .before .before .before .before .before .before .before .before .before .before .before .pre .0), (omega (arith, c .before .before .before .before .before .before .before .before .before .before .before .before .before .before .before .before .before .before .before .before .before .before .before .before .before .before .before .before .before .before .before .before .before .before .before .before .if1 .left, c .before .before .before .before .before .before .before .before .before .before .before .before .before .before .before .before .before .before .before .before .before .before .before .before .before .before .before .before .before .before .before .before .before .before .before .before .before .pre .1 .0), next-small (c .before .before .before .before .before .before .before .before .count .result) (a .t) (c .before .before .before .before .before .before .before .before .before .before .before .before .before .before .before .before .before .before .before .before .before .before .before .before .before .before .before .before .before .before .before .before .before .at16 .result) (c .before .before .before .before .before .before .before .before .before .before .before .before .before .before .before .before .before .before .before .before .before .before .before .before .simplify-expr .result .at) (c .before .before .before .before .before .before .before .before .before .before .is-literal .result) (c .before .before .before .before .before .before .before .before .before .is-literal2 .result) (a .m) (c .before .before .before .before .before .before .before .before .count .ensures) (c .before .before .before .before .before .before .before .before .before .before .before .before .before .before .before .before .before .before .before .before .before .before .before .before .before .before .before .before .before .before .before .before .before .before .before .before .if1 .left) (c .before .before .before .before .before .before .before .before .before .before .before .before .before .before .before .before .before .before .before .before .before .before .before .before .before .before .before .before .before .before .before .before .before .before .before .before .before .pre .1 .1)))
+
+simplify-run-put-back-requires : (t : ℕ) → simplify-run-lts.Need-put-back-requires (simplify-run-calls t) (simplify-run-at t) simplify-run.Post
+simplify-run-put-back-requires t c κs =
+    search needs
+
+simplify-run-returns-2 : (t : ℕ) → simplify-run-lts.Need-returns-2 (simplify-run-calls t) (simplify-run-at t) simplify-run.Post
+simplify-run-returns-2 t c =
+    let a = c .before .before .before .before .before .before .before .before .before .before .before .before .before .before .before .before .before .before .before .before .before .before .before .before .before .before .before .before .before .before .before .before .before .before .before .before .before .before .before .before .before .args in run-some (a .all) (a .h) (a .s .ok) (tablesOf (now (a .kind)) (now (a .code)) (now (a .a)) (now (a .b)) (now (a .start)) (now (a .bits)) (now (a .ia)) (now (a .ib)) (a .s)) (a .p) (a .m) (a .t) (c .before .before .before .before .before .before .before .before .before .before .before .before .before .before .before .before .before .before .before .before .before .before .before .before .before .before .before .before .before .before .before .before .before .before .before .before .before .before .before .before .if1 .left) (c .before .before .before .before .before .before .before .before .before .before .before .before .before .before .before .before .before .before .before .before .before .before .before .before .before .before .before .before .before .before .before .before .before .before .before .before .before .at16 .result) (c .before .before .before .before .before .before .before .before .before .before .before .before .before .before .before .before .before .before .before .before .before .before .before .before .before .before .before .before .before .before .before .before .before .before .before .before .before .at16 .ensures) (resultOf (c .before .before .before .before .before .before .before .before .before .before .before .before .before .before .before .before .before .before .before .before .before .before .before .before .before .before .before .before .simplify-expr .last .0) (c .before .before .before .before .before .before .before .before .before .before .before .before .before .before .before .before .before .before .before .before .before .before .before .before .before .before .before .before .simplify-expr .last .1 .0) (c .before .before .before .before .before .before .before .before .before .before .before .before .before .before .before .before .before .before .before .before .before .before .before .before .before .before .before .before .simplify-expr .last .1 .1 .0) (c .before .before .before .before .before .before .before .before .before .before .before .before .before .before .before .before .before .before .before .before .before .before .before .before .before .before .before .before .simplify-expr .last .1 .1 .1 .0) (c .before .before .before .before .before .before .before .before .before .before .before .before .before .before .before .before .before .before .before .before .before .before .before .before .before .before .before .before .simplify-expr .last .1 .1 .1 .1 .0) (c .before .before .before .before .before .before .before .before .before .before .before .before .before .before .before .before .before .before .before .before .before .before .before .before .before .before .before .before .simplify-expr .last .1 .1 .1 .1 .1 .0) (c .before .before .before .before .before .before .before .before .before .before .before .before .before .before .before .before .before .before .before .before .before .before .before .before .before .before .before .before .simplify-expr .last .1 .1 .1 .1 .1 .1 .0) (c .before .before .before .before .before .before .before .before .before .before .before .before .before .before .before .before .before .before .before .before .before .before .before .before .before .before .before .before .simplify-expr .last .1 .1 .1 .1 .1 .1 .1 .0) (c .before .before .before .before .before .before .before .before .before .before .before .before .before .before .before .before .before .before .before .before .before .before .before .before .before .before .before .before .simplify-expr .result)) (c .before .before .before .before .before .before .before .before .before .before .before .before .before .before .before .before .before .before .before .before .before .before .before .before .before .before .before .before .simplify-expr .ensures) (c .before .before .before .before .before .before .before .before .before .before .before .before .before .before .before .shape-at .result) (c .before .before .before .before .before .before .before .before .before .before .before .before .before .before .before .shape-at .ensures) (c .before .before .before .before .before .before .before .before .before .before .before .before .before .before .is-literal .result) (c .before .before .before .before .before .before .before .before .before .before .before .before .before .is-literal2 .result) (c .before .before .before .before .before .before .before .before .before .before .before .before .before .before .is-literal .ensures) (c .before .before .before .before .before .before .before .before .before .before .before .before .before .is-literal2 .ensures) (c .before .before .before .before .before .before .before .before .before .before .before .before .count .result) (c .before .before .before .before .before .before .before .before .before .before .before .before .count .ensures) (outOf (c .before .before .before .simplify-run .last .0) (c .before .before .before .simplify-run .last .1 .0) (c .before .before .before .simplify-run .last .1 .1 .0) (c .before .before .before .simplify-run .last .1 .1 .1 .0) (c .before .before .before .simplify-run .last .1 .1 .1 .1 .0) (c .before .before .before .simplify-run .last .1 .1 .1 .1 .1 .0) (c .before .before .before .simplify-run .last .1 .1 .1 .1 .1 .1 .0) (c .before .before .before .simplify-run .last .1 .1 .1 .1 .1 .1 .1 .0) (c .before .before .before .simplify-run .result)) (c .before .before .before .simplify-run .ensures) (itemsOf (c .put-back .last .0) (c .put-back .last .1 .0) (c .before .before .before .simplify-run .result .done .used)) (c .put-back .ensures (c .before .before .before .simplify-run .result .done .used))
+
+pub +simplify-expr+simplify-run-spec : {M : Type 1} → statement M
++simplify-expr+simplify-run-spec =
+    close μ-simplify-expr μ-simplify-run (λ t. simplify-expr-lts.spec (simplify-expr-calls t)
+    (simplify-expr-at t)
+    simplify-expr.Post
+    (simplify-expr-refused-requires t)
+    (simplify-expr-returns t)
+    (simplify-expr-same-requires t)
+    (simplify-expr-returns-2 t)
+    (simplify-expr-shape-at-requires t)
+    (simplify-expr-enum-told t)
+    (simplify-expr-same-requires-2 t)
+    (simplify-expr-enum-known-shape t)
+    (simplify-expr-simplify-expr-requires t)
+    (simplify-expr-not-step-requires t)
+    (simplify-expr-enum-known-shape-2 t)
+    (simplify-expr-simplify-expr-requires-2 t)
+    (simplify-expr-simplify-expr-requires-3 t)
+    (simplify-expr-compare-step-requires t)
+    (simplify-expr-enum-known-shape-3 t)
+    (simplify-expr-no-tally-requires t)
+    (simplify-expr-cast-simplify-run t)
+    (simplify-expr-cast-simplify-run-2 t)
+    (simplify-expr-simplify-run-requires t)
+    (simplify-expr-enum-known-shape-4 t)
+    (simplify-expr-no-tally-requires-2 t)
+    (simplify-expr-cast-simplify-run-3 t)
+    (simplify-expr-cast-simplify-run-4 t)
+    (simplify-expr-simplify-run-requires-2 t)
+    (simplify-expr-enum-told-2 t)
+    (simplify-expr-same-requires-3 t)
+    (simplify-expr-returns-3 t)
+    (simplify-expr-returns-4 t)
+    (simplify-expr-returns-5 t)
+    (simplify-expr-returns-6 t)
+    (simplify-expr-returns-7 t)
+    (simplify-expr-returns-8 t))
+    λ t. simplify-run-lts.spec (simplify-run-calls t)
+    (simplify-run-at t)
+    simplify-run.Post
+    (simplify-run-bottom-requires t)
+    (simplify-run-returns t)
+    (simplify-run-at16-requires t)
+    (simplify-run-simplify-expr-requires t)
+    (simplify-run-cast-shape-at t)
+    (simplify-run-shape-at-requires t)
+    (simplify-run-is-literal-requires t)
+    (simplify-run-is-literal-requires-2 t)
+    (simplify-run-count-requires t)
+    (simplify-run-add-simplify-run t)
+    (simplify-run-sub-simplify-run t)
+    (simplify-run-simplify-run-requires t)
+    (simplify-run-put-back-requires t)
+    (simplify-run-returns-2 t)

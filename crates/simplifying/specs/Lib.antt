@@ -1,0 +1,4 @@
+pub mod Shapes
+pub mod OneExpression
+pub mod OneOperator
+pub mod Meaning

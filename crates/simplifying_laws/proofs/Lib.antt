@@ -1,0 +1,2 @@
+pub mod NewOperators
+pub mod AnswerRules

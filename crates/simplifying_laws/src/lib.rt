@@ -1,0 +1,1 @@
+// That the plan which the simplifier hands back keeps the rules. This crate has no code.
