@@ -1,0 +1,60 @@
+use Rattle.boundary.specs.Replies.{cellsTo}
+use Rattle.boundary.proofs.ReplyLaws.{cells-none, cells-next}
+use lib.ListN.{length, length-set}
+use borrow.Author.Needs.{needs}
+use native.Mathlib.Omega.{arith}
+use Prim.Native.Nat.{ℕ, _≤_, _-_}
+use mathlib.Core.Path.{_≡_, refl, _∙_}
+use Rattle.boundary.proofs.cells8.Statement.{statement}
+use Rattle.boundary.proofs.cells8.Tie as tie
+use Rattle.boundary.proofs.cells8.Reads as reads
+use Rattle.boundary.proofs.cells8.Lts as lts
+use Rattle.lists.proofs.at8.Reads as at8-reads
+
+abbrev Inv-loop : tie.InvT-loop
+Inv-loop s a₀ i₀ a i = (i ≤ 64) × (length a ≡ 64) × (a ≡ cellsTo s i)
+
+abbrev μ-loop : tie.MeasureT-loop
+μ-loop s a₀ i₀ a i = 64 - i
+
+-- src/lib.rt:152:5
+loop-holds : tie.Need-loop-holds Inv-loop μ-loop
+loop-holds c = (omega arith, refl, cells-none _)
+
+-- src/lib.rt:153:16
+at8-requires : tie.Need-at8-requires Inv-loop μ-loop
+at8-requires c κs = search needs
+
+-- src/lib.rt:153:9
+array-write-a : tie.Need-array-write-a Inv-loop μ-loop
+array-write-a c = search needs
+
+-- src/lib.rt:154:9
+add-i : tie.Need-add-i Inv-loop μ-loop
+add-i c = search needs
+
+-- src/lib.rt:152:5
+loop-less : tie.Need-loop-less Inv-loop μ-loop
+loop-less c = search needs
+
+-- src/lib.rt:152:5
+loop-again : tie.Need-loop-again Inv-loop μ-loop
+loop-again c = (search needs, length-set (c .before .before .loop .a) (c .before .before .loop .i) (c .at8 .result) ∙ c .before .before .loop .inv .1, cells-next _ _ _ _ (c .before .before .loop .inv .2) (c .at8 .ensures))
+
+-- src/lib.rt:147:1
+returns : tie.Need-returns Inv-loop μ-loop
+returns c = let e : c .before .loop .i ≡ 64 = omega arith in rw e at (c .before .loop .inv .2)
+
+pub cells8-spec : {M : Type 1} → statement M
+cells8-spec =
+    tie.close
+    (tie.spec
+    Inv-loop
+    μ-loop
+    loop-holds
+    at8-requires
+    array-write-a
+    add-i
+    loop-less
+    loop-again
+    returns)

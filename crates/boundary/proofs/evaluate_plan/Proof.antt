@@ -1,0 +1,50 @@
+use Rattle.boundary.proofs.ReplyLaws.{wrote-as, evaluate-said}
+use borrow.Author.Needs.{needs}
+use Rattle.boundary.proofs.evaluate_plan.Statement.{statement}
+use Rattle.boundary.proofs.evaluate_plan.Tie as tie
+use Rattle.boundary.proofs.evaluate_plan.Reads as reads
+use Rattle.boundary.proofs.evaluate_plan.Lts as lts
+use Rattle.boundary.proofs.head.Reads as head-reads
+use Rattle.refusals.proofs.evaluation_number.Reads as evaluation-number-reads
+use Rattle.refusals.proofs.truth_found.Reads as truth-found-reads
+use Rattle.rows.proofs.evaluate.Reads as evaluate-reads
+
+-- src/lib.rt:139:9
+evaluate-requires : tie.Need-evaluate-requires
+evaluate-requires c κs = search needs
+
+-- src/lib.rt:140:9
+evaluation-number-requires : tie.Need-evaluation-number-requires
+evaluation-number-requires c κs = search needs
+
+-- src/lib.rt:141:9
+truth-found-requires : tie.Need-truth-found-requires
+truth-found-requires c κs = search needs
+
+-- src/lib.rt:142:18
+cast-head : tie.Need-cast-head
+cast-head c = search needs
+
+-- src/lib.rt:142:5
+head-requires : tie.Need-head-requires
+head-requires c κs = search needs
+
+-- src/lib.rt:136:1
+same-length : tie.Need-same-length
+same-length c = search needs
+
+-- src/lib.rt:136:1
+returns : tie.Need-returns
+returns c = wrote-as _ _ _ _ _ _ (c .before .before .head .ensures) (evaluate-said _ _ _ _ _ _ (c .before .before .before .before .before .before .evaluate .ensures) (c .before .before .before .before .before .evaluation-number .ensures) (c .before .before .before .before .truth-found .ensures))
+
+pub evaluate-plan-spec : {M : Type 1} → statement M
+evaluate-plan-spec =
+    tie.close
+    (tie.spec
+    evaluate-requires
+    evaluation-number-requires
+    truth-found-requires
+    cast-head
+    head-requires
+    same-length
+    returns)

@@ -1,0 +1,29 @@
+use Rattle.boundary.specs.Replies.{headOf}
+use Rattle.writing.proofs.Wrotes.{wrote-then}
+use borrow.Author.Needs.{needs}
+use Rattle.boundary.proofs.head.Statement.{statement}
+use Rattle.boundary.proofs.head.Tie as tie
+use Rattle.boundary.proofs.head.Reads as reads
+use Rattle.boundary.proofs.head.Lts as lts
+use Rattle.plan_file_write.proofs.put8.Reads as put8-reads
+use Rattle.writing.proofs.byte.Reads as byte-reads
+
+-- src/lib.rt:37:9
+byte-requires : tie.Need-byte-requires
+byte-requires c κs = search needs
+
+-- src/lib.rt:38:5
+put8-requires : tie.Need-put8-requires
+put8-requires c κs = search needs
+
+-- src/lib.rt:34:1
+same-length : tie.Need-same-length
+same-length c = search needs
+
+-- src/lib.rt:34:1
+returns : tie.Need-returns
+unfolding headOf
+returns c = wrote-then _ _ _ _ _ _ _ _ (c .before .before .before .before .before .before .byte .ensures) (c .before .before .before .before .before .before .byte .kept .0) (c .before .before .put8 .ensures)
+
+pub head-spec : {M : Type 1} → statement M
+head-spec = tie.close (tie.spec byte-requires put8-requires same-length returns)

@@ -1,0 +1,72 @@
+use Rattle.boundary.specs.Replies.{inTurn}
+use Rattle.boundary.proofs.ReplyLaws.{turn-done, turn-refused, turn-next}
+use lib.ListN.{length, drop}
+use borrow.Author.Needs.{needs}
+use native.Mathlib.Omega.{arith}
+use Prim.Native.Nat.{ℕ, _≤_, _-_}
+use mathlib.Core.Path.{_≡_, refl, _∙_}
+use Rattle.boundary.proofs.in_turn.Statement.{statement}
+use Rattle.boundary.proofs.in_turn.Tie as tie
+use Rattle.boundary.proofs.in_turn.Reads as reads
+use Rattle.boundary.proofs.in_turn.Lts as lts
+use Rattle.lists.proofs.at16.Reads as at16-reads
+use Rattle.logical_facts.proofs.apply_predicate.Reads as apply-predicate-reads
+use Rattle.refusals.proofs.outcome_number.Reads as outcome-number-reads
+
+abbrev Inv-loop : tie.InvT-loop
+Inv-loop p predicates facts₀ k₀ facts k = (k ≤ length predicates) × (inTurn p facts (drop k predicates) k ≡ inTurn p facts₀ predicates 0)
+
+abbrev μ-loop : tie.MeasureT-loop
+μ-loop p predicates facts₀ k₀ facts k = length predicates - k
+
+-- src/lib.rt:78:5
+loop-holds : tie.Need-loop-holds Inv-loop μ-loop
+loop-holds c = (omega arith, refl)
+
+-- src/lib.rt:79:13
+at16-requires : tie.Need-at16-requires Inv-loop μ-loop
+at16-requires c κs = search needs
+
+-- src/lib.rt:80:13
+apply-predicate-requires : tie.Need-apply-predicate-requires Inv-loop μ-loop
+apply-predicate-requires c κs = search needs
+
+-- src/lib.rt:83:12
+outcome-number-requires : tie.Need-outcome-number-requires Inv-loop μ-loop
+outcome-number-requires c κs = search needs
+
+-- src/lib.rt:84:13
+returns : tie.Need-returns Inv-loop μ-loop
+returns c = turn-refused _ _ _ _ (omega arith) _ (c .before .before .before .before .at16 .ensures) _ (c .before .before .before .apply-predicate .ensures) _ (c .before .outcome-number .ensures) (c .if1 .taken) ∙ c .before .before .before .before .before .before .loop .inv .1
+
+-- src/lib.rt:91:9
+add-k : tie.Need-add-k Inv-loop μ-loop
+add-k c = search needs
+
+-- src/lib.rt:78:5
+loop-less : tie.Need-loop-less Inv-loop μ-loop
+loop-less c = search needs
+
+-- src/lib.rt:78:5
+loop-again : tie.Need-loop-again Inv-loop μ-loop
+loop-again c = (search needs, turn-next (c .before .before .before .before .before .before .before .before .args .p) (c .before .before .before .before .before .before .before .before .args .predicates .now) (c .before .before .before .before .before .before .loop .facts) (c .before .before .before .before .before .before .loop .k) (omega arith) _ (c .before .before .before .before .at16 .ensures) _ (c .before .before .before .apply-predicate .ensures) _ (c .before .outcome-number .ensures) (c .if1 .left) ∙ c .before .before .before .before .before .before .loop .inv .1)
+
+-- src/lib.rt:73:1
+returns-2 : tie.Need-returns-2 Inv-loop μ-loop
+returns-2 c = turn-done (c .before .before .before .args .p) (c .before .before .before .args .predicates .now) (c .before .loop .facts) (c .before .loop .k) (omega arith) ∙ c .before .loop .inv .1
+
+pub in-turn-spec : {M : Type 1} → statement M
+in-turn-spec =
+    tie.close
+    (tie.spec
+    Inv-loop
+    μ-loop
+    loop-holds
+    at16-requires
+    apply-predicate-requires
+    outcome-number-requires
+    returns
+    add-k
+    loop-less
+    loop-again
+    returns-2)

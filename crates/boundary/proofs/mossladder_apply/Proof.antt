@@ -1,0 +1,56 @@
+use Rattle.boundary.specs.Replies.{applyReply}
+use Rattle.boundary.proofs.ReplyLaws.{wrote-as, plan-refused, plan-read}
+use borrow.Author.Needs.{needs}
+use Rattle.boundary.proofs.mossladder_apply.Statement.{statement}
+use Rattle.boundary.proofs.mossladder_apply.Tie as tie
+use Rattle.boundary.proofs.mossladder_apply.Reads as reads
+use Rattle.boundary.proofs.mossladder_apply.Lts as lts
+use Rattle.boundary.proofs.apply_plan.Reads as apply-plan-reads
+use Rattle.boundary.proofs.refused_reading.Reads as refused-reading-reads
+use Rattle.plan_file.proofs.read.Reads as read-reads
+use Rattle.refusals.proofs.reading_number.Reads as reading-number-reads
+
+-- src/lib.rt:235:9
+read-requires : tie.Need-read-requires
+read-requires c κs = search needs
+
+-- src/lib.rt:237:8
+reading-number-requires : tie.Need-reading-number-requires
+reading-number-requires c κs = search needs
+
+-- src/lib.rt:238:9
+refused-reading-requires : tie.Need-refused-reading-requires
+refused-reading-requires c κs = search needs
+
+-- src/lib.rt:238:9
+same-length : tie.Need-same-length
+same-length c = search needs
+
+-- src/lib.rt:238:9
+returns : tie.Need-returns
+returns c = wrote-as _ _ _ _ _ _ (c .before .before .refused-reading .ensures) (plan-refused (applyReply (c .before .before .before .before .before .before .before .before .before .before .args .operator) (c .before .before .before .before .before .before .before .before .before .before .args .predicates .now)) _ _ (c .before .before .before .before .before .before .read .ensures) _ (c .before .before .before .before .before .reading-number .ensures) (c .before .before .before .before .if1 .taken))
+
+-- src/lib.rt:241:5
+apply-plan-requires : tie.Need-apply-plan-requires
+apply-plan-requires c κs = search needs
+
+-- src/lib.rt:226:1
+same-length-2 : tie.Need-same-length-2
+same-length-2 c = search needs
+
+-- src/lib.rt:226:1
+returns-2 : tie.Need-returns-2
+returns-2 c = wrote-as _ _ _ _ _ _ (c .before .before .apply-plan .ensures) (plan-read (applyReply (c .before .before .before .before .before .before .before .before .before .before .before .args .operator) (c .before .before .before .before .before .before .before .before .before .before .before .args .predicates .now)) _ _ (c .before .before .before .before .before .before .before .read .ensures) _ (c .before .before .before .before .before .before .reading-number .ensures) (c .before .before .before .before .before .if1 .left))
+
+pub mossladder-apply-spec : {M : Type 1} → statement M
+mossladder-apply-spec =
+    tie.close
+    (tie.spec
+    read-requires
+    reading-number-requires
+    refused-reading-requires
+    same-length
+    returns
+    apply-plan-requires
+    same-length-2
+    returns-2)

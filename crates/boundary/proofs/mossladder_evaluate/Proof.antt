@@ -1,0 +1,64 @@
+use Rattle.boundary.specs.Replies.{evaluateReply, rowIn}
+use Rattle.boundary.proofs.ReplyLaws.{wrote-as, plan-refused, plan-read}
+use Rattle.rows.specs.declared.Row.{Row}
+use mathlib.Core.Path.{ap}
+use borrow.Author.Needs.{needs}
+use Rattle.boundary.proofs.mossladder_evaluate.Statement.{statement}
+use Rattle.boundary.proofs.mossladder_evaluate.Tie as tie
+use Rattle.boundary.proofs.mossladder_evaluate.Reads as reads
+use Rattle.boundary.proofs.mossladder_evaluate.Lts as lts
+use Rattle.boundary.proofs.evaluate_plan.Reads as evaluate-plan-reads
+use Rattle.boundary.proofs.refused_reading.Reads as refused-reading-reads
+use Rattle.boundary.proofs.row_in.Reads as row-in-reads
+use Rattle.plan_file.proofs.read.Reads as read-reads
+use Rattle.refusals.proofs.reading_number.Reads as reading-number-reads
+
+-- src/lib.rt:270:9
+read-requires : tie.Need-read-requires
+read-requires c κs = search needs
+
+-- src/lib.rt:272:8
+reading-number-requires : tie.Need-reading-number-requires
+reading-number-requires c κs = search needs
+
+-- src/lib.rt:273:9
+refused-reading-requires : tie.Need-refused-reading-requires
+refused-reading-requires c κs = search needs
+
+-- src/lib.rt:273:9
+same-length : tie.Need-same-length
+same-length c = search needs
+
+-- src/lib.rt:273:9
+returns : tie.Need-returns
+returns c = wrote-as _ _ _ _ _ _ (c .before .before .refused-reading .ensures) (plan-refused (evaluateReply (c .before .before .before .before .before .before .before .before .before .before .before .before .args .expr) (rowIn (c .before .before .before .before .before .before .before .before .before .before .before .before .args .case .now) (c .before .before .before .before .before .before .before .before .before .before .before .before .args .code .now) (c .before .before .before .before .before .before .before .before .before .before .before .before .args .bits .now))) _ _ (c .before .before .before .before .before .before .read .ensures) _ (c .before .before .before .before .before .reading-number .ensures) (c .before .before .before .before .if1 .taken))
+
+-- src/lib.rt:275:9
+row-in-requires : tie.Need-row-in-requires
+row-in-requires c κs = search needs
+
+-- src/lib.rt:277:5
+evaluate-plan-requires : tie.Need-evaluate-plan-requires
+evaluate-plan-requires c κs = search needs
+
+-- src/lib.rt:259:1
+same-length-2 : tie.Need-same-length-2
+same-length-2 c = search needs
+
+-- src/lib.rt:259:1
+returns-2 : tie.Need-returns-2
+returns-2 c = wrote-as _ _ _ _ _ _ (wrote-as _ _ _ _ _ _ (c .before .before .evaluate-plan .ensures) (ap (λ (r : Row). evaluateReply (c .before .before .before .before .before .before .before .before .before .before .before .before .before .before .args .expr) r (c .before .before .before .before .before .before .before .before .read .result .plan)) (c .before .before .before .before .before .row-in .ensures))) (plan-read (evaluateReply (c .before .before .before .before .before .before .before .before .before .before .before .before .before .before .args .expr) (rowIn (c .before .before .before .before .before .before .before .before .before .before .before .before .before .before .args .case .now) (c .before .before .before .before .before .before .before .before .before .before .before .before .before .before .args .code .now) (c .before .before .before .before .before .before .before .before .before .before .before .before .before .before .args .bits .now))) _ _ (c .before .before .before .before .before .before .before .before .read .ensures) _ (c .before .before .before .before .before .before .before .reading-number .ensures) (c .before .before .before .before .before .before .if1 .left))
+
+pub mossladder-evaluate-spec : {M : Type 1} → statement M
+mossladder-evaluate-spec =
+    tie.close
+    (tie.spec
+    read-requires
+    reading-number-requires
+    refused-reading-requires
+    same-length
+    returns
+    row-in-requires
+    evaluate-plan-requires
+    same-length-2
+    returns-2)

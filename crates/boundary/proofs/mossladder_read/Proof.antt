@@ -1,0 +1,34 @@
+use Rattle.boundary.proofs.ReplyLaws.{wrote-as, read-said}
+use Rattle.writing.proofs.Wrotes.{wrote-then}
+use borrow.Author.Needs.{needs}
+use Rattle.boundary.proofs.mossladder_read.Statement.{statement}
+use Rattle.boundary.proofs.mossladder_read.Tie as tie
+use Rattle.boundary.proofs.mossladder_read.Reads as reads
+use Rattle.boundary.proofs.mossladder_read.Lts as lts
+use Rattle.boundary.proofs.refused_reading.Reads as refused-reading-reads
+use Rattle.plan_file.proofs.read.Reads as read-reads
+use Rattle.plan_file_write.proofs.write.Reads as write-reads
+
+-- src/lib.rt:188:9
+read-requires : tie.Need-read-requires
+read-requires c κs = search needs
+
+-- src/lib.rt:191:9
+refused-reading-requires : tie.Need-refused-reading-requires
+refused-reading-requires c κs = search needs
+
+-- src/lib.rt:192:5
+write-requires : tie.Need-write-requires
+write-requires c κs = search needs
+
+-- src/lib.rt:184:1
+same-length : tie.Need-same-length
+same-length c = search needs
+
+-- src/lib.rt:184:1
+returns : tie.Need-returns
+returns c = wrote-as _ _ _ _ _ _ (wrote-then _ _ _ _ _ _ _ _ (c .before .before .before .before .before .before .refused-reading .ensures) (c .before .before .before .before .before .before .refused-reading .kept .0) (c .before .before .write .ensures)) (read-said _ _ (c .before .before .before .before .before .before .before .before .before .read .ensures))
+
+pub mossladder-read-spec : {M : Type 1} → statement M
+mossladder-read-spec =
+    tie.close (tie.spec read-requires refused-reading-requires write-requires same-length returns)

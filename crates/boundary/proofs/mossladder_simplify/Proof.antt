@@ -1,0 +1,56 @@
+use Rattle.boundary.specs.Replies.{simplifyReply}
+use Rattle.boundary.proofs.ReplyLaws.{wrote-as, plan-refused, plan-read}
+use borrow.Author.Needs.{needs}
+use Rattle.boundary.proofs.mossladder_simplify.Statement.{statement}
+use Rattle.boundary.proofs.mossladder_simplify.Tie as tie
+use Rattle.boundary.proofs.mossladder_simplify.Reads as reads
+use Rattle.boundary.proofs.mossladder_simplify.Lts as lts
+use Rattle.boundary.proofs.refused_reading.Reads as refused-reading-reads
+use Rattle.boundary.proofs.simplify_plan.Reads as simplify-plan-reads
+use Rattle.plan_file.proofs.read.Reads as read-reads
+use Rattle.refusals.proofs.reading_number.Reads as reading-number-reads
+
+-- src/lib.rt:248:9
+read-requires : tie.Need-read-requires
+read-requires c κs = search needs
+
+-- src/lib.rt:250:8
+reading-number-requires : tie.Need-reading-number-requires
+reading-number-requires c κs = search needs
+
+-- src/lib.rt:251:9
+refused-reading-requires : tie.Need-refused-reading-requires
+refused-reading-requires c κs = search needs
+
+-- src/lib.rt:251:9
+same-length : tie.Need-same-length
+same-length c = search needs
+
+-- src/lib.rt:251:9
+returns : tie.Need-returns
+returns c = wrote-as _ _ _ _ _ _ (c .before .before .refused-reading .ensures) (plan-refused (simplifyReply (c .before .before .before .before .before .before .before .before .before .args .operator)) _ _ (c .before .before .before .before .before .before .read .ensures) _ (c .before .before .before .before .before .reading-number .ensures) (c .before .before .before .before .if1 .taken))
+
+-- src/lib.rt:254:5
+simplify-plan-requires : tie.Need-simplify-plan-requires
+simplify-plan-requires c κs = search needs
+
+-- src/lib.rt:244:1
+same-length-2 : tie.Need-same-length-2
+same-length-2 c = search needs
+
+-- src/lib.rt:244:1
+returns-2 : tie.Need-returns-2
+returns-2 c = wrote-as _ _ _ _ _ _ (c .before .before .simplify-plan .ensures) (plan-read (simplifyReply (c .before .before .before .before .before .before .before .before .before .before .args .operator)) _ _ (c .before .before .before .before .before .before .before .read .ensures) _ (c .before .before .before .before .before .before .reading-number .ensures) (c .before .before .before .before .before .if1 .left))
+
+pub mossladder-simplify-spec : {M : Type 1} → statement M
+mossladder-simplify-spec =
+    tie.close
+    (tie.spec
+    read-requires
+    reading-number-requires
+    refused-reading-requires
+    same-length
+    returns
+    simplify-plan-requires
+    same-length-2
+    returns-2)

@@ -1,0 +1,34 @@
+use Rattle.boundary.proofs.ReplyLaws.{wrote-as, head-same}
+use borrow.Author.Needs.{needs}
+use Rattle.boundary.proofs.refused_reading.Statement.{statement}
+use Rattle.boundary.proofs.refused_reading.Tie as tie
+use Rattle.boundary.proofs.refused_reading.Reads as reads
+use Rattle.boundary.proofs.refused_reading.Lts as lts
+use Rattle.boundary.proofs.head.Reads as head-reads
+use Rattle.refusals.proofs.reading_number.Reads as reading-number-reads
+use Rattle.refusals.proofs.reading_place.Reads as reading-place-reads
+
+-- src/lib.rt:44:9
+reading-number-requires : tie.Need-reading-number-requires
+reading-number-requires c κs = search needs
+
+-- src/lib.rt:45:9
+reading-place-requires : tie.Need-reading-place-requires
+reading-place-requires c κs = search needs
+
+-- src/lib.rt:46:5
+head-requires : tie.Need-head-requires
+head-requires c κs = search needs
+
+-- src/lib.rt:41:1
+same-length : tie.Need-same-length
+same-length c = search needs
+
+-- src/lib.rt:41:1
+returns : tie.Need-returns
+returns c = wrote-as _ _ _ _ _ _ (c .before .before .head .ensures) (head-same _ _ _ _ (c .before .before .before .before .before .reading-number .ensures) (c .before .before .before .before .reading-place .ensures))
+
+pub refused-reading-spec : {M : Type 1} → statement M
+refused-reading-spec =
+    tie.close
+    (tie.spec reading-number-requires reading-place-requires head-requires same-length returns)

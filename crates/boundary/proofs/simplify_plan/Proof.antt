@@ -1,0 +1,57 @@
+use Rattle.boundary.proofs.ReplyLaws.{wrote-as, simplify-said}
+use Rattle.writing.proofs.Wrotes.{wrote-then}
+use borrow.Author.Needs.{needs}
+use Rattle.boundary.proofs.simplify_plan.Statement.{statement}
+use Rattle.boundary.proofs.simplify_plan.Tie as tie
+use Rattle.boundary.proofs.simplify_plan.Reads as reads
+use Rattle.boundary.proofs.simplify_plan.Lts as lts
+use Rattle.boundary.proofs.head.Reads as head-reads
+use Rattle.expr_simplify.proofs.simplify.Reads as simplify-reads
+use Rattle.plan_file_write.proofs.write.Reads as write-reads
+use Rattle.refusals.proofs.rewrite_number.Reads as rewrite-number-reads
+use Rattle.refusals.proofs.standing.Reads as standing-reads
+
+-- src/lib.rt:127:9
+simplify-requires : tie.Need-simplify-requires
+simplify-requires c κs = search needs
+
+-- src/lib.rt:129:9
+rewrite-number-requires : tie.Need-rewrite-number-requires
+rewrite-number-requires c κs = search needs
+
+-- src/lib.rt:130:9
+standing-requires : tie.Need-standing-requires
+standing-requires c κs = search needs
+
+-- src/lib.rt:131:26
+cast-head : tie.Need-cast-head
+cast-head c = search needs
+
+-- src/lib.rt:131:9
+head-requires : tie.Need-head-requires
+head-requires c κs = search needs
+
+-- src/lib.rt:133:5
+write-requires : tie.Need-write-requires
+write-requires c κs = search needs
+
+-- src/lib.rt:124:1
+same-length : tie.Need-same-length
+same-length c = search needs
+
+-- src/lib.rt:124:1
+returns : tie.Need-returns
+returns c = wrote-as _ _ _ _ _ _ (wrote-then _ _ _ _ _ _ _ _ (c .before .before .before .before .before .before .before .head .ensures) (c .before .before .before .before .before .before .before .head .kept .0) (c .before .before .write .ensures)) (simplify-said _ _ _ _ _ (c .before .before .before .before .before .before .before .before .before .before .before .simplify .ensures) (c .before .before .before .before .before .before .before .before .before .before .rewrite-number .ensures) (c .before .before .before .before .before .before .before .before .before .standing .ensures))
+
+pub simplify-plan-spec : {M : Type 1} → statement M
+simplify-plan-spec =
+    tie.close
+    (tie.spec
+    simplify-requires
+    rewrite-number-requires
+    standing-requires
+    cast-head
+    head-requires
+    write-requires
+    same-length
+    returns)
