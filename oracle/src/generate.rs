@@ -136,6 +136,16 @@ pub fn shape(random: &mut Random) -> Shape {
     }
 }
 
+/// A small shape: many such plans are asked in little time.
+pub fn small_shape(random: &mut Random) -> Shape {
+    let lean = random.pick(&[Lean::Plain, Lean::Any]);
+    if random.chance(1, 2) {
+        Shape { columns: 3, exprs: 6, operators: 3, items: 8, lean }
+    } else {
+        Shape { columns: 5, exprs: 16, operators: 6, items: 24, lean }
+    }
+}
+
 /// A plan that keeps 01's rules, of some size within the shape.
 pub fn plan(random: &mut Random, shape: &Shape) -> Plan {
     let mut made = Making {

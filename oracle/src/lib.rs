@@ -1,6 +1,7 @@
 //! The oracle: optd's own Rust, unchanged, asked in the words of 01. See README.md.
 
 pub mod builder;
+pub mod command;
 pub mod compare;
 pub mod context;
 pub mod damage;

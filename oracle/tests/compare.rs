@@ -91,7 +91,7 @@ impl Subject for Broken {
 
 fn found(fault: Fault, only: &str) -> Box<Disagreement> {
     let options = Options { only: vec![only.to_string()], ..Options::default() };
-    run(&mut Broken(fault), &options, &mut sink()).expect_err("the fault is found")
+    run(|| Broken(fault), &options, &mut sink()).expect_err("the fault is found")
 }
 
 #[test]
@@ -144,7 +144,7 @@ fn stopping_at_the_first_contradiction_is_found() {
 #[test]
 fn the_oracle_agrees_with_itself() {
     let options = Options { scale: 5, seed: 7, ..Options::default() };
-    let counts = run(&mut Oracle, &options, &mut sink()).ok().expect("no disagreement");
+    let counts = run(|| Oracle, &options, &mut sink()).ok().expect("no disagreement");
     assert!(counts["shared"].left_out > 0);
     let mut seen: Vec<String> =
         counts.values().flat_map(|count| count.answers.keys().cloned()).collect();

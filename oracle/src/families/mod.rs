@@ -27,7 +27,7 @@ pub struct Family {
     pub count: usize,
 }
 
-pub const FAMILIES: [Family; 16] = [
+pub const FAMILIES: [Family; 18] = [
     Family { name: "bytes", what: "every file of up to two bytes", run: files::bytes, count: 0 },
     Family {
         name: "records",
@@ -90,7 +90,14 @@ pub const FAMILIES: [Family; 16] = [
         name: "programs",
         what: "small expressions that share",
         run: predicates::programs,
-        count: 4000,
+        count: 20_000,
+    },
+    Family { name: "small", what: "small plans", run: seeded::small_plans, count: 25_000 },
+    Family {
+        name: "nicked",
+        what: "damaged copies of small plans",
+        run: seeded::nicked,
+        count: 20_000,
     },
     Family { name: "random", what: "plans of every size", run: seeded::random_plans, count: 2000 },
     Family {

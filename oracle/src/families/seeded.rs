@@ -1,7 +1,7 @@
 //! Plans by seed, whole and damaged.
 
 use crate::damage::damage;
-use crate::generate::{self, scattered};
+use crate::generate::{self, Shape, scattered};
 use crate::paths::{STEPS, expressions, steps};
 use crate::plan::Plan;
 use crate::question::Question;
@@ -12,9 +12,19 @@ use crate::write::raw;
 
 use super::{Ask, Step, derive, facts};
 
+type Shaping = fn(&mut Random) -> Shape;
+
 pub fn random_plans(random: &mut Random, count: usize, ask: &mut Ask) -> Step {
+    whole(random, count, generate::shape, ask)
+}
+
+pub fn small_plans(random: &mut Random, count: usize, ask: &mut Ask) -> Step {
+    whole(random, count, generate::small_shape, ask)
+}
+
+fn whole(random: &mut Random, count: usize, shape: Shaping, ask: &mut Ask) -> Step {
     for _ in 0..count {
-        let shape = generate::shape(random);
+        let shape = shape(random);
         let plan = generate::plan(random, &shape);
         ask_plan(random, &plan, ask)?;
     }
@@ -75,8 +85,16 @@ fn to_rewrite(random: &mut Random, plan: &Plan, from: &[u16]) -> u16 {
 }
 
 pub fn damaged(random: &mut Random, count: usize, ask: &mut Ask) -> Step {
+    damaged_copies(random, count, generate::shape, ask)
+}
+
+pub fn nicked(random: &mut Random, count: usize, ask: &mut Ask) -> Step {
+    damaged_copies(random, count, generate::small_shape, ask)
+}
+
+fn damaged_copies(random: &mut Random, count: usize, shape: Shaping, ask: &mut Ask) -> Step {
     for _ in 0..count {
-        let shape = generate::shape(random);
+        let shape = shape(random);
         let plan = generate::plan(random, &shape);
         let file = if random.chance(1, 2) { raw(&plan) } else { scattered(random, &plan) };
         for _ in 0..4 {
