@@ -5,12 +5,15 @@ use mathlib.Core.Path.{_≡_, sym, ap, _∙_}
 use native.Mathlib.Decide.{decLt, ℕ-discrete}
 use native.Mathlib.Omega.{arith}
 use native.Mathlib.Numerals.{add-one}
-use borrow.Author.Tests.{eq-eqb, ne-eqb}
-use lib.ListN.{length, getD, set, replicate, getD-replicate}
-use lib.Seq.{getD-set-same, getD-set-other, ext-getD}
-use Rattle.value_classes.specs.Parents.{rootOf, each}
+use borrow.Author.Tests.{eq-eqb, ne-eqb, ltb-true}
+use mathlib.Core.Bool.{Bool, true, _&&_}
+use lib.Dec.{ltb}
+use Rattle.lists.proofs.RangeLaws.{and-right}
+use lib.ListN.{length, getD, set, take, replicate, getD-replicate}
+use lib.Seq.{getD-set-same, getD-set-other, getD-take, ext-getD}
+use Rattle.value_classes.specs.Parents.{rootOf, parentsOk, each}
 use Rattle.value_classes.specs.Listed.{membersTo, firstFrom, firstMember, nextMember}
-use Rattle.value_classes.proofs.RootLaws.{Falls, root-le, length-each, each-at}
+use Rattle.value_classes.proofs.RootLaws.{Falls, falls, parent-in, root-step, root-le, length-each, each-at}
 
 -- a list is f 0, f 1, .. where each of its entries is
 pub each-all : (f : ℕ → ℕ) (n : ℕ) (l : List ℕ) → length l ≡ n → ((i : ℕ) → i < n → getD l i 0 ≡ f i) → l ≡ each f n
@@ -117,3 +120,14 @@ module _ (p : List ℕ) where
       | yes e ↦ rw (e, getD-set-same next k (getD first r 0) 0 (omega arith), f r hr, ei, er)
       | no n ↦ rw (getD-set-other next k j (getD first r 0) 0 n) (g j (omega arith) hj)
     ]
+
+-- ---- the representatives in one pass
+-- where parents are in order, that of i is that of its parent, which the list of those before i has
+pub root-known : (p l : List ℕ) (n i q : ℕ) → length p ≡ n → parentsOk p ≡ true → q ≡ getD p i 0 → q < i → i < n → take i l ≡ each (rootOf p) i → getD l q 0 ≡ rootOf p i
+root-known p l n i q e ok eq low h t =
+    sym (getD-take i l q 0 low) ∙ ap (λ (x : List ℕ). getD x q 0) t ∙ each-at (rootOf p) i q low
+    ∙ ap (rootOf p) (eq ∙ sym (parent-in p i (omega arith) (omega arith)))
+    ∙ sym (root-step p (falls p ok) i)
+
+pub parent-low : (ok : Bool) (q i n : ℕ) → (ok && ltb q i) ≡ true → i < n → q < n
+parent-low ok q i n e h = let l = ltb-true q i (and-right ok (ltb q i) e) in omega arith

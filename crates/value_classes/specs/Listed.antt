@@ -6,6 +6,11 @@ use lib.Dec.{eqb}
 use Rattle.value_classes.specs.Parents.{rootOf, each}
 use Rattle.value_classes.specs.declared.ValueEquivalenceClasses.{ValueEquivalenceClasses}
 use Rattle.value_classes.specs.declared.Members.{Members}
+use Rattle.value_classes.specs.declared.Roots.{Roots}
+
+-- the representative of each identity
+unfoldable pub rootsOf : ValueEquivalenceClasses → Roots
+rootsOf c = record { of = each (λ (i : ℕ). rootOf (c .parents) i) 128 }
 
 -- the members of the class of r that are below n, in order. A class is listed where there are two or more
 unfoldable pub membersTo : List ℕ → ℕ → ℕ → List ℕ

@@ -2,7 +2,7 @@
 ghost use mathlib.Core.Path.{_≡_};
 ghost use Rattle.value_classes.specs.Parents.{parentIn, parentsOk};
 ghost use Rattle.value_classes.specs.Classes.{emptyClasses, canonicalOf, sameClass, unionOf};
-ghost use Rattle.value_classes.specs.Listed.{membersOf};
+ghost use Rattle.value_classes.specs.Listed.{rootsOf, membersOf};
 
 pub struct ValueEquivalenceClasses {
     pub parents: [u8; 128],
@@ -18,6 +18,11 @@ pub struct United {
 pub struct Members {
     pub first: [u8; 128],
     pub next: [u8; 128],
+}
+
+// The representative of each identity.
+pub struct Roots {
+    pub of: [u8; 128],
 }
 
 impl ValueEquivalenceClasses {
@@ -121,6 +126,25 @@ impl ValueEquivalenceClasses {
             classes,
             joined: true,
         }
+    }
+
+    // Where parents are in order, the parent's representative is known when the child's turn comes, and no chain is walked.
+    pub fn roots(self) -> Roots
+        ensures { λ r. ⌜ r ≡ rootsOf self ⌝ }
+    {
+        let ok = self.parents_ok();
+        let mut of = [0u8; 128];
+        let mut i: usize = 0;
+        while i < 128 {
+            let parent = self.parents[i] as usize;
+            if ok & (parent < i) {
+                of[i] = of[parent];
+            } else {
+                of[i] = self.canonical(i) as u8;
+            }
+            i += 1;
+        }
+        Roots { of }
     }
 
     // The classes, their members in order. From the last identity to the first, so that each finds the member after it.
