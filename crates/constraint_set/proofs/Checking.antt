@@ -66,6 +66,41 @@ any-true f (suc n) i k lo hi e = elim (ℕ-discrete k i) [
   | no d ↦ or-second (f i) (anyFrom f (suc i) n) (any-true f n (suc i) k (omega arith) (omega arith) e)
 ]
 
+-- the check of a set is that of the one place r, where every other place that is crossed has set the flag
+module _ (u : ConstraintSet) (r : ℕ) (low : r < 128) (others : (k : ℕ) → k < 128 → (k ≡ r → ⊥) → crossedAt u k ≡ true → u .contradictory ≡ true) where
+  forth : anyFrom (crossedAt u) 0 128 ≡ true → (u .contradictory ≡ true) ⊎ (crossedAt u r ≡ true)
+  forth e =
+      let w = any-at (crossedAt u) 128 0 (subst T (sym e) tt) in
+      elim (ℕ-discrete (w .0) r) [
+        | yes q ↦ inr (subst (λ (k : ℕ). crossedAt u k ≡ true) q (is-true _ (w .3)))
+        | no d ↦ inl (others (w .0) (omega arith) d (is-true _ (w .3)))
+      ]
+
+  pub check-one : crossCheck u ≡ flagIf (crossedAt u r) u
+  unfolding crossCheck
+  check-one =
+      ap (λ (b : Bool). withFlag u b)
+      (same-or (u .contradictory) (anyFrom (crossedAt u) 0 128) (crossedAt u r) forth (any-true (crossedAt u) 128 0 r (omega arith) (omega arith)))
+
+-- the flag of a checked set that is crossed somewhere
+pub crossed-flagged : (s : ConstraintSet) → Checked s → (k : ℕ) → k < 128 → crossedAt s k ≡ true → s .contradictory ≡ true
+crossed-flagged s c k h e = sym c ∙ or-second (s .contradictory) _ (any-true (crossedAt s) 128 0 k (omega arith) (omega arith) e)
+
+-- t is s with something else at r, and with s's flag if that was set
+pub one-place-only : (s t : ConstraintSet) → Checked s → (r : ℕ) → r < 128 → ((k : ℕ) → (k ≡ r → ⊥) → crossedAt t k ≡ crossedAt s k) → (s .contradictory ≡ true → t .contradictory ≡ true)
+    → crossCheck t ≡ flagIf (crossedAt t r) t
+one-place-only s t c r low other stays = check-one t r low (λ k h d e. stays (crossed-flagged s c k h (sym (other k d) ∙ e)))
+
+-- a check of all places finds what a check of one found
+pub check-again : (t : ConstraintSet) (r : ℕ) → r < 128 → crossCheck (flagIf (crossedAt t r) t) ≡ crossCheck t
+unfolding crossCheck
+check-again t r low = ap (λ (b : Bool). withFlag t b) (both (t .contradictory) (crossedAt t r) (anyFrom (crossedAt t) 0 128) (any-true (crossedAt t) 128 0 r (omega arith) (omega arith)))
+  where
+    both : (f x a : Bool) → (x ≡ true → a ≡ true) → ((f || x) || a) ≡ (f || a)
+    both true x a h = refl
+    both false true a h = sym (h refl)
+    both false false a h = refl
+
 module _ (s : ConstraintSet) (c : Checked s) (r : ℕ) (low : r < 128) (l : ScalarValue) where
   abbrev after : ConstraintSet
   after = putLiteral (putNonNull s r) r l
@@ -74,28 +109,13 @@ module _ (s : ConstraintSet) (c : Checked s) (r : ℕ) (low : r < 128) (l : Scal
   unfolding putLiteral putNonNull
   other k d = ap (λ (h : Holder). crossed h (entryAt s k)) (getD-set-other (literals s) r k _ none d)
 
-  -- the flag of a checked set that is crossed somewhere
-  flagged : (k : ℕ) → k < 128 → crossedAt s k ≡ true → s .contradictory ≡ true
-  flagged k h e = sym c ∙ or-second (s .contradictory) _ (any-true (crossedAt s) 128 0 k (omega arith) (omega arith) e)
-
   stays : s .contradictory ≡ true → after .contradictory ≡ true
   unfolding putLiteral putNonNull
   stays e = ap (λ (b : Bool). b || clashes (literalAt s r) l) e
 
-  forth : anyFrom (crossedAt after) 0 128 ≡ true → (after .contradictory ≡ true) ⊎ (crossedAt after r ≡ true)
-  forth e =
-      let w = any-at (crossedAt after) 128 0 (subst T (sym e) tt) in
-      elim (ℕ-discrete (w .0) r) [
-        | yes q ↦ inr (subst (λ (k : ℕ). crossedAt after k ≡ true) q (is-true _ (w .3)))
-        | no d ↦ inl (stays (flagged (w .0) (omega arith) (sym (other (w .0) d) ∙ is-true _ (w .3))))
-      ]
-
   -- its check is that of the one place
   pub one-place : crossCheck after ≡ flagIf (crossedAt after r) after
-  unfolding crossCheck
-  one-place =
-      ap (λ (b : Bool). withFlag after b)
-      (same-or (after .contradictory) (anyFrom (crossedAt after) 0 128) (crossedAt after r) forth (any-true (crossedAt after) 128 0 r (omega arith) (omega arith)))
+  one-place = one-place-only s after c r low other stays
 
   pub literal-checked : (i : ℕ) → i < 128 → r ≡ canonicalAt s i → isNull l ≡ false → (u : ConstraintSet) (x : Bool) → u ≡ after → x ≡ crossedAt u r → flagIf x u ≡ addLiteral s i l
   literal-checked i h d n u x eu ex =

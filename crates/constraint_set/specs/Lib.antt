@@ -1,3 +1,4 @@
 pub mod Chained
 pub mod Kept
 pub mod Checked
+pub mod Settled

@@ -9,6 +9,7 @@ ghost use Rattle.constraints.specs.Sets.{held, setOk, canonicalAt, entryOf, cla
 ghost use Rattle.constraint_set.specs.Chained.{chained};
 ghost use Rattle.constraint_set.specs.Checked.{Checked};
 ghost use Rattle.constraint_set.specs.Kept.{hasIn, keptBy, residualsKept};
+ghost use Rattle.constraint_set.specs.Settled.{literalOn, literalBad, rangeOn, rangeBad, placeOf, rootPair, Settled, SettledIf, JoinedTo, joining};
 use comparison::BinaryOp;
 use constraints::Applied;
 use constraints::ConstraintSet;
@@ -27,6 +28,26 @@ pub struct Kept {
     pub list: [u16; 64],
     pub count: usize,
     pub refused: bool,
+}
+
+// The literal and the range of two representatives that become one, and whether they contradict.
+pub struct Place {
+    pub literal: Holder,
+    pub entry: Entry,
+    pub bad: bool,
+}
+
+// Two representatives, the lower first, and the classes with the lower as the parent of the other.
+pub struct RootPair {
+    pub classes: ValueEquivalenceClasses,
+    pub low: usize,
+    pub high: usize,
+}
+
+// A set in the middle of a merge of classes, and whether everything in it is known to stand at the representatives.
+pub struct Joining {
+    pub constraints: ConstraintSet,
+    pub settled: bool,
 }
 
 pub fn set_ok(s: ConstraintSet) -> bool
@@ -54,7 +75,7 @@ pub fn equivalent(s: ConstraintSet, left: usize, right: usize) -> bool
 
 // ---- one literal, one range
 
-fn literal_clashes(old: Holder, l: ScalarValue) -> bool
+pub fn literal_clashes(old: Holder, l: ScalarValue) -> bool
     ensures { λ q. ⌜ q ≡ clashes old l ⌝ }
 {
     if old.present {
@@ -66,7 +87,7 @@ fn literal_clashes(old: Holder, l: ScalarValue) -> bool
 }
 
 // A literal that differs from the one that is there is left out.
-fn literal_kept(clash: bool, old: Holder, l: ScalarValue) -> Holder
+pub fn literal_kept(clash: bool, old: Holder, l: ScalarValue) -> Holder
     ensures { λ q. ⌜ q ≡ cond clash old (held l) ⌝ }
 {
     if clash {
@@ -79,7 +100,7 @@ fn literal_kept(clash: bool, old: Holder, l: ScalarValue) -> Holder
     }
 }
 
-fn range_in(e: Entry) -> ValueRange
+pub fn range_in(e: Entry) -> ValueRange
     ensures { λ q. ⌜ q ≡ rangeIn e ⌝ }
 {
     if e.present {
@@ -114,7 +135,7 @@ fn upper_by(t: ValueRange, b: Bound) -> ValueRange
 }
 
 // The range of an entry, or the one without bounds, with the bounds of another.
-fn tightened(e: Entry, new: ValueRange) -> ValueRange
+pub fn tightened(e: Entry, new: ValueRange) -> ValueRange
     ensures { λ q. ⌜ q ≡ tightenBy (rangeIn e) new ⌝ }
 {
     let t = range_in(e);
@@ -124,7 +145,7 @@ fn tightened(e: Entry, new: ValueRange) -> ValueRange
     upper_by(first, upper)
 }
 
-fn entry_of(range: ValueRange) -> Entry
+pub fn entry_of(range: ValueRange) -> Entry
     ensures { λ q. ⌜ q ≡ entryOf range ⌝ }
 {
     Entry {
@@ -150,7 +171,7 @@ fn is_outside(n: Number, r: ValueRange) -> bool
     }
 }
 
-fn is_crossed(h: Holder, e: Entry) -> bool
+pub fn is_crossed(h: Holder, e: Entry) -> bool
     ensures { λ q. ⌜ q ≡ crossed h e ⌝ }
 {
     if !h.present {
@@ -350,7 +371,7 @@ fn lay_literal(s: ConstraintSet, value: usize, literal: ScalarValue, checked: bo
     u
 }
 
-fn bounds_by(op: BinaryOp, x: f64) -> ValueRange
+pub fn bounds_by(op: BinaryOp, x: f64) -> ValueRange
     ensures { λ q. ⌜ q ≡ boundsBy op x ⌝ }
 {
     let t = ValueRange::unbounded();
@@ -425,7 +446,7 @@ fn has_handle(list: [u16; 64], count: usize, h: u16) -> bool
     false
 }
 
-fn push_handle(list: [u16; 64], count: usize, h: u16) -> Kept
+pub fn push_handle(list: [u16; 64], count: usize, h: u16) -> Kept
     ensures { λ q. ⌜ q ≡ keptBy list count h ⌝ }
 {
     if has_handle(list, count, h) {
@@ -468,6 +489,114 @@ pub fn add_residual(s: ConstraintSet, predicate: u16) -> Applied
     }
 }
 
+// ---- two classes of a set in which everything stands at the representatives: only one place changes
+
+fn literal_on(old: Holder, new: Holder) -> Holder
+    ensures { λ q. ⌜ q ≡ literalOn old new ⌝ }
+{
+    if new.present {
+        let l = new.value;
+        let clash = literal_clashes(old, l);
+        return literal_kept(clash, old, l);
+    }
+    old
+}
+
+fn literal_bad(old: Holder, new: Holder) -> bool
+    ensures { λ q. ⌜ q ≡ literalBad old new ⌝ }
+{
+    if new.present {
+        let l = new.value;
+        return literal_clashes(old, l);
+    }
+    false
+}
+
+fn range_on(old: Entry, new: Entry) -> Entry
+    ensures { λ q. ⌜ q ≡ rangeOn old new ⌝ }
+{
+    if new.present {
+        let r = new.range;
+        let range = tightened(old, r);
+        return entry_of(range);
+    }
+    old
+}
+
+fn range_bad(old: Entry, new: Entry) -> bool
+    ensures { λ q. ⌜ q ≡ rangeBad old new ⌝ }
+{
+    if new.present {
+        let r = new.range;
+        let range = tightened(old, r);
+        return range.is_empty();
+    }
+    false
+}
+
+pub fn place_of(h1: Holder, h2: Holder, e1: Entry, e2: Entry) -> Place
+    ensures { λ q. ⌜ q ≡ placeOf h1 h2 e1 e2 ⌝ }
+{
+    let literal = literal_on(h1, h2);
+    let entry = range_on(e1, e2);
+    let clash = literal_bad(h1, h2);
+    let empty = range_bad(e1, e2);
+    let crossed = is_crossed(literal, entry);
+    Place {
+        literal,
+        entry,
+        bad: clash | empty | crossed,
+    }
+}
+
+fn root_pair(classes: ValueEquivalenceClasses, left: usize, right: usize) -> RootPair
+    requires { ⌜ left < 128 ⌝ }
+    requires { ⌜ right < 128 ⌝ }
+    ensures { λ q. ⌜ q ≡ rootPair classes left right ⌝ }
+{
+    let l = classes.canonical(left);
+    let r = classes.canonical(right);
+    let mut k = classes;
+    if l < r {
+        k.parents[r] = l as u8;
+        return RootPair {
+            classes: k,
+            low: l,
+            high: r,
+        };
+    }
+    k.parents[l] = r as u8;
+    RootPair {
+        classes: k,
+        low: r,
+        high: l,
+    }
+}
+
+// The first union that joins two classes moves everything to the representatives; from then on it stands there, if no parent is above its
+// child.
+fn join_values(s: ConstraintSet, left: usize, right: usize) -> Joining
+    ensures { λ q. ⌜ JoinedTo q (unionValues s left right) ⌝ }
+{
+    let classes = s.equivalence_classes;
+    let u = classes.union(left, right);
+    if u.joined {
+        let k = u.classes;
+        let settled = k.parents_ok();
+        let mut t = s;
+        t.equivalence_classes = k;
+        let constraints = normalize(t);
+        return Joining {
+            constraints,
+            settled,
+        };
+    }
+    Joining {
+        constraints: s,
+        settled: false,
+    }
+}
+
 // ---- two sets
 
 // The first member that is not the representative, 128 where there is none.
@@ -477,19 +606,78 @@ fn second_member(first: usize, next: usize, r: usize) -> usize
     if first == r { next } else { first }
 }
 
-fn join_class(t: ConstraintSet, r: usize, start: usize, members: Members) -> ConstraintSet
-    ensures { λ q. ⌜ q ≡ chained members r 128 start t ⌝ }
+// The members from `start` on, at most `many`, each joined with r. What stands at the higher of two representatives comes to the lower one,
+// in place: no other place of a settled set changes.
+fn join_settled(
+    t: ConstraintSet,
+    r: usize,
+    start: usize,
+    many: usize,
+    members: Members,
+) -> ConstraintSet
+    requires { ⌜ Settled t ⌝ }
+    requires { ⌜ r < 128 ⌝ }
+    ensures { λ q. ⌜ JoinedTo (joining q true) (chained members r many start t) ⌝ }
+{
+    let no_literal = Holder::empty();
+    let no_entry = Entry::empty();
+    let mut q = t;
+    let mut m = start;
+    let mut left = many;
+    while (0 < left) & (m < 128) {
+        let classes = q.equivalence_classes;
+        let w = root_pair(classes, r, m);
+        let a = w.low;
+        let b = w.high;
+        if a < b {
+            let k = w.classes;
+            let n1 = q.non_null_values[a];
+            let n2 = q.non_null_values[b];
+            let h1 = q.literal_equalities[a];
+            let h2 = q.literal_equalities[b];
+            let e1 = q.ranges[a];
+            let e2 = q.ranges[b];
+            let p = place_of(h1, h2, e1, e2);
+            let h = p.literal;
+            let e = p.entry;
+            let was = q.contradictory;
+            q.equivalence_classes = k;
+            q.non_null_values[a] = n1 | n2;
+            q.non_null_values[b] = false;
+            q.literal_equalities[a] = h;
+            q.literal_equalities[b] = no_literal;
+            q.ranges[a] = e;
+            q.ranges[b] = no_entry;
+            q.contradictory = was | p.bad;
+        }
+        m = members.next[m] as usize;
+        left -= 1;
+    }
+    q
+}
+
+// The members of a class, from the first that is not the representative.
+fn join_class(t: Joining, r: usize, start: usize, members: Members) -> Joining
+    requires { ⌜ SettledIf t ⌝ }
+    requires { ⌜ r < 128 ⌝ }
+    ensures { λ q. ⌜ JoinedTo q (chained members r 128 start (t .constraints)) ⌝ }
 {
     let mut q = t;
     let mut m = start;
     let mut left: usize = 128;
-    while 0 < left {
-        if 128 <= m {
-            return q;
-        }
-        q = union_values(q, r, m);
+    while (0 < left) & (m < 128) & !q.settled {
+        let s = q.constraints;
+        q = join_values(s, r, m);
         m = members.next[m] as usize;
         left -= 1;
+    }
+    if q.settled {
+        let s = q.constraints;
+        let constraints = join_settled(s, r, m, left, members);
+        return Joining {
+            constraints,
+            settled: true,
+        };
     }
     q
 }
@@ -498,7 +686,10 @@ fn merge_classes(t: ConstraintSet, classes: ValueEquivalenceClasses) -> Constrai
     ensures { λ q. ⌜ q ≡ mergeClasses t classes ⌝ }
 {
     let members = classes.members();
-    let mut q = t;
+    let mut q = Joining {
+        constraints: t,
+        settled: false,
+    };
     let mut r: usize = 0;
     while r < 128 {
         let first = members.first[r] as usize;
@@ -509,7 +700,7 @@ fn merge_classes(t: ConstraintSet, classes: ValueEquivalenceClasses) -> Constrai
         }
         r += 1;
     }
-    q
+    q.constraints
 }
 
 fn merge_literals(t: ConstraintSet, others: [Holder; 128]) -> ConstraintSet

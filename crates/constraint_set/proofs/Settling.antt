@@ -1,0 +1,219 @@
+-- `normalize` leaves a settled set, and in a settled set joining two classes moves what stands at one representative to the other. Assumes nothing.
+use mathlib.Core.Path.{_≡_, refl, sym, ap, ap₂, _∙_, subst}
+use mathlib.Core.Bool.{Bool, true, false, cond, _||_}
+use mathlib.Core.List.{List}
+use mathlib.Core.Logic.{_⊎_, inl, inr}
+use Prim.Native.Nat.{ℕ, _<_}
+use native.Mathlib.Decide.{ℕ-discrete}
+use native.Mathlib.Omega.{arith}
+use lib.ListN.{length, getD, set, length-set}
+use lib.Seq.{getD-set-same, getD-set-other}
+use Rattle.value_classes.specs.Parents.{parentIn, rootOf, parentsOk}
+use Rattle.value_classes.specs.declared.ValueEquivalenceClasses.{ValueEquivalenceClasses}
+use Rattle.value_classes.proofs.RootLaws.{Falls, falls, falls-ok, parent-in, root-below, root-of-own, root-own, root-step, root-idempotent}
+use Rattle.constraints.specs.Sets.{none, noEntry, blank, parentsOf, nonNulls, literals, handles, nonNullAt, literalAt, entryAt, canonicalAt, withClasses, withNonNulls, withLiterals, withFlag, flagIf, crossed, crossedAt, crossCheck, rangesMoved, literalsMoved, normalized}
+use Rattle.constraints.specs.declared.Holder.{Holder}
+use Rattle.constraints.specs.declared.Entry.{Entry}
+use Rattle.constraints.specs.declared.ConstraintSet.{ConstraintSet}
+use Rattle.constraint_set.proofs.Checking.{just-checked, crossed-flagged, check-one}
+use Rattle.constraint_set.specs.Settled.{nullOn, literalOn, literalBad, rangeOn, rangeBad, Stands, Settled, movedTo, placeOf, unitedRoots}
+use Rattle.constraint_set.proofs.Passes.{or-before, goesTo, goes-b, goes-other, filled-stands, flagTo, filled-told, filled-moved, flag-moved}
+use Rattle.constraint_set.proofs.Contents.{null-idle, null-same, literal-idle, literal-again, literal-calm, literal-quiet, range-idle, range-calm, range-again, range-tells, nullsTo, literalsTo, rangesTo, clashTo, nulls-passed, literals-passed, ranges-passed}
+
+-- ---- the three passes as one
+abbrev emptyFlag : ConstraintSet → Bool
+emptyFlag s = flagTo noEntry rangeOn (canonicalAt s) blank (s .ranges) rangeBad (clashTo s 128) 128
+
+abbrev passed : ConstraintSet → ConstraintSet
+passed s =
+    record {
+      «equivalence_classes» = s .«equivalence_classes»;
+      «non_null_values» = nullsTo s 128;
+      «literal_equalities» = literalsTo s 128;
+      ranges = rangesTo s 128;
+      «residual_predicates» = handles s;
+      residuals = s .residuals;
+      contradictory = emptyFlag s;
+    }
+
+module _ (s : ConstraintSet) (low : (k : ℕ) → k < 128 → canonicalAt s k < 128) where
+  passes : normalized s ≡ crossCheck (passed s)
+  unfolding normalized
+  passes =
+      ap (λ (u : ConstraintSet). crossCheck (rangesMoved (literalsMoved u))) (nulls-passed s)
+      ∙ ap (λ (u : ConstraintSet). crossCheck (rangesMoved u)) (literals-passed (withNonNulls s (nullsTo s 128)) low)
+      ∙ ap crossCheck (ranges-passed (withFlag (withLiterals (withNonNulls s (nullsTo s 128)) (literalsTo s 128)) (clashTo s 128)) low)
+
+module _ (s : ConstraintSet) (many : length (parentsOf s) ≡ 128) (ok : parentsOk (parentsOf s) ≡ true) where
+  low : (k : ℕ) → k < 128 → canonicalAt s k < 128
+  low k h = root-below (parentsOf s) 128 k (canonicalAt s k) many refl h
+
+  idem : (k : ℕ) → k < 128 → canonicalAt s (canonicalAt s k) ≡ canonicalAt s k
+  idem k h = root-idempotent (parentsOf s) (falls (parentsOf s) ok) k
+
+  -- what `normalize` leaves is settled. Assumes parents that are in order
+  pub normalized-settled : Settled (normalized s)
+  normalized-settled = subst Settled (sym (passes s low)) checked-settled
+    where
+      checked-settled : Settled (crossCheck (passed s))
+      checked-settled = unfold crossCheck in record {
+        many = many;
+        ok = ok;
+        nulls = filled-stands false nullOn (canonicalAt s) false (nonNulls s) low idem (null-same false) (λ x y e. null-same (nullOn x y));
+        equal = filled-stands none literalOn (canonicalAt s) none (literals s) low idem (literal-idle none) literal-again;
+        within = filled-stands noEntry rangeOn (canonicalAt s) blank (s .ranges) low idem (range-idle noEntry) range-again;
+        quiet = λ i h e. or-before (emptyFlag s) _ (filled-told noEntry rangeOn (canonicalAt s) blank (s .ranges) rangeBad (clashTo s 128) (range-idle noEntry) range-again (range-calm noEntry) range-tells low i h e);
+        checked = just-checked (passed s);
+      }
+
+-- ---- representatives after b has got a as its parent
+module _ (p : List ℕ) (f : Falls p) (a b : ℕ) (less : a < b) (high : b < length p) (own-a : rootOf p a ≡ a) where
+  abbrev q : List ℕ
+  q = set p b a
+
+  pub set-falls : Falls q
+  set-falls i h = elim (ℕ-discrete i b) [
+    | yes e ↦ rw (e, getD-set-same p b a 0 high) (omega arith)
+    | no n ↦ rw (getD-set-other p b i a 0 n) (f i (omega (arith, length-set p b a)))
+  ]
+
+  own : (i : ℕ) → rootOf p i ≡ i → (i ≡ b → ⊥) → rootOf q i ≡ i
+  own i e n = root-of-own q i (other ∙ subst (λ (x : ℕ). parentIn p x ≡ x) e (root-own p f i))
+    where
+      other : parentIn q i ≡ parentIn p i
+      other = unfold parentIn in rw (length-set p b a, getD-set-other p b i a 0 n)
+
+  joins : rootOf q b ≡ a
+  joins =
+      let e = getD-set-same p b a 0 high in
+      let l = length-set p b a in
+      root-step q set-falls b ∙ ap (rootOf q) (parent-in q b (omega arith) (omega arith) ∙ e) ∙ own a own-a (omega arith)
+
+  pub root-goes : (i : ℕ) → rootOf p i ≡ i → rootOf q i ≡ goesTo a b i
+  root-goes i e = elim (ℕ-discrete i b) [
+    | yes d ↦ ap (rootOf q) d ∙ joins ∙ sym (ap (goesTo a b) d ∙ goes-b a b)
+    | no n ↦ own i e n ∙ sym (goes-other a b i n)
+  ]
+
+-- ---- two representatives joined
+or-regroup : (f x y z : Bool) → (((f || x) || y) || z) ≡ (f || ((x || y) || z))
+or-regroup true x y z = refl
+or-regroup false x y z = refl
+
+module _ {A : Type 0} (l : List A) (a b : ℕ) (now none d : A) (less : a < b) (high : b < 128) (long : length l ≡ 128) where
+  moved-a : getD (movedTo l a b now none) a d ≡ now
+  moved-a = getD-set-other (set l a now) b a none d (omega arith) ∙ getD-set-same l a now d (omega arith)
+
+  moved-b : getD (movedTo l a b now none) b d ≡ none
+  moved-b = getD-set-same (set l a now) b none d (omega (arith, length-set l a now))
+
+  moved-other : (k : ℕ) → (k ≡ a → ⊥) → (k ≡ b → ⊥) → getD (movedTo l a b now none) k d ≡ getD l k d
+  moved-other k n m = getD-set-other (set l a now) b k none d m ∙ getD-set-other l a k now d n
+
+module _ (s : ConstraintSet) (g : Settled s) (a b : ℕ) (less : a < b) (high : b < 128) (own-a : canonicalAt s a ≡ a) where
+  abbrev k : ValueEquivalenceClasses
+  k = record { parents = set (parentsOf s) b a }
+
+  abbrev t : ConstraintSet
+  t = withClasses s k
+
+  abbrev holder : Holder
+  holder = literalOn (literalAt s a) (literalAt s b)
+
+  abbrev entry : Entry
+  entry = rangeOn (entryAt s a) (entryAt s b)
+
+  abbrev clash : Bool
+  clash = literalBad (literalAt s a) (literalAt s b)
+
+  abbrev empty : Bool
+  empty = rangeBad (entryAt s a) (entryAt s b)
+
+  many-t : length (parentsOf t) ≡ 128
+  many-t = length-set (parentsOf s) b a ∙ g .many
+
+  fall : Falls (parentsOf s)
+  fall = falls (parentsOf s) (g .ok)
+
+  ok-t : parentsOk (parentsOf t) ≡ true
+  ok-t = falls-ok (parentsOf t) (set-falls (parentsOf s) fall a b less (omega (arith, g .many)) own-a)
+
+  low-t : (i : ℕ) → i < 128 → canonicalAt t i < 128
+  low-t i h = root-below (parentsOf t) 128 i (canonicalAt t i) many-t refl h
+
+  -- a content that is there goes where its representative goes
+  goes : {A : Type 0} (n : A) (put : A → A → A) (d : A) (l : List A) → Stands n put (canonicalAt s) d l → (i : ℕ) → i < 128 → (getD l i d ≡ n) ⊎ (canonicalAt t i ≡ goesTo a b i)
+  goes n put d l st i h = elim (ℕ-discrete (canonicalAt s i) i) [
+    | yes e ↦ inr (root-goes (parentsOf s) fall a b less (omega (arith, g .many)) own-a i e)
+    | no m ↦ inl (st .away i h m)
+  ]
+
+  nulls-moved : nullsTo t 128 ≡ movedTo (nonNulls s) a b (nullOn (nonNullAt s a) (nonNullAt s b)) false
+  nulls-moved = filled-moved false nullOn (canonicalAt t) false (nonNulls s) a b less high null-idle (g .nulls .same) (goes false nullOn false (nonNulls s) (g .nulls)) low-t (g .nulls .long)
+
+  literals-moved : literalsTo t 128 ≡ movedTo (literals s) a b holder none
+  literals-moved = filled-moved none literalOn (canonicalAt t) none (literals s) a b less high literal-idle (g .equal .same) (goes none literalOn none (literals s) (g .equal)) low-t (g .equal .long)
+
+  ranges-moved : rangesTo t 128 ≡ movedTo (s .ranges) a b entry noEntry
+  ranges-moved = filled-moved noEntry rangeOn (canonicalAt t) blank (s .ranges) a b less high range-idle (g .within .same) (goes noEntry rangeOn blank (s .ranges) (g .within)) low-t (g .within .long)
+
+  clash-moved : clashTo t 128 ≡ (s .contradictory || clash)
+  clash-moved =
+      flag-moved none literalOn (canonicalAt t) none (literals s) a b less high literal-idle (g .equal .same) (goes none literalOn none (literals s) (g .equal)) literalBad (s .contradictory) literal-calm
+      (λ i h e. absurd (subst (λ (c : Bool). cond c Unit ⊥) (sym e ∙ literal-quiet (literalAt s i)) tt))
+
+  empty-moved : emptyFlag t ≡ ((s .contradictory || clash) || empty)
+  empty-moved =
+      ap (λ (f : Bool). flagTo noEntry rangeOn (canonicalAt t) blank (s .ranges) rangeBad f 128) clash-moved
+      ∙ flag-moved noEntry rangeOn (canonicalAt t) blank (s .ranges) a b less high range-idle (g .within .same) (goes noEntry rangeOn blank (s .ranges) (g .within)) rangeBad (s .contradictory || clash) range-calm
+      (λ i h e. or-before (s .contradictory) clash (g .quiet i h e))
+
+  -- before the check
+  abbrev u : ConstraintSet
+  u =
+      record {
+        «equivalence_classes» = k;
+        «non_null_values» = movedTo (nonNulls s) a b (nullOn (nonNullAt s a) (nonNullAt s b)) false;
+        «literal_equalities» = movedTo (literals s) a b holder none;
+        ranges = movedTo (s .ranges) a b entry noEntry;
+        «residual_predicates» = handles s;
+        residuals = s .residuals;
+        contradictory = (s .contradictory || clash) || empty;
+      }
+
+  passed-moved : passed t ≡ u
+  passed-moved = λ i.
+      record {
+        «equivalence_classes» = k;
+        «non_null_values» = nulls-moved i;
+        «literal_equalities» = literals-moved i;
+        ranges = ranges-moved i;
+        «residual_predicates» = handles s;
+        residuals = s .residuals;
+        contradictory = empty-moved i;
+      }
+
+  flagged : (j : ℕ) → j < 128 → crossedAt s j ≡ true → u .contradictory ≡ true
+  flagged j h e = or-before (s .contradictory || clash) empty (or-before (s .contradictory) clash (crossed-flagged s (g .checked) j h e))
+
+  others : (j : ℕ) → j < 128 → (j ≡ a → ⊥) → crossedAt u j ≡ true → u .contradictory ≡ true
+  others j h n e = elim (ℕ-discrete j b) [
+    | yes q ↦ absurd (subst (λ (c : Bool). cond c Unit ⊥)
+        (sym e ∙ ap (λ (x : Holder). crossed x (entryAt u j)) (ap (literalAt u) q ∙ moved-b (literals s) a b holder none none less high (g .equal .long))) tt)
+    | no m ↦ flagged j h
+        (sym (ap₂ crossed (moved-other (literals s) a b holder none none less high (g .equal .long) j n m)
+        (moved-other (s .ranges) a b entry noEntry blank less high (g .within .long) j n m)) ∙ e)
+  ]
+
+  -- joining moves what stands at b to a, and one place is checked. Assumes a settled set and a representative a
+  pub joined-normalized : normalized t ≡ unitedRoots s a b
+  unfolding unitedRoots placeOf
+  joined-normalized =
+      passes t low-t ∙ ap crossCheck passed-moved ∙ check-one u a (omega arith) others
+      ∙ ap (λ (c : Bool). flagIf c u)
+      (ap₂ crossed (moved-a (literals s) a b holder none none less high (g .equal .long)) (moved-a (s .ranges) a b entry noEntry blank less high (g .within .long)))
+      ∙ ap (withFlag u) (or-regroup (s .contradictory) clash empty (crossed holder entry))
+
+  -- and the set is settled again
+  pub united-settled : Settled (unitedRoots s a b)
+  united-settled = subst Settled joined-normalized (normalized-settled t many-t ok-t)

@@ -1,0 +1,29 @@
+use Rattle.constraint_set.specs.Settled.{rangeOn}
+use borrow.Author.Needs.{needs}
+use Rattle.constraint_set.proofs.range_on.Statement.{statement}
+use Rattle.constraint_set.proofs.range_on.Tie as tie
+use Rattle.constraint_set.proofs.range_on.Reads as reads
+use Rattle.constraint_set.proofs.range_on.Lts as lts
+use Rattle.constraint_set.proofs.entry_of.Reads as entry-of-reads
+use Rattle.constraint_set.proofs.tightened.Reads as tightened-reads
+
+-- src/lib.rt:512:13
+tightened-requires : tie.Need-tightened-requires
+tightened-requires c κs = search needs
+
+-- src/lib.rt:513:9
+entry-of-requires : tie.Need-entry-of-requires
+entry-of-requires c κs = search needs
+
+-- src/lib.rt:513:9
+returns : tie.Need-returns
+unfolding rangeOn
+returns c = rw (c .before .before .before .if1 .taken, ← c .before .tightened .ensures) (c .entry-of .ensures)
+
+-- src/lib.rt:507:1
+returns-2 : tie.Need-returns-2
+unfolding rangeOn
+returns-2 c = rw (c .if1 .left)
+
+pub range-on-spec : {M : Type 1} → statement M
+range-on-spec = tie.close (tie.spec tightened-requires entry-of-requires returns returns-2)
