@@ -1,1 +1,3 @@
-pub mod Operands
+pub mod Acts
+pub mod CellLaws
+pub mod Settles

@@ -1,17 +1,41 @@
-// What one conjunct of a predicate records in a constraint set, after the arms of the Rust's `apply_predicate`.
+// What one conjunct of a predicate records, after the arms of the Rust's `apply_predicate`, in two halves: which action it is, read out of the
+// plan without a set, and what that makes of the one representative that it is about. A set is 9 KB, so none is passed here.
 use comparison::BinaryOp;
-use constraints::Applied;
-use constraints::ConstraintSet;
-use constraints::Ranged;
+use constraint_set::Kept;
+use constraints::Entry;
+use constraints::Holder;
 use plan::Column;
 use plan_data::ExprData;
 use predicates::Seen;
+use scalar::Number;
 use scalar::ScalarValue;
 ghost use mathlib.Core.Path.{_≡_};
-ghost use mathlib.Core.Bool.{true, cond};
-ghost use Rattle.constraints.specs.Sets.{done, withFlag, unionValues, addNonNull, addLiteral, addRange};
+ghost use mathlib.Core.Bool.{false, cond};
+ghost use Rattle.constraint_set.specs.Kept.{keptBy};
 ghost use Rattle.plan_data.specs.Nodes.{nodeOf};
-ghost use Rattle.predicates.specs.Apply.{seenOf, isNullLiteral, pairApplied, rangeApplied, boundApplied, boundReversed, operandsApplied, comparisonApplied, literalApplied, conjunctApplied};
+ghost use Rattle.predicates.specs.Apply.{seenOf, isNullLiteral};
+ghost use Rattle.conjunct_facts.specs.Actions.{sameAction, pairAction, boundedBy, rangeAction, literalAction, boundAction, reversedAction, operandsAction, comparisonAction, constantAction, actionOf, firstOf, secondOf, isChecking, isResidual};
+ghost use Rattle.conjunct_facts.specs.Cells.{nonNullCell, flaggedCell, literalCell, boundCell, entryCell, cellAfter};
+
+// What a conjunct asks: nothing, the flag, to be kept as a residual, two identities in one class (not NULL where the flag says so), a literal,
+// a bound, or an entry without a bound and a residual.
+pub enum Action {
+    Nothing,
+    Contradiction,
+    Residual,
+    Same(usize, usize, bool),
+    Literal(usize, ScalarValue),
+    Bound(usize, BinaryOp, f64),
+    Entry(usize),
+}
+
+// What is recorded of one representative, and the flag of the set.
+pub struct Cell {
+    pub non_null: bool,
+    pub literal: Holder,
+    pub entry: Entry,
+    pub contradictory: bool,
+}
 
 // ---- what an operand of a comparison is
 
@@ -51,193 +75,171 @@ fn is_null_literal(x: Seen) -> bool
     }
 }
 
-// ---- what one conjunct, the handle h, records
-
-// The flag is set: no row passes.
-fn contradicted(s: ConstraintSet) -> Applied
-    ensures { λ r. ⌜ r ≡ done (withFlag s true) ⌝ }
-{
-    let mut t = s;
-    t.contradictory = true;
-    Applied {
-        constraints: t,
-        refused: false,
-    }
-}
-
-pub fn accepted(s: ConstraintSet) -> Applied
-    ensures { λ r. ⌜ r ≡ done s ⌝ }
-{
-    Applied {
-        constraints: s,
-        refused: false,
-    }
-}
+// ---- which action a conjunct is
 
 // Two columns with lineage are equal: their classes are one, and under the ordinary equality they are not NULL.
-fn join_pair(s: ConstraintSet, left: usize, right: usize, ordinary: bool) -> Applied
-    ensures { λ r. ⌜ r ≡ done (cond ordinary (addNonNull (unionValues s left right) left) (unionValues s left right)) ⌝ }
+fn same(left: usize, right: usize, ordinary: bool) -> Action
+    ensures { λ r. ⌜ r ≡ sameAction left right ordinary ⌝ }
 {
-    let t = constraint_set::union_values(s, left, right);
-    if ordinary {
-        let u = constraint_set::add_non_null(t, left);
-        return accepted(u);
+    if 128 <= left {
+        return Action::Nothing;
     }
-    accepted(t)
+    if 128 <= right {
+        return Action::Same(left, left, ordinary);
+    }
+    Action::Same(left, right, ordinary)
 }
 
 // Two columns with lineage.
-fn apply_pair(s: ConstraintSet, h: u16, op: BinaryOp, left: usize, right: usize) -> Applied
-    ensures { λ r. ⌜ r ≡ pairApplied s h op left right ⌝ }
+fn pair_action(op: BinaryOp, left: usize, right: usize) -> Action
+    ensures { λ r. ⌜ r ≡ pairAction op left right ⌝ }
 {
     match op {
-        BinaryOp::Eq => join_pair(s, left, right, true),
-        BinaryOp::NotEq => constraint_set::add_residual(s, h),
-        BinaryOp::Lt => constraint_set::add_residual(s, h),
-        BinaryOp::LtEq => constraint_set::add_residual(s, h),
-        BinaryOp::Gt => constraint_set::add_residual(s, h),
-        BinaryOp::GtEq => constraint_set::add_residual(s, h),
-        BinaryOp::IsNotDistinctFrom => join_pair(s, left, right, false),
+        BinaryOp::Eq => same(left, right, true),
+        BinaryOp::NotEq => Action::Residual,
+        BinaryOp::Lt => Action::Residual,
+        BinaryOp::LtEq => Action::Residual,
+        BinaryOp::Gt => Action::Residual,
+        BinaryOp::GtEq => Action::Residual,
+        BinaryOp::IsNotDistinctFrom => same(left, right, false),
     }
 }
 
-fn apply_range(
-    s: ConstraintSet,
-    h: u16,
-    op: BinaryOp,
-    value: usize,
-    literal: ScalarValue,
-) -> Applied
-    ensures { λ r. ⌜ r ≡ rangeApplied h (addRange s value op literal) ⌝ }
+// A comparison that bounds is recorded, any other makes an entry and is residual.
+fn number_action(op: BinaryOp, value: usize, x: f64) -> Action
+    ensures { λ r. ⌜ r ≡ boundedBy op value (Number.Of x) ⌝ }
 {
-    let ranged = constraint_set::add_range(s, value, op, literal);
-    let t = ranged.constraints;
-    if ranged.recorded {
-        return accepted(t);
+    let bounds = comparison::is_bounding(op);
+    if 128 <= value {
+        return if bounds {
+            Action::Nothing
+        } else {
+            Action::Residual
+        };
     }
-    constraint_set::add_residual(t, h)
+    if bounds {
+        return Action::Bound(value, op, x);
+    }
+    Action::Entry(value)
 }
 
-fn apply_literal(s: ConstraintSet, value: usize, literal: ScalarValue) -> Applied
-    ensures { λ r. ⌜ r ≡ done (addLiteral s value literal) ⌝ }
+fn range_action(op: BinaryOp, value: usize, literal: ScalarValue) -> Action
+    ensures { λ r. ⌜ r ≡ rangeAction op value literal ⌝ }
 {
-    let t = constraint_set::add_literal(s, value, literal);
-    accepted(t)
+    let number = scalar::scalar_to_f64(literal);
+    match number {
+        Number::Of(x) => number_action(op, value, x),
+        Number::Nothing => Action::Residual,
+    }
+}
+
+fn literal_action(value: usize, literal: ScalarValue) -> Action
+    ensures { λ r. ⌜ r ≡ literalAction value literal ⌝ }
+{
+    if 128 <= value {
+        return Action::Nothing;
+    }
+    if scalar::is_null(literal) {
+        return Action::Contradiction;
+    }
+    Action::Literal(value, literal)
 }
 
 // A column with lineage on the left of a literal.
-fn apply_bound(
-    s: ConstraintSet,
-    h: u16,
-    op: BinaryOp,
-    value: usize,
-    literal: ScalarValue,
-) -> Applied
-    ensures { λ r. ⌜ r ≡ boundApplied s h op value literal ⌝ }
+fn bound_action(op: BinaryOp, value: usize, literal: ScalarValue) -> Action
+    ensures { λ r. ⌜ r ≡ boundAction op value literal ⌝ }
 {
     match op {
-        BinaryOp::Eq => apply_literal(s, value, literal),
-        BinaryOp::NotEq => apply_range(s, h, BinaryOp::NotEq, value, literal),
-        BinaryOp::Lt => apply_range(s, h, BinaryOp::Lt, value, literal),
-        BinaryOp::LtEq => apply_range(s, h, BinaryOp::LtEq, value, literal),
-        BinaryOp::Gt => apply_range(s, h, BinaryOp::Gt, value, literal),
-        BinaryOp::GtEq => apply_range(s, h, BinaryOp::GtEq, value, literal),
-        BinaryOp::IsNotDistinctFrom => apply_range(
-            s,
-            h,
-            BinaryOp::IsNotDistinctFrom,
-            value,
-            literal,
-        ),
+        BinaryOp::Eq => literal_action(value, literal),
+        BinaryOp::NotEq => range_action(BinaryOp::NotEq, value, literal),
+        BinaryOp::Lt => range_action(BinaryOp::Lt, value, literal),
+        BinaryOp::LtEq => range_action(BinaryOp::LtEq, value, literal),
+        BinaryOp::Gt => range_action(BinaryOp::Gt, value, literal),
+        BinaryOp::GtEq => range_action(BinaryOp::GtEq, value, literal),
+        BinaryOp::IsNotDistinctFrom => range_action(BinaryOp::IsNotDistinctFrom, value, literal),
     }
 }
 
 // And on its right: only the four that bound are turned round.
-fn apply_reversed(
-    s: ConstraintSet,
-    h: u16,
-    op: BinaryOp,
-    value: usize,
-    literal: ScalarValue,
-) -> Applied
-    ensures { λ r. ⌜ r ≡ boundReversed s h op value literal ⌝ }
+fn reversed_action(op: BinaryOp, value: usize, literal: ScalarValue) -> Action
+    ensures { λ r. ⌜ r ≡ reversedAction op value literal ⌝ }
 {
     match op {
-        BinaryOp::Eq => apply_literal(s, value, literal),
-        BinaryOp::NotEq => constraint_set::add_residual(s, h),
-        BinaryOp::Lt => apply_range(s, h, BinaryOp::Gt, value, literal),
-        BinaryOp::LtEq => apply_range(s, h, BinaryOp::GtEq, value, literal),
-        BinaryOp::Gt => apply_range(s, h, BinaryOp::Lt, value, literal),
-        BinaryOp::GtEq => apply_range(s, h, BinaryOp::LtEq, value, literal),
-        BinaryOp::IsNotDistinctFrom => constraint_set::add_residual(s, h),
+        BinaryOp::Eq => literal_action(value, literal),
+        BinaryOp::NotEq => Action::Residual,
+        BinaryOp::Lt => range_action(BinaryOp::Gt, value, literal),
+        BinaryOp::LtEq => range_action(BinaryOp::GtEq, value, literal),
+        BinaryOp::Gt => range_action(BinaryOp::Lt, value, literal),
+        BinaryOp::GtEq => range_action(BinaryOp::LtEq, value, literal),
+        BinaryOp::IsNotDistinctFrom => Action::Residual,
     }
 }
 
 // An identity on the left.
-fn apply_left(s: ConstraintSet, h: u16, op: BinaryOp, left: usize, r: Seen) -> Applied
-    ensures { λ q. ⌜ q ≡ operandsApplied s h op (Seen.Identity left) r ⌝ }
+fn left_action(op: BinaryOp, left: usize, r: Seen) -> Action
+    ensures { λ q. ⌜ q ≡ operandsAction op (Seen.Identity left) r ⌝ }
 {
     match r {
-        Seen::Identity(right) => apply_pair(s, h, op, left, right),
-        Seen::Constant(literal) => apply_bound(s, h, op, left, literal),
-        Seen::Unseen => constraint_set::add_residual(s, h),
+        Seen::Identity(right) => pair_action(op, left, right),
+        Seen::Constant(literal) => bound_action(op, left, literal),
+        Seen::Unseen => Action::Residual,
     }
 }
 
 // A literal on the left.
-fn apply_right(s: ConstraintSet, h: u16, op: BinaryOp, literal: ScalarValue, r: Seen) -> Applied
-    ensures { λ q. ⌜ q ≡ operandsApplied s h op (Seen.Constant literal) r ⌝ }
+fn right_action(op: BinaryOp, literal: ScalarValue, r: Seen) -> Action
+    ensures { λ q. ⌜ q ≡ operandsAction op (Seen.Constant literal) r ⌝ }
 {
     match r {
-        Seen::Identity(right) => apply_reversed(s, h, op, right, literal),
-        Seen::Constant(_) => constraint_set::add_residual(s, h),
-        Seen::Unseen => constraint_set::add_residual(s, h),
+        Seen::Identity(right) => reversed_action(op, right, literal),
+        Seen::Constant(_) => Action::Residual,
+        Seen::Unseen => Action::Residual,
     }
 }
 
-fn apply_operands(s: ConstraintSet, h: u16, op: BinaryOp, l: Seen, r: Seen) -> Applied
-    ensures { λ q. ⌜ q ≡ operandsApplied s h op l r ⌝ }
+fn operands_action(op: BinaryOp, l: Seen, r: Seen) -> Action
+    ensures { λ q. ⌜ q ≡ operandsAction op l r ⌝ }
 {
     match l {
-        Seen::Identity(left) => apply_left(s, h, op, left, r),
-        Seen::Constant(literal) => apply_right(s, h, op, literal, r),
-        Seen::Unseen => constraint_set::add_residual(s, h),
+        Seen::Identity(left) => left_action(op, left, r),
+        Seen::Constant(literal) => right_action(op, literal, r),
+        Seen::Unseen => Action::Residual,
     }
 }
 
 // One of the six ordinary comparisons with a NULL literal never is TRUE.
-fn apply_comparison(s: ConstraintSet, h: u16, op: BinaryOp, l: Seen, r: Seen) -> Applied
-    ensures { λ q. ⌜ q ≡ comparisonApplied s h op l r ⌝ }
+fn comparison_action(op: BinaryOp, l: Seen, r: Seen) -> Action
+    ensures { λ q. ⌜ q ≡ comparisonAction op l r ⌝ }
 {
     let ordinary = comparison::is_ordinary(op);
     let null = is_null_literal(l) | is_null_literal(r);
     if ordinary & null {
-        return contradicted(s);
+        return Action::Contradiction;
     }
-    apply_operands(s, h, op, l, r)
+    operands_action(op, l, r)
 }
 
 // A literal as a predicate.
-fn apply_constant(s: ConstraintSet, h: u16, v: ScalarValue) -> Applied
-    ensures { λ r. ⌜ r ≡ literalApplied s h v ⌝ }
+fn constant_action(v: ScalarValue) -> Action
+    ensures { λ r. ⌜ r ≡ constantAction v ⌝ }
 {
     match v {
-        ScalarValue::Null(_) => contradicted(s),
+        ScalarValue::Null(_) => Action::Contradiction,
         ScalarValue::Boolean(b) => {
             if b {
-                return accepted(s);
+                return Action::Nothing;
             }
-            contradicted(s)
+            Action::Contradiction
         }
-        ScalarValue::Int32(_) => constraint_set::add_residual(s, h),
-        ScalarValue::Int64(_) => constraint_set::add_residual(s, h),
-        ScalarValue::Float64(_) => constraint_set::add_residual(s, h),
-        ScalarValue::Date32(_) => constraint_set::add_residual(s, h),
+        ScalarValue::Int32(_) => Action::Residual,
+        ScalarValue::Int64(_) => Action::Residual,
+        ScalarValue::Float64(_) => Action::Residual,
+        ScalarValue::Date32(_) => Action::Residual,
     }
 }
 
-// One conjunct. The tables of the plan are lent one by one.
-pub fn apply_conjunct<'a>(
+// The conjunct h. The tables of the plan are lent one by one.
+pub fn action_of<'a>(
     kind: &'a [u8],
     code: &'a [u8],
     a: &'a [u16],
@@ -245,23 +247,183 @@ pub fn apply_conjunct<'a>(
     bits: &'a [u64],
     start: &'a [u16],
     lineage: &'a [u8],
-    s: ConstraintSet,
     h: u16,
-) -> Applied
-    ensures { λ r. ⌜ r ≡ conjunctApplied (now (lineage .entry)) (nodeOf (now (kind .entry)) (now (code .entry)) (now (a .entry)) (now (b .entry)) (now (bits .entry)) (now (start .entry))) s h ⌝ }
+) -> Action
+    ensures { λ r. ⌜ r ≡ actionOf (now (lineage .entry)) (nodeOf (now (kind .entry)) (now (code .entry)) (now (a .entry)) (now (b .entry)) (now (bits .entry)) (now (start .entry))) h ⌝ }
 {
     let node = plan_data::node_at(kind, code, a, b, bits, start, h as usize);
     match node {
-        ExprData::Literal(v) => apply_constant(s, h, v),
-        ExprData::ColumnRef(_) => constraint_set::add_residual(s, h),
-        ExprData::Unary { op: _, expr: _ } => constraint_set::add_residual(s, h),
+        ExprData::Literal(v) => constant_action(v),
+        ExprData::ColumnRef(_) => Action::Residual,
+        ExprData::Unary { op: _, expr: _ } => Action::Residual,
         ExprData::Binary { op, left, right } => {
             let x = plan_data::node_at(kind, code, a, b, bits, start, left.0 as usize);
             let y = plan_data::node_at(kind, code, a, b, bits, start, right.0 as usize);
             let l = seen(lineage, x);
             let r = seen(lineage, y);
-            apply_comparison(s, h, op, l, r)
+            comparison_action(op, l, r)
         }
-        ExprData::Nary { op: _, exprs: _ } => constraint_set::add_residual(s, h),
+        ExprData::Nary { op: _, exprs: _ } => Action::Residual,
+    }
+}
+
+// ---- what an action is about
+
+// The identity that it is about; 0 where there is none.
+pub fn first_of(action: Action) -> usize
+    ensures { λ r. ⌜ r ≡ firstOf action ⌝ }
+{
+    match action {
+        Action::Nothing => 0,
+        Action::Contradiction => 0,
+        Action::Residual => 0,
+        Action::Same(i, _, _) => i,
+        Action::Literal(i, _) => i,
+        Action::Bound(i, _, _) => i,
+        Action::Entry(i) => i,
+    }
+}
+
+// The one that is to be in its class.
+pub fn second_of(action: Action) -> usize
+    ensures { λ r. ⌜ r ≡ secondOf action ⌝ }
+{
+    match action {
+        Action::Nothing => 0,
+        Action::Contradiction => 0,
+        Action::Residual => 0,
+        Action::Same(_, j, _) => j,
+        Action::Literal(i, _) => i,
+        Action::Bound(i, _, _) => i,
+        Action::Entry(i) => i,
+    }
+}
+
+// Whether literals are held against ranges after it.
+pub fn is_checking(action: Action) -> bool
+    ensures { λ r. ⌜ r ≡ isChecking action ⌝ }
+{
+    match action {
+        Action::Nothing => false,
+        Action::Contradiction => false,
+        Action::Residual => false,
+        Action::Same(_, _, _) => false,
+        Action::Literal(_, _) => true,
+        Action::Bound(_, _, _) => true,
+        Action::Entry(_) => false,
+    }
+}
+
+// Whether the conjunct is residual.
+pub fn is_residual(action: Action) -> bool
+    ensures { λ r. ⌜ r ≡ isResidual action ⌝ }
+{
+    match action {
+        Action::Nothing => false,
+        Action::Contradiction => false,
+        Action::Residual => true,
+        Action::Same(_, _, _) => false,
+        Action::Literal(_, _) => false,
+        Action::Bound(_, _, _) => false,
+        Action::Entry(_) => true,
+    }
+}
+
+// ---- what it makes of a representative
+
+fn flagged(c: Cell) -> Cell
+    ensures { λ r. ⌜ r ≡ flaggedCell c ⌝ }
+{
+    let mut d = c;
+    d.contradictory = true;
+    d
+}
+
+fn not_null(c: Cell, so: bool) -> Cell
+    ensures { λ r. ⌜ r ≡ cond so (nonNullCell c) c ⌝ }
+{
+    let mut d = c;
+    if so {
+        d.non_null = true;
+    }
+    d
+}
+
+fn with_literal(c: Cell, value: ScalarValue) -> Cell
+    ensures { λ r. ⌜ r ≡ literalCell c value ⌝ }
+{
+    let old = c.literal;
+    let entry = c.entry;
+    let clash = constraint_set::literal_clashes(old, value);
+    let literal = constraint_set::literal_kept(clash, old, value);
+    let crossed = constraint_set::is_crossed(literal, entry);
+    let was = c.contradictory;
+    Cell {
+        non_null: true,
+        literal,
+        entry,
+        contradictory: (was | clash) | crossed,
+    }
+}
+
+fn with_bound(c: Cell, op: BinaryOp, x: f64) -> Cell
+    ensures { λ r. ⌜ r ≡ boundCell c op x ⌝ }
+{
+    let old = c.entry;
+    let literal = c.literal;
+    let new = constraint_set::bounds_by(op, x);
+    let range = constraint_set::tightened(old, new);
+    let empty = range.is_empty();
+    let entry = constraint_set::entry_of(range);
+    let crossed = constraint_set::is_crossed(literal, entry);
+    let was = c.contradictory;
+    Cell {
+        non_null: true,
+        literal,
+        entry,
+        contradictory: (was | empty) | crossed,
+    }
+}
+
+fn with_entry(c: Cell) -> Cell
+    ensures { λ r. ⌜ r ≡ entryCell c ⌝ }
+{
+    let old = c.entry;
+    let literal = c.literal;
+    let range = constraint_set::range_in(old);
+    let entry = constraint_set::entry_of(range);
+    Cell {
+        non_null: true,
+        literal,
+        entry,
+        contradictory: c.contradictory,
+    }
+}
+
+pub fn cell_after(c: Cell, action: Action) -> Cell
+    ensures { λ r. ⌜ r ≡ cellAfter c action ⌝ }
+{
+    match action {
+        Action::Nothing => c,
+        Action::Contradiction => flagged(c),
+        Action::Residual => c,
+        Action::Same(_, _, both) => not_null(c, both),
+        Action::Literal(_, value) => with_literal(c, value),
+        Action::Bound(_, op, x) => with_bound(c, op, x),
+        Action::Entry(_) => with_entry(c),
+    }
+}
+
+// The residual handles with h, where it is one.
+pub fn residuals_after(list: [u16; 64], count: usize, h: u16, residual: bool) -> Kept
+    ensures { λ r. ⌜ r ≡ cond residual (keptBy list count h) (record { list = list; count = count; refused = false }) ⌝ }
+{
+    if residual {
+        return constraint_set::push_handle(list, count, h);
+    }
+    Kept {
+        list,
+        count,
+        refused: false,
     }
 }

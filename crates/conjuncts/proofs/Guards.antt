@@ -1,10 +1,10 @@
--- What the tests of a step say where they fail. Assumes nothing.
-use Prim.Native.Nat.{ℕ, zero, suc, _-_, _<_, _≤_}
+-- What the tests of a frame say where they fail. Assumes nothing.
+use Prim.Native.Nat.{ℕ, zero, suc, _<_, _≤_}
 use mathlib.Core.Path.{_≡_, refl}
 use mathlib.Core.Bool.{Bool, true, false, _||_}
 use native.Mathlib.Omega.{arith}
-use lib.Dec.{ltb, leb, eqb}
-use borrow.Author.Tests.{ltb-false, leb-false, eqb-false}
+use lib.Dec.{leb, eqb}
+use borrow.Author.Tests.{leb-false, eqb-false}
 
 pub or-left : (a b : Bool) → (a || b) ≡ false → a ≡ false
 or-left true b e = e
@@ -26,14 +26,5 @@ pub not-none : (n : ℕ) → eqb n 0 ≡ false → 1 ≤ n
 not-none n e = more-than-none n (eqb-false n 0 e)
 
 -- a frame has an operand left, and it stands among the items
-pub goes-on : (left at : ℕ) → (eqb left 0 || leb 2048 at) ≡ false → (1 ≤ left) × (at < 2048) × (at < 65535)
-goes-on left at e =
-    let low = leb-false 2048 at (or-right (eqb left 0) _ e) in
-    (not-none left (or-left _ _ e), low, omega arith)
-
--- there is a frame, and room for it
-pub framed : (d : ℕ) → (eqb d 0 || ltb 1024 d) ≡ false → (1 ≤ d) × (d ≤ 1024) × (d - 1 < 1024)
-framed d e =
-    let some = not-none d (or-left _ _ e) in
-    let few = ltb-false 1024 d (or-right (eqb d 0) _ e) in
-    (some, few, omega arith)
+pub goes-on : (left at : ℕ) → (eqb left 0 || leb 2048 at) ≡ false → (1 ≤ left) × (at < 2048)
+goes-on left at e = (not-none left (or-left _ _ e), leb-false 2048 at (or-right (eqb left 0) _ e))

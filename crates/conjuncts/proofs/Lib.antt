@@ -3,3 +3,4 @@ pub mod Tables
 pub mod Entries
 pub mod Rests
 pub mod Stepping
+pub mod Turns

@@ -1,4 +1,4 @@
--- A step of a walk: the conjunct that it finds is the next one, and what it leaves to come are the others. Assumes nothing.
+-- A walk that goes on: the conjunct that it finds is the next one, and what it leaves to come are the others. Assumes nothing.
 use Prim.Native.Nat.{ℕ, zero, suc, _+_, _-_, _<_, _≤_}
 use mathlib.Core.Path.{_≡_, refl, sym, ap, _∙_}
 use mathlib.Core.Bool.{Bool, true, false, cond, _||_}
@@ -7,25 +7,17 @@ use mathlib.Core.Logic.{⊎-elim}
 use native.Mathlib.Omega.{arith}
 use lib.Dec.{ltb, leb, eqb}
 use lib.ListN.{length, getD, take, drop, length-replicate, List·getD-eq-default}
-use borrow.Author.Tests.{ltb-true, ltb-false, leb-true, eqb-true, ne-eqb, le-ltb}
+use borrow.Author.Tests.{ltb-true, ltb-false, leb-true, eqb-true, ne-eqb}
 use Rattle.lists.proofs.RangeLaws.{and-left, below-or-not}
 use Rattle.plan_data.specs.Nodes.{nodeOf}
 use Rattle.plan_data.specs.declared.ExprData.{ExprData}
 use Rattle.predicates.specs.Conjuncts.{joinedOf, conjunctsTo, conjunctsOf}
 use Rattle.conjuncts.specs.declared.Walk.{Walk}
-use Rattle.conjuncts.specs.declared.Stepped.{Stepped}
-use Rattle.conjuncts.specs.Walks.{isAnd, emptyWalk, ownerAt, placeAt, leftAt, popped, passed, moved, foundAt, entered, operandStep, frameStep, stepOf}
-use Rattle.conjuncts.proofs.Guards.{or-second, goes-on}
+use Rattle.conjuncts.specs.Walks.{isAnd, emptyWalk, ownerAt, placeAt, leftAt, popped, passed, entered}
+use Rattle.conjuncts.proofs.Guards.{or-second}
 use Rattle.conjuncts.proofs.Tables.{table-at}
 use Rattle.conjuncts.proofs.Entries.{entry-at, entry-past, and-entry, other-entry}
 use Rattle.conjuncts.proofs.Rests.{runRest, restOf, stepsIn, stepsBy, stepsTo, runSteps, stepsLeft, Good, run-cons, run-none, passed-depth, passed-good, popped-good, pushed-good, fold-top, fold-passed, fold-pushed, fold-none}
-
-depth-fits : (d : ℕ) → 1 ≤ d → d ≤ 1024 → (eqb d 0 || ltb 1024 d) ≡ false
-depth-fits d some few = rw (ne-eqb d 0 (λ q. omega arith), le-ltb 1024 d few)
-
--- the conjuncts to come, the one that the step found first
-abbrev pub restAfter : (ℕ → ExprData) → List ℕ → Stepped → List ℕ
-restAfter node items s = cond (s .found) (s .handle ∷ restOf node items (s .walk)) (restOf node items (s .walk))
 
 module _ (kind code a b bits start items : List ℕ) (long : length items ≡ 2048) where
   abbrev node : ℕ → ExprData
@@ -37,11 +29,11 @@ module _ (kind code a b bits start items : List ℕ) (long : length items ≡ 20
   abbrev steps : Walk → ℕ
   steps = stepsLeft kind code a start items
 
-  -- a step keeps a walk good, gives the next conjunct or none, and leaves less to do
-  pub record Right (w : Walk) (s : Stepped) : Type 0 where
-    pub good : Good (s .walk)
-    pub to-come : rest w ≡ restAfter node items s
-    pub less : steps (s .walk) < steps w
+  -- the walk w goes on to v: v is good, what was found comes before what is to come of v, and less is left to do
+  pub record Goes (w v : Walk) (found : List ℕ) : Type 0 where
+    pub good : Good v
+    pub to-come : rest w ≡ found ++ rest v
+    pub less : steps v < steps w
 
   -- ---- the frame on top has no operand left
   empty-run : (left at : ℕ) → (eqb left 0 || leb 2048 at) ≡ true → take left (drop at items) ≡ []
@@ -57,8 +49,8 @@ module _ (kind code a b bits start items : List ℕ) (long : length items ≡ 20
   run-some o at left = omega arith
 
   module _ (w : Walk) (g : Good w) (k : ℕ) (top : w .depth ≡ suc k) where
-    pop-right : (eqb (leftAt w k) 0 || leb 2048 (placeAt w k)) ≡ true → Right w (moved (popped w k))
-    pop-right e =
+    pub pop-goes : (eqb (leftAt w k) 0 || leb 2048 (placeAt w k)) ≡ true → Goes w (popped w k) []
+    pop-goes e =
         record {
           good = popped-good w g k top;
           to-come =
@@ -121,16 +113,16 @@ module _ (kind code a b bits start items : List ℕ) (long : length items ≡ 20
     v-good : Good v
     v-good = passed-good w g k top
 
-    skip-right : ltb e o ≡ false → Right w (moved v)
-    skip-right f =
+    pub skip-goes : ltb e o ≡ false → Goes w v []
+    skip-goes f =
         record {
           good = v-good;
           to-come = pass-rest ∙ ap (λ (l : List ℕ). l ++ rest v) (entry-past node items o e (ltb-false e o f));
           less = omega (arith, pass-steps);
         }
 
-    found-right : ltb e o ≡ true → isAnd kind code e ≡ false → Right w (foundAt v e)
-    found-right l f =
+    pub found-goes : ltb e o ≡ true → isAnd kind code e ≡ false → Goes w v (e ∷ [])
+    found-goes l f =
         record {
           good = v-good;
           to-come =
@@ -140,10 +132,14 @@ module _ (kind code a b bits start items : List ℕ) (long : length items ≡ 20
           less = omega (arith, pass-steps);
         }
 
-    enter-right : ltb e o ≡ true → isAnd kind code e ≡ true → Right w (moved (entered a start v e))
+    -- an And's operand stands before it, so there is a frame for the operand
+    pub enter-room : ltb e o ≡ true → v .depth + e ≤ 1023
+    enter-room l = omega (arith, passed-depth w g k top, g .low k (omega arith), ltb-true e o l)
+
+    pub enter-goes : ltb e o ≡ true → isAnd kind code e ≡ true → Goes w (entered a start v e) []
     unfolding entered
-    enter-right l y =
-        let room : v .depth + e ≤ 1023 = omega (arith, passed-depth w g k top, g .low k (omega arith), ltb-true e o l) in
+    enter-goes l y =
+        let room = enter-room l in
         record {
           good = pushed-good v v-good e (getD start e 0) (getD a e 0) room;
           to-come =
@@ -158,38 +154,20 @@ module _ (kind code a b bits start items : List ℕ) (long : length items ≡ 20
               );
         }
 
-    operand-right : Right w (operandStep kind code a start v o e)
-    unfolding operandStep
-    operand-right = go (ltb e o) (isAnd kind code e) refl refl
-      where
-        go : (l y : Bool) → ltb e o ≡ l → isAnd kind code e ≡ y → Right w (cond l (cond y (moved (entered a start v e)) (foundAt v e)) (moved v))
-        go true true p q = enter-right p q
-        go true false p q = found-right p q
-        go false y p q = skip-right p
-
-  frame-right : (w : Walk) (g : Good w) (k : ℕ) → w .depth ≡ suc k → Right w (frameStep kind code a start items w k)
-  unfolding frameStep
-  frame-right w g k top = go (eqb (leftAt w k) 0 || leb 2048 (placeAt w k)) refl
-    where
-      go : (t : Bool) → (eqb (leftAt w k) 0 || leb 2048 (placeAt w k)) ≡ t
-          → Right w (cond t (moved (popped w k)) (operandStep kind code a start (passed w k) (ownerAt w k) (getD items (placeAt w k) 0)))
-      go true p = pop-right w g k top p
-      go false p = let h = goes-on (leftAt w k) (placeAt w k) p in operand-right w g k top (h .0) (h .1)
-
-  -- a step of a walk that has something left
-  pub step-right : (w : Walk) → Good w → 1 ≤ w .depth → Right w (stepOf kind code a start items w)
-  unfolding stepOf
-  step-right w g some =
-      rw (depth-fits (w .depth) some (g .few)) (frame-right w g (w .depth - 1) (omega arith))
-
   -- nothing is to come of a walk without frames
   pub nothing-left : (w : Walk) → w .depth ≡ 0 → rest w ≡ []
   nothing-left w e = fold-none _++_ [] (runRest node items) w e
 
-  -- ---- where a walk starts: with the operands of an And; any other expression is its own conjunct, and needs no walk
-  pub alone : (e : ℕ) → isAnd kind code e ≡ false → conjunctsOf node items e ≡ e ∷ []
-  alone e f = entry-at node items (suc e) e (omega arith) ∙ other-entry (conjunctsTo node items e) items e kind code a b bits start f
+  -- nor is there anything to do; any other walk has something to do
+  pub no-steps : (w : Walk) → w .depth ≡ 0 → steps w ≡ 0
+  no-steps w e = fold-none _+_ 0 (runSteps kind code a start items) w e
 
+  pub some-steps : (w : Walk) → 0 < w .depth → 0 < steps w
+  some-steps w some =
+      let k = w .depth - 1 in
+      omega (arith, fold-top _+_ 0 (runSteps kind code a start items) w k (omega arith), run-some (ownerAt w k) (placeAt w k) (leftAt w k))
+
+  -- ---- where a walk starts: with the operands of an And
   -- an And stands in the table
   pub and-within : length kind ≡ 1024 → (e : ℕ) → isAnd kind code e ≡ true → e < 1024
   and-within short e y = ⊎-elim (λ l. l) (λ m. absurd (past m)) (below-or-not e 1024)

@@ -1,11 +1,12 @@
--- A walk through an And's operands: what one step makes of it. Assumes nothing.
+-- A walk through an And's operands: what its frame on top does next, and what that makes of it. Assumes nothing.
 use Prim.Native.Nat.{ℕ, _+_, _-_}
 use mathlib.Core.Bool.{Bool, true, false, cond, _&&_, _||_}
 use mathlib.Core.List.{List}
 use lib.Dec.{ltb, leb, eqb}
 use lib.ListN.{getD, set, replicate}
 use Rattle.conjuncts.specs.declared.Walk.{Walk}
-use Rattle.conjuncts.specs.declared.Stepped.{Stepped}
+use Rattle.conjuncts.specs.declared.Move.{Move}
+use Rattle.conjuncts.specs.declared.Move.the-variants.{Pop, Skip, Enter, Found}
 
 -- the expression e is an And
 abbrev pub isAnd : List ℕ → List ℕ → ℕ → Bool
@@ -39,29 +40,14 @@ popped w k = record { owner = w .owner; at = w .at; left = w .left; depth = k }
 unfoldable pub passed : Walk → ℕ → Walk
 passed w k = record { owner = w .owner; at = set (w .at) k (placeAt w k + 1); left = set (w .left) k (leftAt w k - 1); depth = w .depth }
 
--- a step finds a conjunct, or it goes on only
-abbrev pub moved : Walk → Stepped
-moved w = record { walk = w; found = false; handle = 0 }
-
-abbrev pub foundAt : Walk → ℕ → Stepped
-foundAt w e = record { walk = w; found = true; handle = e }
-
 -- all operands of the And e are to come; `a` has the counts of the lists, `start` where they stand
 unfoldable pub entered : List ℕ → List ℕ → Walk → ℕ → Walk
 entered a start w e = pushed w e (getD start e 0) (getD a e 0)
 
 -- the operand e of the And o: one that does not stand before its And counts for nothing, an And is opened, any other is a conjunct
-unfoldable pub operandStep : List ℕ → List ℕ → List ℕ → List ℕ → Walk → ℕ → ℕ → Stepped
-operandStep kind code a start w o e =
-    cond (ltb e o) (cond (isAnd kind code e) (moved (entered a start w e)) (foundAt w e)) (moved w)
+abbrev pub operandTurn : List ℕ → List ℕ → ℕ → ℕ → Move
+operandTurn kind code o e = cond (ltb e o) (cond (isAnd kind code e) (Enter e) (Found e)) Skip
 
--- the frame k: none of its operands is left among the items, or the next one's turn has come
-unfoldable pub frameStep : List ℕ → List ℕ → List ℕ → List ℕ → List ℕ → Walk → ℕ → Stepped
-frameStep kind code a start items w k =
-    cond (eqb (leftAt w k) 0 || leb 2048 (placeAt w k)) (moved (popped w k))
-    (operandStep kind code a start (passed w k) (ownerAt w k) (getD items (placeAt w k) 0))
-
--- the frame on top; where there is none, the walk stays as it was
-unfoldable pub stepOf : List ℕ → List ℕ → List ℕ → List ℕ → List ℕ → Walk → Stepped
-stepOf kind code a start items w =
-    cond (eqb (w .depth) 0 || ltb 1024 (w .depth)) (moved w) (frameStep kind code a start items w (w .depth - 1))
+-- a frame of the And o: none of its operands is left among the items, or the next one's turn has come
+unfoldable pub turnOf : List ℕ → List ℕ → List ℕ → ℕ → ℕ → ℕ → Move
+turnOf kind code items o at left = cond (eqb left 0 || leb 2048 at) Pop (operandTurn kind code o (getD items at 0))

@@ -1,3 +1,2 @@
-pub mod Applying
 pub mod Overriding
 pub mod WaysOut

@@ -1,7 +1,5 @@
 // Applying a predicate to facts and merging the facts of two inputs, after the Rust's `apply_predicate` and `merge_inputs`. Facts go in by value
 // and come back; what is passed in from outside is tested first.
-use conjuncts::Stepped;
-use conjuncts::Walk;
 use constraints::Applied;
 use constraints::ConstraintSet;
 use plan::Column;
@@ -12,16 +10,10 @@ use predicates::LogicalFacts;
 use predicates::Outcome;
 ghost use mathlib.Core.Path.{_≡_};
 ghost use mathlib.Core.Bool.{cond};
-ghost use Prim.Native.Nat.{_≤_};
-ghost use lib.ListN.{length};
 ghost use Rattle.lists.specs.Ranges.{allFrom};
 ghost use Rattle.constraints.specs.Sets.{done, mergeFrom};
-ghost use Rattle.plan_data.specs.Nodes.{nodeOf};
 ghost use Rattle.predicates.specs.Facts.{lineageOk, definitionOk, residualOk, factsOk};
-ghost use Rattle.predicates.specs.Conjuncts.{conjunctsOf};
-ghost use Rattle.predicates.specs.Apply.{conjunctApplied, allApplied};
 ghost use Rattle.predicates.specs.Entries.{answered, refused, overridden, inputsMerged, applyPredicate, mergeInputs};
-ghost use Rattle.conjuncts.proofs.Rests.{Good, restOf};
 ghost use Rattle.logical_facts.specs.Columns.{valueForColumn, canonicalValueForColumn, overOf, columnsOver};
 
 // The identity of a column, if it has one.
@@ -34,91 +26,6 @@ pub enum ColumnValue {
 struct ByColumn {
     lineage: [u8; 64],
     definitions: [u16; 64],
-}
-
-// ---- conjuncts one after the other
-
-// The conjunct that a step found, if it found one, after what was applied before.
-fn apply_found<'a>(
-    kind: &'a [u8],
-    code: &'a [u8],
-    a: &'a [u16],
-    b: &'a [u16],
-    bits: &'a [u64],
-    start: &'a [u16],
-    lineage: &'a [u8],
-    before: Applied,
-    found: bool,
-    h: u16,
-) -> Applied
-    ensures { λ r. ⌜ r ≡ cond found (conjunctApplied (now (lineage .entry)) (nodeOf (now (kind .entry)) (now (code .entry)) (now (a .entry)) (now (b .entry)) (now (bits .entry)) (now (start .entry))) (before .constraints) h) before ⌝ }
-{
-    if !found {
-        return before;
-    }
-    let s = before.constraints;
-    conjunct_facts::apply_conjunct(kind, code, a, b, bits, start, lineage, s, h)
-}
-
-// What is to come in a walk. It goes on after the flag is set, and ends where a 65th residual is wanted.
-fn apply_walk<'a>(
-    kind: &'a [u8],
-    code: &'a [u8],
-    a: &'a [u16],
-    b: &'a [u16],
-    bits: &'a [u64],
-    start: &'a [u16],
-    items: &'a [u16],
-    lineage: &'a [u8],
-    w: Walk,
-    s: ConstraintSet,
-) -> Applied
-    requires { ⌜ length (now items) ≡ 2048 ⌝ }
-    requires { ⌜ Good w ⌝ }
-    ensures { λ r. ⌜ r ≡ allApplied (conjunctApplied (now (lineage .entry)) (nodeOf (now (kind .entry)) (now (code .entry)) (now (a .entry)) (now (b .entry)) (now (bits .entry)) (now (start .entry)))) (restOf (nodeOf (now (kind .entry)) (now (code .entry)) (now (a .entry)) (now (b .entry)) (now (bits .entry)) (now (start .entry))) (now (items .entry)) w) (done s) ⌝ }
-{
-    let mut walk = w;
-    let mut applied = conjunct_facts::accepted(s);
-    while (0 < walk.depth) & !applied.refused {
-        let step = conjuncts::step(kind, code, a, start, items, walk);
-        let next = step.walk;
-        walk = next;
-        applied = apply_found(
-            kind,
-            code,
-            a,
-            b,
-            bits,
-            start,
-            lineage,
-            applied,
-            step.found,
-            step.handle,
-        );
-    }
-    applied
-}
-
-// All conjuncts of the expression e.
-pub fn apply_to<'a>(
-    kind: &'a [u8; 1024],
-    code: &'a [u8; 1024],
-    a: &'a [u16; 1024],
-    b: &'a [u16; 1024],
-    bits: &'a [u64; 1024],
-    start: &'a [u16; 1024],
-    items: &'a [u16; 2048],
-    lineage: &'a [u8; 64],
-    s: ConstraintSet,
-    e: u16,
-) -> Applied
-    ensures { λ r. ⌜ r ≡ allApplied (conjunctApplied (now (lineage .entry)) (nodeOf (now (kind .entry)) (now (code .entry)) (now (a .entry)) (now (b .entry)) (now (bits .entry)) (now (start .entry)))) (conjunctsOf (nodeOf (now (kind .entry)) (now (code .entry)) (now (a .entry)) (now (b .entry)) (now (bits .entry)) (now (start .entry))) (now (items .entry)) e) (done s) ⌝ }
-{
-    if conjuncts::is_and(kind, code, e) {
-        let w = conjuncts::enter(a, start, Walk::empty(), e);
-        return apply_walk(kind, code, a, b, bits, start, items, lineage, w, s);
-    }
-    conjunct_facts::apply_conjunct(kind, code, a, b, bits, start, lineage, s, e)
 }
 
 // ---- the rules of facts that come from outside
@@ -248,7 +155,7 @@ pub fn apply_predicate(p: Plan, f: LogicalFacts, e: Expr) -> FactsAnswer
     if !facts_ok(p, f) {
         return no_such(f);
     }
-    let a = apply_to(
+    let a = predicate_facts::apply_to(
         &x.kind,
         &x.code,
         &x.a,
@@ -298,7 +205,10 @@ fn merge_constraints(a: ConstraintSet, b: ConstraintSet, merge: bool) -> Applied
     if merge {
         return constraint_set::merge_from(a, b);
     }
-    conjunct_facts::accepted(a)
+    Applied {
+        constraints: a,
+        refused: false,
+    }
 }
 
 // The facts of two inputs as one, without the tests.

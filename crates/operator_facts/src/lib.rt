@@ -148,7 +148,7 @@ fn filter(p: Plan, h: Operator, e: Expr, f: LogicalFacts) -> DeriveAnswer
     let x = p.expressions;
     let t = p.items;
     let s = f.constraints;
-    let a = logical_facts::apply_to(
+    let a = predicate_facts::apply_to(
         &x.kind,
         &x.code,
         &x.a,

@@ -8,7 +8,7 @@ use Rattle.logical_facts.proofs.apply_predicate.Tie as tie
 use Rattle.logical_facts.proofs.apply_predicate.Reads as reads
 use Rattle.logical_facts.proofs.apply_predicate.Lts as lts
 use Rattle.logical_facts.proofs.answer.Reads as answer-reads
-use Rattle.logical_facts.proofs.apply_to.Reads as apply-to-reads
+use Rattle.predicate_facts.proofs.apply_to.Reads as apply-to-reads
 use Rattle.logical_facts.proofs.facts_ok.Reads as facts-ok-reads
 use Rattle.logical_facts.proofs.no_such.Reads as no-such-reads
 use Rattle.plan_rules.proofs.plan_ok.Reads as plan-ok-reads

@@ -4,7 +4,6 @@ use Rattle.logical_facts.proofs.merge_constraints.Tie as tie
 use Rattle.logical_facts.proofs.merge_constraints.Reads as reads
 use Rattle.logical_facts.proofs.merge_constraints.Lts as lts
 use Rattle.constraint_set.proofs.merge_from.Reads as merge-from-reads
-use Rattle.conjunct_facts.proofs.accepted.Reads as accepted-reads
 
 -- src/lib.rt:513:9
 merge-from-requires : tie.Need-merge-from-requires
@@ -14,14 +13,10 @@ merge-from-requires c κs = search needs
 returns : tie.Need-returns
 returns c = rw (c .before .if1 .taken) (c .merge-from .ensures)
 
--- src/lib.rt:515:5
-accepted-requires : tie.Need-accepted-requires
-accepted-requires c κs = search needs
-
 -- src/lib.rt:509:1
 returns-2 : tie.Need-returns-2
-returns-2 c = rw (c .before .if1 .left) (c .accepted .ensures)
+returns-2 c = rw (c .if1 .left)
 
 pub merge-constraints-spec : {M : Type 1} → statement M
 merge-constraints-spec =
-    tie.close (tie.spec merge-from-requires returns accepted-requires returns-2)
+    tie.close (tie.spec merge-from-requires returns returns-2)

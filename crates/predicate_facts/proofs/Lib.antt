@@ -1,0 +1,6 @@
+pub mod Collecting
+pub mod Wides
+pub mod Owned
+pub mod Joins
+pub mod Applying
+pub mod Walking
