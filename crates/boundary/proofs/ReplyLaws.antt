@@ -1,7 +1,7 @@
 -- Replies, from the answers that were had. Assumes nothing.
 use Prim.Native.Nat.{ℕ, suc, _+_, _<_, _≤_}
 use native.Mathlib.Numerals.{add-one}
-use mathlib.Core.Path.{_≡_, refl, sym, ap, _∙_, subst}
+use mathlib.Core.Path.{_≡_, refl, sym, ap, _∙_}
 use mathlib.Core.Bool.{Bool, true, false, cond}
 use mathlib.Core.List.{List, [], _∷_, _++_}
 use lib.Dec.{eqb}
@@ -29,13 +29,8 @@ use Rattle.rows.specs.declared.Row.{Row}
 use Rattle.rows.specs.declared.Evaluation.{Evaluation}
 use Rattle.simplifying.specs.OneOperator as Simplifying
 use Rattle.simplifying.specs.declared.Rewritten.{Rewritten}
-use Rattle.writing.specs.Text.{Wrote}
 use Rattle.boundary.specs.Replies.{headOf, readReply, onPlan, evaluateReply, rewriteReply, simplifyReply, cellsTo, derivedReply, deriveReply, factsReply, turnBy, inTurn, turnReply, appliedReply, applyReply}
 use Rattle.boundary.specs.declared.InTurn.{InTurn}
-
--- the same bytes in other words
-pub wrote-as : (o : List ℕ) (a : ℕ) (q : List ℕ) (r : ℕ) (x y : List ℕ) → Wrote o a q r x → x ≡ y → Wrote o a q r y
-wrote-as o a q r x y w e = subst (Wrote o a q r) e w
 
 -- ---- reading first
 module _ (f : Plan → List ℕ) (a b : Answer) (ea : a ≡ b) (n : ℕ) (en : n ≡ Files.refusalOf (a .reading)) where

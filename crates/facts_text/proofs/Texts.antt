@@ -1,6 +1,6 @@
 -- What is written, from the answers that were had. Assumes nothing.
 use Prim.Native.Nat.{ℕ}
-use mathlib.Core.Path.{_≡_, refl, sym, ap, _∙_, subst}
+use mathlib.Core.Path.{_≡_, refl, sym, ap, _∙_}
 use mathlib.Core.Bool.{Bool, true, false, cond}
 use mathlib.Core.List.{List}
 use lib.Dec.{eqb}
@@ -15,12 +15,7 @@ use Rattle.deriving.specs.Operators as Deriving
 use Rattle.deriving.specs.Deriving.{deriveOf}
 use Rattle.deriving.specs.declared.DeriveAnswer.{DeriveAnswer}
 use Rattle.refusals.specs.Numbers.{lastOf}
-use Rattle.writing.specs.Text.{Wrote}
 use Rattle.facts_text.specs.FactsText.{derivedText, planText, factsText}
-
--- the same bytes in other words
-pub wrote-as : (o : List ℕ) (a : ℕ) (q : List ℕ) (r : ℕ) (x y : List ℕ) → Wrote o a q r x → x ≡ y → Wrote o a q r y
-wrote-as o a q r x y w e = subst (Wrote o a q r) e w
 
 module _ (p : Plan) (h : ℕ) (d : DeriveAnswer) (eh : h ≡ lastOf p) (ed : d ≡ deriveOf p h) (n : ℕ) (en : n ≡ Deriving.refusalOf (d .outcome)) where
   told : derivedText p h d ≡ planText p

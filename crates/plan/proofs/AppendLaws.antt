@@ -13,6 +13,7 @@ use Rattle.kinds.specs.declared.Record.{Record}
 use Rattle.plan.specs.declared.Plan.{Plan}
 use Rattle.plan.specs.declared.Appended.{Appended}
 use Rattle.plan.specs.Plans.{emptyPlan, columnPushed, expressionPushed, operatorPushed, itemPushed}
+use Rattle.plan.specs.declared.Items.{Items}
 use Rattle.plan.specs.Append.{noRoom, addedAt, withColumn, withExpr, withOperator, withItem, appendColumn, appendExpr, appendOperator, appendItem}
 use Rattle.plan.specs.Records.{columnRecord, exprRecord, exprStart, operatorRecord, operatorStart, itemRecord}
 use Rattle.plan.specs.Extends.{Extends, Sized}
@@ -217,8 +218,10 @@ pub append-item-extends : (p : Plan) (x : Record) → Extends p (appendItem p x 
 unfolding appendItem
 append-item-extends p x = choice (λ (r : Appended). Extends p (r .plan)) (leb 2048 (p .items .count)) _ _ (extends-refl p) (item-longer p x)
 
-pub item-longer-sized : (p : Plan) (x : Record) → Sized p → Sized (withItem p x)
-item-longer-sized p x s =
+-- a plan with other items, as many as it had
+pub items-sized : (p : Plan) (t : Items) → Sized p → length (t .a) ≡ length (p .items .a) → length (t .b) ≡ length (p .items .b)
+    → Sized (record { columns = p .columns; expressions = p .expressions; operators = p .operators; items = t })
+items-sized p t s ea eb =
     record {
       column-name = s .column-name;
       column-kind = s .column-kind;
@@ -235,9 +238,12 @@ item-longer-sized p x s =
       operator-c = s .operator-c;
       operator-d = s .operator-d;
       operator-start = s .operator-start;
-      item-a = length-set (p .items .a) (p .items .count) (x .a) ∙ s .item-a;
-      item-b = length-set (p .items .b) (p .items .count) (x .b) ∙ s .item-b;
+      item-a = ea ∙ s .item-a;
+      item-b = eb ∙ s .item-b;
     }
+
+pub item-longer-sized : (p : Plan) (x : Record) → Sized p → Sized (withItem p x)
+item-longer-sized p x s = items-sized p _ s (length-set (p .items .a) (p .items .count) (x .a)) (length-set (p .items .b) (p .items .count) (x .b))
 
 pub append-item-sized : (p : Plan) (x : Record) → Sized p → Sized (appendItem p x .plan)
 unfolding appendItem

@@ -13,7 +13,6 @@ use Rattle.plan_file_write.specs.Written.{clippedBits, recordBytes}
 use Rattle.kinds.specs.declared.Record.{Record}
 use Rattle.kinds.specs.declared.Row.{Row}
 use Rattle.plan_file_laws.specs.Writing.{Fits, put2, putWord, putCode, putBits, putBody, putRecord}
-use Rattle.writing.specs.Text.{Wrote}
 
 pub word-rest : (sort v : ℕ) (u : List ℕ) → putWord sort v u ≡ putWord sort v [] ++ u
 unfolding putWord
@@ -42,10 +41,6 @@ body-parts r x =
     (word-rest (r .c) (x .c) _
     ∙ ap (λ (l : List ℕ). putWord (r .c) (x .c) [] ++ l)
     (word-rest (r .d) (x .d) _ ∙ ap (λ (l : List ℕ). putWord (r .d) (x .d) [] ++ l) (code-rest (eqb (r .code) 3) (x .code) _))))))
-
--- so its parts, written, are it
-pub body-wrote : (o : List ℕ) (a : ℕ) (q : List ℕ) (n : ℕ) (r : Row) (x : Record) → Wrote o a q n (putCode (eqb (r .code) 1) (x .code) [] ++ (putWord (r .a) (x .a) [] ++ (putWord (r .b) (x .b) [] ++ (putWord (r .c) (x .c) [] ++ (putWord (r .d) (x .d) [] ++ (putCode (eqb (r .code) 3) (x .code) [] ++ putBits (r .bits) (x .bits) [])))))) → Wrote o a q n (putBody r x [])
-body-wrote o a q n r x w = subst (Wrote o a q n) (body-parts r x) w
 
 -- ---- the kind of an item, from the row and the count that were looked up
 pub kind-first : (x : Record) (k n : ℕ) (r : Row) → r ≡ rowOf (x .kind) → n ≡ countOf r x → k < n → r .item ≡ itemKind x k

@@ -23,7 +23,7 @@ use Rattle.plan.specs.declared.Expr.{Expr}
 use Rattle.plan.specs.Append.{withExpr}
 use Rattle.plan.specs.Records.{exprRecord, exprStart}
 use Rattle.plan.specs.Extends.{Extends, Sized}
-use Rattle.plan.proofs.AppendLaws.{expr-longer, expr-longer-sized, new-expr, new-expr-start}
+use Rattle.plan.proofs.AppendLaws.{items-sized, expr-longer, expr-longer-sized, new-expr, new-expr-start}
 use Rattle.plan_rules.specs.Rules.{recordOk, itemOk, listsOk, exprOkOf, exprOk, countsWithin}
 use Rattle.plan_rules.proofs.RuleLaws.{Rules, grown}
 use Rattle.plan_rules.proofs.AppendRules.{counts-within, once-kept, expr-keeps}
@@ -219,27 +219,7 @@ module _ (p : Plan) (st : Tables) (l : List ℕ) (g : Good p st) (fits : st .ite
       }
 
   list-sized : Sized (planWith p listed)
-  list-sized =
-      let s = g .sized in
-      record {
-        column-name = s .column-name;
-        column-kind = s .column-kind;
-        expr-kind = s .expr-kind;
-        expr-code = s .expr-code;
-        expr-a = s .expr-a;
-        expr-b = s .expr-b;
-        expr-bits = s .expr-bits;
-        expr-start = s .expr-start;
-        operator-kind = s .operator-kind;
-        operator-code = s .operator-code;
-        operator-a = s .operator-a;
-        operator-b = s .operator-b;
-        operator-c = s .operator-c;
-        operator-d = s .operator-d;
-        operator-start = s .operator-start;
-        item-a = put-length-a (st .items) l (st .items .count) ∙ s .item-a;
-        item-b = put-length-b (st .items) l (st .items .count) ∙ s .item-b;
-      }
+  list-sized = items-sized (planWith p st) (listed .items) (g .sized) (put-length-a (st .items) l (st .items .count)) (put-length-b (st .items) l (st .items .count))
 
   list-rules : Rules (planWith p listed)
   list-rules =

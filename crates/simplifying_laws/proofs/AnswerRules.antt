@@ -12,6 +12,7 @@ use Rattle.lists.proofs.RangeLaws.{and-left, and-right, and-both, all-at}
 use Rattle.kinds.specs.declared.Record.{Record}
 use Rattle.kinds.specs.Rows.{rowOf, lineOf}
 use Rattle.kinds.specs.Records.{codeOk, bitsOk, handleOk, handlesOk, countOf, moreOf}
+use Rattle.plan.proofs.AppendLaws.{items-sized}
 use Rattle.plan.specs.declared.Plan.{Plan}
 use Rattle.plan.specs.declared.Items.{Items}
 use Rattle.plan.specs.declared.Operator.{Operator}
@@ -294,27 +295,7 @@ module _ (p : Plan) (st : Tables) (g : Good p st) (m : ℕ) (f h : ℕ → ℕ) 
       (λ c l. once-kept (planWith p st) (planWith p listedWith) e (g .rules) refl c)
 
   pub listed-sized : Sized (planWith p listedWith)
-  listed-sized =
-      let s = g .sized in
-      record {
-        column-name = s .column-name;
-        column-kind = s .column-kind;
-        expr-kind = s .expr-kind;
-        expr-code = s .expr-code;
-        expr-a = s .expr-a;
-        expr-b = s .expr-b;
-        expr-bits = s .expr-bits;
-        expr-start = s .expr-start;
-        operator-kind = s .operator-kind;
-        operator-code = s .operator-code;
-        operator-a = s .operator-a;
-        operator-b = s .operator-b;
-        operator-c = s .operator-c;
-        operator-d = s .operator-d;
-        operator-start = s .operator-start;
-        item-a = write-length (st .items .a) (st .items .count) f m ∙ s .item-a;
-        item-b = write-length (st .items .b) (st .items .count) h m ∙ s .item-b;
-      }
+  listed-sized = items-sized (planWith p st) (listedWith .items) (g .sized) (write-length (st .items .a) (st .items .count) f m) (write-length (st .items .b) (st .items .count) h m)
 
 module _ (p : Plan) (s : Sized p) (ok : planOk p ≡ true) (o : Operator) (lt : o .0 < p .operators .count) where
   abbrev d : OperatorData

@@ -2,7 +2,7 @@
 use Prim.Native.Nat.{ℕ, zero, suc, _+_, _-_, _/_, _%_, _≤_, _<_}
 use mathlib.Core.Bool.{Bool, true, false, cond}
 use mathlib.Core.List.{List, [], _∷_, _++_}
-use mathlib.Core.Path.{_≡_, refl, sym, ap, _∙_}
+use mathlib.Core.Path.{_≡_, refl, sym, ap, subst, _∙_}
 use native.Mathlib.Nat.{add-zero, add-assoc}
 use native.Mathlib.Decide.{decLt, decLe}
 use native.Mathlib.Numerals.{add-one}
@@ -123,3 +123,7 @@ lines-more n f = rw add-one
 pub digits-more : (k n : ℕ) → (k ≡ 0 → ⊥) → digits 16 k n ≡ digits 16 (k - 1) (n / 16) ++ (glyph (n % 16) ∷ [])
 digits-more zero n l = absurd (l refl)
 digits-more (suc k) n l = let e : suc k - 1 ≡ k = omega arith in rw e
+
+-- the same bytes in other words
+pub wrote-as : (o : List ℕ) (a : ℕ) (q : List ℕ) (r : ℕ) (x y : List ℕ) → Wrote o a q r x → x ≡ y → Wrote o a q r y
+wrote-as o a q r x y w e = subst (Wrote o a q r) e w

@@ -1,4 +1,5 @@
-use Rattle.boundary.proofs.ReplyLaws.{wrote-as, apply-refused, apply-listed}
+use Rattle.writing.proofs.Wrotes.{wrote-as}
+use Rattle.boundary.proofs.ReplyLaws.{apply-refused, apply-listed}
 use borrow.Author.Needs.{needs}
 use Rattle.boundary.proofs.apply_plan.Statement.{statement}
 use Rattle.boundary.proofs.apply_plan.Tie as tie

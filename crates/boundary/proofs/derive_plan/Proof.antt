@@ -1,5 +1,5 @@
-use Rattle.boundary.proofs.ReplyLaws.{wrote-as, derive-refused, derive-listed}
-use Rattle.writing.proofs.Wrotes.{wrote-then}
+use Rattle.boundary.proofs.ReplyLaws.{derive-refused, derive-listed}
+use Rattle.writing.proofs.Wrotes.{wrote-as, wrote-then}
 use borrow.Author.Needs.{needs}
 use Rattle.boundary.proofs.derive_plan.Statement.{statement}
 use Rattle.boundary.proofs.derive_plan.Tie as tie

@@ -1,4 +1,5 @@
-use Rattle.boundary.proofs.ReplyLaws.{wrote-as, evaluate-said}
+use Rattle.writing.proofs.Wrotes.{wrote-as}
+use Rattle.boundary.proofs.ReplyLaws.{evaluate-said}
 use borrow.Author.Needs.{needs}
 use Rattle.boundary.proofs.evaluate_plan.Statement.{statement}
 use Rattle.boundary.proofs.evaluate_plan.Tie as tie

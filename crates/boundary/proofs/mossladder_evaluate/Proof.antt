@@ -1,5 +1,6 @@
+use Rattle.writing.proofs.Wrotes.{wrote-as}
 use Rattle.boundary.specs.Replies.{evaluateReply, rowIn}
-use Rattle.boundary.proofs.ReplyLaws.{wrote-as, plan-refused, plan-read}
+use Rattle.boundary.proofs.ReplyLaws.{plan-refused, plan-read}
 use Rattle.rows.specs.declared.Row.{Row}
 use mathlib.Core.Path.{ap}
 use borrow.Author.Needs.{needs}

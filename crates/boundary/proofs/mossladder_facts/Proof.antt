@@ -1,5 +1,6 @@
+use Rattle.writing.proofs.Wrotes.{wrote-as}
 use Rattle.boundary.specs.Replies.{factsReply}
-use Rattle.boundary.proofs.ReplyLaws.{wrote-as, plan-refused, plan-read, facts-last}
+use Rattle.boundary.proofs.ReplyLaws.{plan-refused, plan-read, facts-last}
 use borrow.Author.Needs.{needs}
 use Rattle.boundary.proofs.mossladder_facts.Statement.{statement}
 use Rattle.boundary.proofs.mossladder_facts.Tie as tie

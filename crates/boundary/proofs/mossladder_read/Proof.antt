@@ -1,5 +1,5 @@
-use Rattle.boundary.proofs.ReplyLaws.{wrote-as, read-said}
-use Rattle.writing.proofs.Wrotes.{wrote-then}
+use Rattle.boundary.proofs.ReplyLaws.{read-said}
+use Rattle.writing.proofs.Wrotes.{wrote-as, wrote-then}
 use borrow.Author.Needs.{needs}
 use Rattle.boundary.proofs.mossladder_read.Statement.{statement}
 use Rattle.boundary.proofs.mossladder_read.Tie as tie

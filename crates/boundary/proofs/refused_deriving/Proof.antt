@@ -1,4 +1,5 @@
-use Rattle.boundary.proofs.ReplyLaws.{wrote-as, head-same}
+use Rattle.writing.proofs.Wrotes.{wrote-as}
+use Rattle.boundary.proofs.ReplyLaws.{head-same}
 use borrow.Author.Needs.{needs}
 use Rattle.boundary.proofs.refused_deriving.Statement.{statement}
 use Rattle.boundary.proofs.refused_deriving.Tie as tie

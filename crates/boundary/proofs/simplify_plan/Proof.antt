@@ -1,5 +1,5 @@
-use Rattle.boundary.proofs.ReplyLaws.{wrote-as, simplify-said}
-use Rattle.writing.proofs.Wrotes.{wrote-then}
+use Rattle.boundary.proofs.ReplyLaws.{simplify-said}
+use Rattle.writing.proofs.Wrotes.{wrote-as, wrote-then}
 use borrow.Author.Needs.{needs}
 use Rattle.boundary.proofs.simplify_plan.Statement.{statement}
 use Rattle.boundary.proofs.simplify_plan.Tie as tie

@@ -1,5 +1,5 @@
-use Rattle.boundary.proofs.ReplyLaws.{wrote-as, turn-said}
-use Rattle.writing.proofs.Wrotes.{wrote-then}
+use Rattle.boundary.proofs.ReplyLaws.{turn-said}
+use Rattle.writing.proofs.Wrotes.{wrote-as, wrote-then}
 use borrow.Author.Needs.{needs}
 use Rattle.boundary.proofs.turn_reply.Statement.{statement}
 use Rattle.boundary.proofs.turn_reply.Tie as tie

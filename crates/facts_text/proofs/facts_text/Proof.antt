@@ -1,4 +1,5 @@
-use Rattle.facts_text.proofs.Texts.{wrote-as, file-refused, file-listed}
+use Rattle.writing.proofs.Wrotes.{wrote-as}
+use Rattle.facts_text.proofs.Texts.{file-refused, file-listed}
 use borrow.Author.Needs.{needs}
 use Rattle.facts_text.proofs.facts_text.Statement.{statement}
 use Rattle.facts_text.proofs.facts_text.Tie as tie

@@ -1,4 +1,5 @@
-use Rattle.facts_text.proofs.Texts.{wrote-as, text-refused, text-listed}
+use Rattle.writing.proofs.Wrotes.{wrote-as}
+use Rattle.facts_text.proofs.Texts.{text-refused, text-listed}
 use borrow.Author.Needs.{needs}
 use Rattle.facts_text.proofs.plan_text.Statement.{statement}
 use Rattle.facts_text.proofs.plan_text.Tie as tie

@@ -1,6 +1,6 @@
-use Rattle.plan_file_write.proofs.WriteLaws.{body-wrote}
+use Rattle.plan_file_write.proofs.WriteLaws.{body-parts}
 use mathlib.Core.Path.{_∙_}
-use Rattle.writing.proofs.Wrotes.{wrote-then}
+use Rattle.writing.proofs.Wrotes.{wrote-as, wrote-then}
 use borrow.Author.Needs.{needs}
 use Rattle.plan_file_write.proofs.put_body.Statement.{statement}
 use Rattle.plan_file_write.proofs.put_body.Tie as tie
@@ -44,7 +44,7 @@ same-length c = c .before .before .put-bits .kept .0 ∙ c .before .before .befo
 
 -- src/lib.rt:71:1
 returns : tie.Need-returns
-returns c = body-wrote _ _ _ _ _ _ (wrote-then _ _ _ _ _ _ _ _ (c .before .before .before .before .before .before .before .before .before .before .before .before .before .before .before .before .before .before .before .before .before .before .before .before .before .before .before .put-code .ensures) (c .before .before .before .before .before .before .before .before .before .before .before .before .before .before .before .before .before .before .before .before .before .before .before .before .before .before .before .put-code .kept .0) (wrote-then _ _ _ _ _ _ _ _ (c .before .before .before .before .before .before .before .before .before .before .before .before .before .before .before .before .before .before .before .before .before .before .before .put-word .ensures) (c .before .before .before .before .before .before .before .before .before .before .before .before .before .before .before .before .before .before .before .before .before .before .before .put-word .kept .0) (wrote-then _ _ _ _ _ _ _ _ (c .before .before .before .before .before .before .before .before .before .before .before .before .before .before .before .before .before .before .before .put-word2 .ensures) (c .before .before .before .before .before .before .before .before .before .before .before .before .before .before .before .before .before .before .before .put-word2 .kept .0) (wrote-then _ _ _ _ _ _ _ _ (c .before .before .before .before .before .before .before .before .before .before .before .before .before .before .before .put-word3 .ensures) (c .before .before .before .before .before .before .before .before .before .before .before .before .before .before .before .put-word3 .kept .0) (wrote-then _ _ _ _ _ _ _ _ (c .before .before .before .before .before .before .before .before .before .before .before .put-word4 .ensures) (c .before .before .before .before .before .before .before .before .before .before .before .put-word4 .kept .0) (wrote-then _ _ _ _ _ _ _ _ (c .before .before .before .before .before .before .put-code2 .ensures) (c .before .before .before .before .before .before .put-code2 .kept .0) (c .before .before .put-bits .ensures)))))))
+returns c = wrote-as _ _ _ _ _ _ (wrote-then _ _ _ _ _ _ _ _ (c .before .before .before .before .before .before .before .before .before .before .before .before .before .before .before .before .before .before .before .before .before .before .before .before .before .before .before .put-code .ensures) (c .before .before .before .before .before .before .before .before .before .before .before .before .before .before .before .before .before .before .before .before .before .before .before .before .before .before .before .put-code .kept .0) (wrote-then _ _ _ _ _ _ _ _ (c .before .before .before .before .before .before .before .before .before .before .before .before .before .before .before .before .before .before .before .before .before .before .before .put-word .ensures) (c .before .before .before .before .before .before .before .before .before .before .before .before .before .before .before .before .before .before .before .before .before .before .before .put-word .kept .0) (wrote-then _ _ _ _ _ _ _ _ (c .before .before .before .before .before .before .before .before .before .before .before .before .before .before .before .before .before .before .before .put-word2 .ensures) (c .before .before .before .before .before .before .before .before .before .before .before .before .before .before .before .before .before .before .before .put-word2 .kept .0) (wrote-then _ _ _ _ _ _ _ _ (c .before .before .before .before .before .before .before .before .before .before .before .before .before .before .before .put-word3 .ensures) (c .before .before .before .before .before .before .before .before .before .before .before .before .before .before .before .put-word3 .kept .0) (wrote-then _ _ _ _ _ _ _ _ (c .before .before .before .before .before .before .before .before .before .before .before .put-word4 .ensures) (c .before .before .before .before .before .before .before .before .before .before .before .put-word4 .kept .0) (wrote-then _ _ _ _ _ _ _ _ (c .before .before .before .before .before .before .put-code2 .ensures) (c .before .before .before .before .before .before .put-code2 .kept .0) (c .before .before .put-bits .ensures))))))) (body-parts _ _)
 
 pub put-body-spec : {M : Type 1} → statement M
 put-body-spec =
