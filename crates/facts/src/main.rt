@@ -17,8 +17,8 @@ fn drain() {
     }
 }
 
-// The longest file that can be accepted has 20,856 bytes and the longest record 9, so that a longer file is refused for what stands in the first
-// 20,865 bytes: the first 65,536 have the answer for all of it. No listing has more than 16,157 bytes.
+// An input that fills the buffer is answered by what the buffer has: it is proved that the first 65,536 bytes have the answer for all of it (long-input
+// in facts_text), since no file longer than 20,856 bytes is accepted (plan_file_laws). No listing has more than 16,157 bytes.
 fn main() {
     let mut buf = io::large_buffer();
     let n = io::read_full(0, &mut buf);

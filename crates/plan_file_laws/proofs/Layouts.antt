@@ -57,7 +57,7 @@ layoutTest r =
     && eqb (r .length) (place6 r + r .bits))))))
 
 -- one or the other
-or-cases : (a b : Bool) → (a || b) ≡ true → (a ≡ true) ⊎ (b ≡ true)
+pub or-cases : (a b : Bool) → (a || b) ≡ true → (a ≡ true) ⊎ (b ≡ true)
 or-cases true b e = inl refl
 or-cases false b e = inr e
 

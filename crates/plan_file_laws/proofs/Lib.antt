@@ -14,3 +14,5 @@ pub mod Copies
 pub mod CopyRuns
 pub mod WriteBack
 pub mod SamePlans
+pub mod Longest
+pub mod LongFiles
