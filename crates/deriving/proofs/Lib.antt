@@ -5,3 +5,7 @@ pub mod Emptied
 pub mod Before
 pub mod Rooms
 pub mod Refusing
+pub mod SetRules
+pub mod ColumnRules
+pub mod OperatorRanges
+pub mod FactsRules
