@@ -30,7 +30,7 @@ use Rattle.constraint_set.specs.Checked.{Checked}
 use Rattle.constraint_set.specs.Kept.{keptBy}
 use Rattle.constraint_set.specs.declared.Kept.{Kept}
 use Rattle.constraint_set.proofs.Checking.{just-checked, unchecked, one-place-only, check-again}
-use Rattle.constraint_set.proofs.Merging.{residual-added}
+use Rattle.constraint_set.proofs.Residuals.{residual-added}
 use Rattle.conjunct_facts.specs.Actions.{acted, firstOf, secondOf, isChecking, isResidual, Proper}
 use Rattle.conjunct_facts.specs.Cells.{cellOf, withCell, flaggedCell, nonNullCell, literalCell, boundCell, entryCell, cellAfter}
 use Rattle.conjunct_facts.specs.declared.Action.{Action}

@@ -6,13 +6,12 @@ use Prim.Native.Nat.{ℕ, zero, suc, _<_, _≤_, _+_}
 use native.Mathlib.Decide.{ℕ-discrete}
 use native.Mathlib.Omega.{arith}
 use lib.Dec.{T}
-use lib.ListN.{getD, set}
 use lib.Seq.{getD-set-other}
 use borrow.Author.Tests.{lt-ltb}
 use Rattle.lists.specs.Ranges.{anyFrom}
 use Rattle.scalar.specs.Kinds.{isNull}
 use Rattle.scalar.specs.declared.ScalarValue.{ScalarValue}
-use Rattle.constraints.specs.Sets.{none, literals, literalAt, entryAt, crossed, crossedAt, crossCheck, withFlag, flagIf, clashes, held, canonicalAt, putNonNull, putLiteral, addLiteral}
+use Rattle.constraints.specs.Sets.{none, literals, literalAt, entryAt, crossed, crossedAt, crossCheck, withFlag, flagIf, clashes, canonicalAt, putNonNull, putLiteral, addLiteral}
 use Rattle.constraints.specs.declared.Holder.{Holder}
 use Rattle.constraints.specs.declared.ConstraintSet.{ConstraintSet}
 use Rattle.constraints.proofs.Operations.{any-at}

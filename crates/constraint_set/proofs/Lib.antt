@@ -1,5 +1,5 @@
 pub mod Loops
-pub mod Merging
+pub mod Residuals
 pub mod Checking
 pub mod Passes
 pub mod Contents

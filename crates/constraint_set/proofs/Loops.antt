@@ -15,7 +15,7 @@ use Rattle.value_range.specs.Ranges.{emptyRange}
 use Rattle.value_range.specs.declared.ValueRange.{ValueRange}
 use Rattle.comparison.specs.Operators.{bounding}
 use Rattle.comparison.specs.declared.BinaryOp.{BinaryOp}
-use Rattle.constraints.specs.Sets.{crossCheck, boundsBy, addBound, none, held, blank, noEntry, entryOf, nonNulls, literals, nonNullAt, literalAt, entryAt, canonicalAt, withNonNulls, withLiterals, withRanges, flagIf, clashes, rangeIn, tightenBy, putNonNull, putLiteral, layRange, putRange, stepsTo, moveNonNull, moveLiteral, moveRange, nonNullsMoved, literalsMoved, rangesMoved, addLiteral, mergeLiteral, mergeRange, mergeNonNull}
+use Rattle.constraints.specs.Sets.{crossCheck, boundsBy, addBound, none, held, noEntry, entryOf, nonNulls, literals, nonNullAt, literalAt, entryAt, canonicalAt, withNonNulls, withLiterals, withRanges, flagIf, clashes, rangeIn, tightenBy, putNonNull, putLiteral, layRange, putRange, stepsTo, moveNonNull, moveLiteral, moveRange, nonNullsMoved, literalsMoved, rangesMoved, addLiteral, mergeLiteral}
 use Rattle.constraints.specs.declared.Holder.{Holder}
 use Rattle.constraints.specs.declared.Entry.{Entry}
 use Rattle.constraints.specs.declared.ConstraintSet.{ConstraintSet}
@@ -124,22 +124,8 @@ pub ranges-done : (s : ConstraintSet) (i : ℕ) → i ≡ 128 → rangesAfter s 
 unfolding rangesAfter rangesMoved
 ranges-done s i e = rw e
 
--- ---- the entries of another set laid into t
+-- ---- the literals of another set laid into t
 module _ (i : ℕ) (t : ConstraintSet) where
-  pub null-laid : (l : List Bool) → getD l i false ≡ true → withNonNulls t (set (nonNulls t) i true) ≡ mergeNonNull l i t
-  unfolding putNonNull
-  null-laid l e = rw e
-
-  pub null-left : (l : List Bool) → getD l i false ≡ false → t ≡ mergeNonNull l i t
-  null-left l e = rw e
-
-  pub range-laid : (l : List Entry) (r : ℕ) (range : ValueRange) (now : Entry) → getD l i blank .present ≡ true → r ≡ canonicalAt t i
-      → range ≡ tightenBy (rangeIn (entryAt t r)) (getD l i blank .range) → now ≡ entryOf range → rangeWritten t r now ≡ mergeRange l i t
-  range-laid l r range now e d er en = rw (e, ← d) (range-lay t r (getD l i blank .range) range now er en)
-
-  pub range-left : (l : List Entry) → getD l i blank .present ≡ false → t ≡ mergeRange l i t
-  range-left l e = rw e
-
   pub literal-laid : (l : List Holder) (u : ConstraintSet) → getD l i none .present ≡ true → u ≡ addLiteral t i (getD l i none .value) → u ≡ mergeLiteral l i t
   literal-laid l u e d = rw e d
 

@@ -1,13 +1,10 @@
 -- The residual handles by themselves: a list with a count. Assumes nothing.
 use Prim.Native.Nat.{ℕ, _+_, min}
-use mathlib.Core.Bool.{Bool, true, false, not, cond}
+use mathlib.Core.Bool.{Bool, true, false, cond}
 use mathlib.Core.List.{List}
 use lib.Dec.{ltb, eqb}
 use lib.ListN.{getD, set}
 use Rattle.lists.specs.Ranges.{anyFrom}
-use Rattle.constraints.specs.Sets.{mergeResiduals, roomTo}
-use Rattle.constraints.specs.declared.ConstraintSet.{ConstraintSet}
-use Rattle.constraints.specs.declared.Applied.{Applied}
 use Rattle.constraint_set.specs.declared.Kept.{Kept}
 
 abbrev pub hasIn : List ℕ → ℕ → ℕ → Bool
@@ -18,7 +15,3 @@ unfoldable pub keptBy : List ℕ → ℕ → ℕ → Kept
 keptBy l n h =
     cond (hasIn l n h) (record { list = l; count = n; refused = false })
     (cond (ltb n 64) (record { list = set l n h; count = n + 1; refused = false }) (record { list = l; count = n; refused = true }))
-
--- the first handles of a list after those of t, and whether one did not find room
-unfoldable pub residualsKept : ConstraintSet → List ℕ → ℕ → Applied
-residualsKept t l n = record { constraints = mergeResiduals t l n; refused = not (roomTo t l (min n 64)) }

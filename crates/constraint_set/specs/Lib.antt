@@ -1,4 +1,3 @@
-pub mod Chained
 pub mod Kept
 pub mod Checked
 pub mod Settled

@@ -3,20 +3,16 @@
 use mathlib.Core.Bool.{Bool, true, false, cond, _&&_, _||_}
 use mathlib.Core.List.{List}
 use mathlib.Core.Path.{_≡_}
-use Prim.Native.Nat.{ℕ, _<_, min, max}
+use Prim.Native.Nat.{ℕ, _<_}
 use lib.ListN.{length, getD, set}
 use Rattle.value_range.specs.Ranges.{emptyRange}
-use Rattle.value_classes.specs.Parents.{parentsOk, joined}
-use Rattle.value_classes.specs.Classes.{canonicalOf}
-use Rattle.value_classes.specs.declared.ValueEquivalenceClasses.{ValueEquivalenceClasses}
+use Rattle.value_classes.specs.Parents.{parentsOk}
 use Rattle.constraints.specs.Sets.{none, held, noEntry, entryOf, blank, parentsOf, nonNulls, literals, handles, nonNullAt, literalAt, entryAt, canonicalAt, clashes, rangeIn, tightenBy, crossed}
 use Rattle.constraints.specs.declared.Holder.{Holder}
 use Rattle.constraints.specs.declared.Entry.{Entry}
 use Rattle.constraints.specs.declared.ConstraintSet.{ConstraintSet}
 use Rattle.constraint_set.specs.Checked.{Checked}
-use Rattle.constraint_set.specs.declared.Joining.{Joining}
 use Rattle.constraint_set.specs.declared.Place.{Place}
-use Rattle.constraint_set.specs.declared.RootPair.{RootPair}
 
 -- ---- what a pass of `normalize` puts at a place, from what is there and what comes; and whether that sets the flag
 unfoldable pub nullOn : Bool → Bool → Bool
@@ -78,24 +74,3 @@ unitedRoots s a b =
       residuals = s .residuals;
       contradictory = s .contradictory || placeAt s a b .bad;
     }
-
--- the representatives of two identities, the lower first, and the classes with the lower as the other's parent
-unfoldable pub rootPair : ValueEquivalenceClasses → ℕ → ℕ → RootPair
-rootPair c l r =
-    record {
-      classes = record { parents = joined (c .parents) l r };
-      low = min (canonicalOf c l) (canonicalOf c r);
-      high = max (canonicalOf c l) (canonicalOf c r);
-    }
-
--- ---- in the middle of a merge
-abbrev pub joining : ConstraintSet → Bool → Joining
-joining t ok = record { constraints = t; settled = ok }
-
--- what is called settled is
-abbrev pub SettledIf : Joining → Type 0
-SettledIf j = j .settled ≡ true → Settled (j .constraints)
-
-pub record JoinedTo (j : Joining) (s : ConstraintSet) : Type 0 where
-  pub whole : j .constraints ≡ s
-  pub good : SettledIf j

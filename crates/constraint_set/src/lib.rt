@@ -3,13 +3,11 @@
 ghost use mathlib.Core.Path.{_≡_};
 ghost use mathlib.Core.Bool.{true, cond};
 ghost use Prim.Native.Nat.{_<_};
-ghost use lib.Dec.{eqb};
 ghost use Rattle.value_classes.specs.Classes.{sameClass};
-ghost use Rattle.constraints.specs.Sets.{held, setOk, canonicalAt, entryOf, clashes, rangeIn, lowerBy, upperBy, tightenBy, outside, crossed, crossCheck, nonNullsMoved, literalsMoved, rangesMoved, normalized, putNonNull, putLiteral, unionValues, addNonNull, addLiteral, boundsBy, addBound, addRange, addResidual, mergeClasses, mergeLiterals, mergeRanges, mergeNonNulls, mergeFrom};
-ghost use Rattle.constraint_set.specs.Chained.{chained};
+ghost use Rattle.constraints.specs.Sets.{held, setOk, canonicalAt, entryOf, clashes, rangeIn, lowerBy, upperBy, tightenBy, outside, crossed, crossCheck, nonNullsMoved, literalsMoved, rangesMoved, normalized, putNonNull, putLiteral, unionValues, addNonNull, addLiteral, boundsBy, addBound, addRange, addResidual, mergeLiterals};
 ghost use Rattle.constraint_set.specs.Checked.{Checked};
-ghost use Rattle.constraint_set.specs.Kept.{hasIn, keptBy, residualsKept};
-ghost use Rattle.constraint_set.specs.Settled.{literalOn, literalBad, rangeOn, rangeBad, placeOf, rootPair, Settled, SettledIf, JoinedTo, joining};
+ghost use Rattle.constraint_set.specs.Kept.{hasIn, keptBy};
+ghost use Rattle.constraint_set.specs.Settled.{literalOn, literalBad, rangeOn, rangeBad, placeOf};
 use comparison::BinaryOp;
 use constraints::Applied;
 use constraints::ConstraintSet;
@@ -18,7 +16,6 @@ use constraints::Holder;
 use constraints::Ranged;
 use scalar::Number;
 use scalar::ScalarValue;
-use value_classes::Members;
 use value_classes::ValueEquivalenceClasses;
 use value_range::Bound;
 use value_range::ValueRange;
@@ -37,17 +34,11 @@ pub struct Place {
     pub bad: bool,
 }
 
-// Two representatives, the lower first, and the classes with the lower as the parent of the other.
+// Two representatives, the lower first, and the classes with the lower as the parent of the other: what the crates above join in place.
 pub struct RootPair {
     pub classes: ValueEquivalenceClasses,
     pub low: usize,
     pub high: usize,
-}
-
-// A set in the middle of a merge of classes, and whether everything in it is known to stand at the representatives.
-pub struct Joining {
-    pub constraints: ConstraintSet,
-    pub settled: bool,
 }
 
 pub fn set_ok(s: ConstraintSet) -> bool
@@ -371,6 +362,25 @@ fn lay_literal(s: ConstraintSet, value: usize, literal: ScalarValue, checked: bo
     u
 }
 
+// The literals of another set, one after the other: the first checks all places, each later one its own.
+pub fn merge_literals(t: ConstraintSet, others: [Holder; 128]) -> ConstraintSet
+    ensures { λ q. ⌜ q ≡ mergeLiterals t others ⌝ }
+{
+    let mut q = t;
+    let mut checked = false;
+    let mut i: usize = 0;
+    while i < 128 {
+        let h = others[i];
+        if h.present {
+            let l = h.value;
+            q = lay_literal(q, i, l, checked);
+            checked = true;
+        }
+        i += 1;
+    }
+    q
+}
+
 pub fn bounds_by(op: BinaryOp, x: f64) -> ValueRange
     ensures { λ q. ⌜ q ≡ boundsBy op x ⌝ }
 {
@@ -546,272 +556,5 @@ pub fn place_of(h1: Holder, h2: Holder, e1: Entry, e2: Entry) -> Place
         literal,
         entry,
         bad: clash | empty | crossed,
-    }
-}
-
-fn root_pair(classes: ValueEquivalenceClasses, left: usize, right: usize) -> RootPair
-    requires { ⌜ left < 128 ⌝ }
-    requires { ⌜ right < 128 ⌝ }
-    ensures { λ q. ⌜ q ≡ rootPair classes left right ⌝ }
-{
-    let l = classes.canonical(left);
-    let r = classes.canonical(right);
-    let mut k = classes;
-    if l < r {
-        k.parents[r] = l as u8;
-        return RootPair {
-            classes: k,
-            low: l,
-            high: r,
-        };
-    }
-    k.parents[l] = r as u8;
-    RootPair {
-        classes: k,
-        low: r,
-        high: l,
-    }
-}
-
-// The first union that joins two classes moves everything to the representatives; from then on it stands there, if no parent is above its
-// child.
-fn join_values(s: ConstraintSet, left: usize, right: usize) -> Joining
-    ensures { λ q. ⌜ JoinedTo q (unionValues s left right) ⌝ }
-{
-    let classes = s.equivalence_classes;
-    let u = classes.union(left, right);
-    if u.joined {
-        let k = u.classes;
-        let settled = k.parents_ok();
-        let mut t = s;
-        t.equivalence_classes = k;
-        let constraints = normalize(t);
-        return Joining {
-            constraints,
-            settled,
-        };
-    }
-    Joining {
-        constraints: s,
-        settled: false,
-    }
-}
-
-// ---- two sets
-
-// The first member that is not the representative, 128 where there is none.
-fn second_member(first: usize, next: usize, r: usize) -> usize
-    ensures { λ q. ⌜ q ≡ cond (eqb first r) next first ⌝ }
-{
-    if first == r { next } else { first }
-}
-
-// The members from `start` on, at most `many`, each joined with r. What stands at the higher of two representatives comes to the lower one,
-// in place: no other place of a settled set changes.
-fn join_settled(
-    t: ConstraintSet,
-    r: usize,
-    start: usize,
-    many: usize,
-    members: Members,
-) -> ConstraintSet
-    requires { ⌜ Settled t ⌝ }
-    requires { ⌜ r < 128 ⌝ }
-    ensures { λ q. ⌜ JoinedTo (joining q true) (chained members r many start t) ⌝ }
-{
-    let no_literal = Holder::empty();
-    let no_entry = Entry::empty();
-    let mut q = t;
-    let mut m = start;
-    let mut left = many;
-    while (0 < left) & (m < 128) {
-        let classes = q.equivalence_classes;
-        let w = root_pair(classes, r, m);
-        let a = w.low;
-        let b = w.high;
-        if a < b {
-            let k = w.classes;
-            let n1 = q.non_null_values[a];
-            let n2 = q.non_null_values[b];
-            let h1 = q.literal_equalities[a];
-            let h2 = q.literal_equalities[b];
-            let e1 = q.ranges[a];
-            let e2 = q.ranges[b];
-            let p = place_of(h1, h2, e1, e2);
-            let h = p.literal;
-            let e = p.entry;
-            let was = q.contradictory;
-            q.equivalence_classes = k;
-            q.non_null_values[a] = n1 | n2;
-            q.non_null_values[b] = false;
-            q.literal_equalities[a] = h;
-            q.literal_equalities[b] = no_literal;
-            q.ranges[a] = e;
-            q.ranges[b] = no_entry;
-            q.contradictory = was | p.bad;
-        }
-        m = members.next[m] as usize;
-        left -= 1;
-    }
-    q
-}
-
-// The members of a class, from the first that is not the representative.
-fn join_class(t: Joining, r: usize, start: usize, members: Members) -> Joining
-    requires { ⌜ SettledIf t ⌝ }
-    requires { ⌜ r < 128 ⌝ }
-    ensures { λ q. ⌜ JoinedTo q (chained members r 128 start (t .constraints)) ⌝ }
-{
-    let mut q = t;
-    let mut m = start;
-    let mut left: usize = 128;
-    while (0 < left) & (m < 128) & !q.settled {
-        let s = q.constraints;
-        q = join_values(s, r, m);
-        m = members.next[m] as usize;
-        left -= 1;
-    }
-    if q.settled {
-        let s = q.constraints;
-        let constraints = join_settled(s, r, m, left, members);
-        return Joining {
-            constraints,
-            settled: true,
-        };
-    }
-    q
-}
-
-fn merge_classes(t: ConstraintSet, classes: ValueEquivalenceClasses) -> ConstraintSet
-    ensures { λ q. ⌜ q ≡ mergeClasses t classes ⌝ }
-{
-    let members = classes.members();
-    let mut q = Joining {
-        constraints: t,
-        settled: false,
-    };
-    let mut r: usize = 0;
-    while r < 128 {
-        let first = members.first[r] as usize;
-        let next = members.next[r] as usize;
-        let start = second_member(first, next, r);
-        if start < 128 {
-            q = join_class(q, r, start, members);
-        }
-        r += 1;
-    }
-    q.constraints
-}
-
-fn merge_literals(t: ConstraintSet, others: [Holder; 128]) -> ConstraintSet
-    ensures { λ q. ⌜ q ≡ mergeLiterals t others ⌝ }
-{
-    let mut q = t;
-    let mut checked = false;
-    let mut i: usize = 0;
-    while i < 128 {
-        let h = others[i];
-        if h.present {
-            let l = h.value;
-            q = lay_literal(q, i, l, checked);
-            checked = true;
-        }
-        i += 1;
-    }
-    q
-}
-
-fn merge_ranges(t: ConstraintSet, others: [Entry; 128]) -> ConstraintSet
-    ensures { λ q. ⌜ q ≡ mergeRanges t others ⌝ }
-{
-    let mut q = t;
-    let classes = q.equivalence_classes;
-    let mut i: usize = 0;
-    while i < 128 {
-        let e = others[i];
-        if e.present {
-            let new = e.range;
-            let r = classes.canonical(i);
-            let was = q.ranges[r];
-            let range = tightened(was, new);
-            let now = entry_of(range);
-            q.ranges[r] = now;
-        }
-        i += 1;
-    }
-    q
-}
-
-fn merge_non_nulls(t: ConstraintSet, others: [bool; 128]) -> ConstraintSet
-    ensures { λ q. ⌜ q ≡ mergeNonNulls t others ⌝ }
-{
-    let mut q = t;
-    let mut i: usize = 0;
-    while i < 128 {
-        if others[i] {
-            q.non_null_values[i] = true;
-        }
-        i += 1;
-    }
-    q
-}
-
-fn merge_residuals(t: ConstraintSet, others: [u16; 64], many: usize) -> Applied
-    ensures { λ q. ⌜ q ≡ residualsKept t others many ⌝ }
-{
-    let n = if many < 64 { many } else { 64 };
-    let mut list = t.residual_predicates;
-    let mut count = t.residuals;
-    let mut refused = false;
-    let mut i: usize = 0;
-    while i < n {
-        let h = others[i];
-        let k = push_handle(list, count, h);
-        let longer = k.list;
-        let no = k.refused;
-        list = longer;
-        count = k.count;
-        refused = refused | no;
-        i += 1;
-    }
-    let mut q = t;
-    q.residual_predicates = list;
-    q.residuals = count;
-    Applied {
-        constraints: q,
-        refused,
-    }
-}
-
-// What both say, or a where there is no room for the residuals of b.
-pub fn merge_from(a: ConstraintSet, b: ConstraintSet) -> Applied
-    ensures { λ q. ⌜ q ≡ mergeFrom a b ⌝ }
-{
-    let mut t = a;
-    let was = t.contradictory;
-    let too = b.contradictory;
-    t.contradictory = was | too;
-    let classes = b.equivalence_classes;
-    let t1 = merge_classes(t, classes);
-    let literals = b.literal_equalities;
-    let t2 = merge_literals(t1, literals);
-    let ranges = b.ranges;
-    let t3 = merge_ranges(t2, ranges);
-    let flags = b.non_null_values;
-    let t4 = merge_non_nulls(t3, flags);
-    let list = b.residual_predicates;
-    let count = b.residuals;
-    let m = merge_residuals(t4, list, count);
-    if m.refused {
-        return Applied {
-            constraints: a,
-            refused: true,
-        };
-    }
-    let f = m.constraints;
-    let n = normalize(f);
-    Applied {
-        constraints: n,
-        refused: false,
     }
 }

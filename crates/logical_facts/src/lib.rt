@@ -203,7 +203,7 @@ fn merge_constraints(a: ConstraintSet, b: ConstraintSet, merge: bool) -> Applied
     ensures { λ r. ⌜ r ≡ cond merge (mergeFrom a b) (done a) ⌝ }
 {
     if merge {
-        return constraint_set::merge_from(a, b);
+        return constraint_merge::merge_from(a, b);
     }
     Applied {
         constraints: a,

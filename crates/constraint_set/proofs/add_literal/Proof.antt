@@ -14,33 +14,33 @@ use Rattle.constraint_set.proofs.put_literal.Reads as put-literal-reads
 use Rattle.scalar.proofs.is_null.Reads as is-null-reads
 use Rattle.value_classes.proofs.ValueEquivalenceClasses.canonical.Reads as canonical-reads
 
--- src/lib.rt:320:9
+-- src/lib.rt:332:9
 returns : tie.Need-returns
 unfolding addLiteral
 returns c = rw (le-ltb _ _ (c .if1 .taken))
 
--- src/lib.rt:322:8
+-- src/lib.rt:334:8
 is-null-requires : tie.Need-is-null-requires
 is-null-requires c κs = search needs
 
--- src/lib.rt:325:9
+-- src/lib.rt:337:9
 returns-2 : tie.Need-returns-2
 unfolding addLiteral
 returns-2 c = rw (lt-ltb _ _ (c .before .before .if1 .left), sym (c .before .is-null .ensures) ∙ c .if2 .taken)
 
--- src/lib.rt:328:9
+-- src/lib.rt:340:9
 canonical-requires : tie.Need-canonical-requires
 canonical-requires c κs = search needs
 
--- src/lib.rt:329:9
+-- src/lib.rt:341:9
 put-literal-requires : tie.Need-put-literal-requires
 put-literal-requires c κs = root-below (c .before .before .before .before .before .args .s .«equivalence_classes» .parents) 128 _ _ (search needs) (c .canonical .ensures) (omega arith)
 
--- src/lib.rt:330:5
+-- src/lib.rt:342:5
 cross-check-literals-and-ranges-requires : tie.Need-cross-check-literals-and-ranges-requires
 cross-check-literals-and-ranges-requires c κs = search needs
 
--- src/lib.rt:316:1
+-- src/lib.rt:328:1
 returns-3 : tie.Need-returns-3
 returns-3 c = literal-added (c .before .before .before .before .before .before .before .args .s) (c .before .before .before .before .before .before .before .args .value) (c .before .before .before .before .before .before .if1 .left) _ (c .before .before .canonical .ensures) (c .before .before .before .before .before .before .before .args .literal) _ _ (sym (c .before .before .before .before .before .is-null .ensures) ∙ c .before .before .before .before .if2 .left) (c .before .put-literal .ensures) (c .cross-check-literals-and-ranges .ensures)
 

@@ -1,4 +1,4 @@
-use Rattle.constraint_set.proofs.Merging.{residual-added}
+use Rattle.constraint_set.proofs.Residuals.{residual-added}
 use borrow.Author.Needs.{needs}
 use Rattle.constraint_set.proofs.add_residual.Statement.{statement}
 use Rattle.constraint_set.proofs.add_residual.Tie as tie

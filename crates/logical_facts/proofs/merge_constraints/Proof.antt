@@ -3,7 +3,7 @@ use Rattle.logical_facts.proofs.merge_constraints.Statement.{statement}
 use Rattle.logical_facts.proofs.merge_constraints.Tie as tie
 use Rattle.logical_facts.proofs.merge_constraints.Reads as reads
 use Rattle.logical_facts.proofs.merge_constraints.Lts as lts
-use Rattle.constraint_set.proofs.merge_from.Reads as merge-from-reads
+use Rattle.constraint_merge.proofs.merge_from.Reads as merge-from-reads
 
 -- src/lib.rt:513:9
 merge-from-requires : tie.Need-merge-from-requires

@@ -1,14 +1,14 @@
 use borrow.Author.Needs.{needs}
-use Rattle.constraint_set.specs.Kept.{residualsKept}
+use Rattle.constraint_merge.specs.Residuals.{residualsKept}
 use Rattle.constraints.specs.Sets.{withResiduals, stepsTo, mergeResidual, mergeResiduals, roomTo}
 use native.Mathlib.Omega.{arith}
 use mathlib.Core.Logic.{⊎-elim}
 use mathlib.Core.Bool.{not}
 use Prim.Native.Nat.{_≤_, _-_, min}
-use Rattle.constraint_set.proofs.Merging.{handle-pushed, handle-refused}
+use Rattle.constraint_merge.proofs.Merging.{handle-pushed, handle-refused}
 use mathlib.Core.Path.{_≡_, refl}
-use Rattle.constraint_set.proofs.merge_residuals.Statement.{statement}
-use Rattle.constraint_set.proofs.merge_residuals.Tie as tie
+use Rattle.constraint_merge.proofs.merge_residuals.Statement.{statement}
+use Rattle.constraint_merge.proofs.merge_residuals.Tie as tie
 
 abbrev Inv-loop : tie.InvT-loop
 Inv-loop t many others n list₀ count₀ refused₀ i₀ list count refused i = (i ≤ n) × (n ≡ min many 64) × (withResiduals t list count ≡ stepsTo (mergeResidual others) i t) × (refused ≡ not (roomTo t others i))

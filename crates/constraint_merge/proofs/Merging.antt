@@ -1,13 +1,12 @@
--- Going from member to member unites what going through all identities does, and pushing handles by themselves is pushing them in a set. Assumes nothing.
+-- Going from member to member unites what going through all identities does, and what the loops over the other set's entries come to. Assumes nothing.
 use mathlib.Core.Path.{_≡_, refl, sym, ap, _∙_, subst}
-use mathlib.Core.Bool.{Bool, true, false, not, cond, _&&_, _||_}
+use mathlib.Core.Bool.{Bool, true, false, not, _&&_, _||_}
 use mathlib.Core.List.{List}
 use Prim.Native.Nat.{ℕ, zero, suc, _+_, _-_, _≤_, _<_, min}
 use native.Mathlib.Decide.{decLt, ℕ-discrete}
 use native.Mathlib.Omega.{arith}
 use native.Mathlib.Numerals.{add-one}
 use borrow.Author.Tests.{lt-ltb, le-ltb, eq-eqb, ne-eqb}
-use lib.Dec.{ltb}
 use lib.ListN.{getD, set}
 use Rattle.value_classes.specs.Parents.{rootOf}
 use Rattle.value_classes.specs.Listed.{firstMember, nextMember, membersOf}
@@ -16,16 +15,20 @@ use Rattle.value_classes.specs.declared.Members.{Members}
 use Rattle.value_classes.proofs.RootLaws.{each-at}
 use Rattle.value_classes.proofs.MemberLaws.{first-at-least, first-at-most, first-member, first-skips}
 use Rattle.value_classes.proofs.Unions.{left-out}
-use Rattle.constraints.specs.Sets.{nonNulls, literals, handles, flagIf, withResiduals, unionValues, hasHandle, roomFor, pushResidual, done, refusedWith, addResidual, stepsTo, joinMember, joinClass, mergeResidual, mergeClasses, mergeLiterals, mergeRanges, mergeNonNulls, mergeValues, normalized, mergedSet, roomTo, mergeRoom, mergeFrom}
+use Rattle.value_range.specs.declared.ValueRange.{ValueRange}
+use Rattle.constraints.specs.Sets.{blank, entryOf, nonNulls, literals, handles, entryAt, canonicalAt, withNonNulls, rangeIn, tightenBy, putNonNull, mergeRange, mergeNonNull, flagIf, withResiduals, unionValues, roomFor, done, refusedWith, stepsTo, joinMember, joinClass, mergeResidual, mergeClasses, mergeLiterals, mergeRanges, mergeNonNulls, mergeValues, normalized, mergedSet, roomTo, mergeRoom, mergeFrom}
+use Rattle.constraints.specs.declared.Entry.{Entry}
 use Rattle.constraints.specs.declared.ConstraintSet.{ConstraintSet}
 use Rattle.constraints.specs.declared.Applied.{Applied}
 use Rattle.constraints.proofs.Steps.{steps-skip}
 use Rattle.constraints.proofs.Operations.{union-one}
 use Rattle.constraints.proofs.Merge.{merge-done, merge-refused}
-use Rattle.constraint_set.specs.Chained.{secondOf, chained}
-use Rattle.constraint_set.specs.Kept.{keptBy, residualsKept}
+use Rattle.constraint_merge.specs.Chained.{secondOf, chained}
+use Rattle.constraint_merge.specs.Residuals.{residualsKept}
+use Rattle.constraint_set.specs.Kept.{keptBy}
 use Rattle.constraint_set.specs.declared.Kept.{Kept}
-use Rattle.constraint_set.proofs.Loops.{steps-next}
+use Rattle.constraint_set.proofs.Loops.{steps-next, rangeWritten, range-lay}
+use Rattle.constraint_set.proofs.Residuals.{kept-set, kept-refused}
 
 -- one identity united with itself
 union-self : (t : ConstraintSet) (r : ℕ) → unionValues t r r ≡ t
@@ -121,52 +124,23 @@ unfolding stepsTo
 classes-joined c s zero h = refl
 classes-joined c s (suc n) h = chain-class c n (omega arith) (stepsTo (joinChain (membersOf c)) n s) ∙ ap (joinClass c n) (classes-joined c s n (omega arith))
 
+-- ---- the entries of another set laid into t
+module _ (i : ℕ) (t : ConstraintSet) where
+  pub null-laid : (l : List Bool) → getD l i false ≡ true → withNonNulls t (set (nonNulls t) i true) ≡ mergeNonNull l i t
+  unfolding putNonNull
+  null-laid l e = rw e
+
+  pub null-left : (l : List Bool) → getD l i false ≡ false → t ≡ mergeNonNull l i t
+  null-left l e = rw e
+
+  pub range-laid : (l : List Entry) (r : ℕ) (range : ValueRange) (now : Entry) → getD l i blank .present ≡ true → r ≡ canonicalAt t i
+      → range ≡ tightenBy (rangeIn (entryAt t r)) (getD l i blank .range) → now ≡ entryOf range → rangeWritten t r now ≡ mergeRange l i t
+  range-laid l r range now e d er en = rw (e, ← d) (range-lay t r (getD l i blank .range) range now er en)
+
+  pub range-left : (l : List Entry) → getD l i blank .present ≡ false → t ≡ mergeRange l i t
+  range-left l e = rw e
+
 -- ---- residuals
-module _ (s : ConstraintSet) (h : ℕ) where
-  abbrev k : Kept
-  k = keptBy (handles s) (s .residuals) h
-
-  -- by whether it is there, and whether there is room
-  abbrev by : Bool → Bool → Kept
-  by a b =
-      cond a (record { list = handles s; count = s .residuals; refused = false })
-      (cond b (record { list = set (handles s) (s .residuals) h; count = s .residuals + 1; refused = false }) (record { list = handles s; count = s .residuals; refused = true }))
-
-  -- a handle pushed by itself
-  pub kept-set : withResiduals s (k .list) (k .count) ≡ pushResidual s h
-  unfolding keptBy pushResidual
-  kept-set = go (hasHandle s h) (ltb (s .residuals) 64)
-    where
-      go : (a b : Bool) → withResiduals s (by a b .list) (by a b .count) ≡ cond a s (cond b (withResiduals s (set (handles s) (s .residuals) h) (s .residuals + 1)) s)
-      go true b = refl
-      go false true = refl
-      go false false = refl
-
-  pub kept-refused : k .refused ≡ not (roomFor s h)
-  unfolding keptBy
-  kept-refused = go (hasHandle s h) (ltb (s .residuals) 64)
-    where
-      go : (a b : Bool) → by a b .refused ≡ not (a || b)
-      go true b = refl
-      go false true = refl
-      go false false = refl
-
--- `add_residual` is a handle pushed, with whether there was room
-added : (s : ConstraintSet) (h : ℕ) → record { constraints = pushResidual s h; refused = not (roomFor s h) } ≡ addResidual s h
-unfolding addResidual pushResidual
-added s h = go (hasHandle s h) (ltb (s .residuals) 64)
-  where
-    push : Bool → Bool → ConstraintSet
-    push a b = cond a s (cond b (withResiduals s (set (handles s) (s .residuals) h) (s .residuals + 1)) s)
-
-    go : (a b : Bool) → record { constraints = push a b; refused = not (a || b) } ≡ cond (a || b) (done (push a b)) (refusedWith s)
-    go true b = refl
-    go false true = refl
-    go false false = refl
-
-pub residual-added : (s : ConstraintSet) (h : ℕ) (k : Kept) → k ≡ keptBy (handles s) (s .residuals) h → record { constraints = withResiduals s (k .list) (k .count); refused = k .refused } ≡ addResidual s h
-residual-added s h k e = rw e (λ i. record { constraints = kept-set s h i; refused = kept-refused s h i }) ∙ added s h
-
 -- one turn of the loop over the residuals of b
 module _ (t : ConstraintSet) (others : List ℕ) (i : ℕ) (list : List ℕ) (count : ℕ) (refused : Bool) (k : Kept)
     (es : withResiduals t list count ≡ stepsTo (mergeResidual others) i t) (er : refused ≡ not (roomTo t others i)) (ek : k ≡ keptBy list count (getD others i 0)) where

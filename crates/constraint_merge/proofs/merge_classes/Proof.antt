@@ -1,9 +1,9 @@
-use Rattle.constraint_set.proofs.Merging.{chained-past, joinChain, classes-joined}
+use Rattle.constraint_merge.proofs.Merging.{chained-past, joinChain, classes-joined}
 use Rattle.constraint_set.proofs.Loops.{steps-next}
-use Rattle.constraint_set.proofs.Uniting.{not-yet}
-use Rattle.constraint_set.specs.Chained.{chained}
-use Rattle.constraint_set.specs.Settled.{SettledIf}
-use Rattle.constraint_set.specs.declared.Joining.{Joining}
+use Rattle.constraint_merge.proofs.Uniting.{not-yet}
+use Rattle.constraint_merge.specs.Chained.{chained}
+use Rattle.constraint_merge.specs.Joins.{SettledIf}
+use Rattle.constraint_merge.specs.declared.Joining.{Joining}
 use Rattle.constraints.specs.Sets.{stepsTo, mergeClasses}
 use Rattle.value_classes.specs.declared.Members.{Members}
 use Prim.Native.Nat.{ℕ}
@@ -12,12 +12,12 @@ use native.Mathlib.Omega.{arith}
 use Prim.Native.Nat.{_≤_, _-_}
 use mathlib.Core.Path.{_≡_, refl, sym, ap, subst, _∙_}
 use borrow.Author.Needs.{needs}
-use Rattle.constraint_set.proofs.merge_classes.Statement.{statement}
-use Rattle.constraint_set.proofs.merge_classes.Tie as tie
-use Rattle.constraint_set.proofs.merge_classes.Reads as reads
-use Rattle.constraint_set.proofs.merge_classes.Lts as lts
-use Rattle.constraint_set.proofs.join_class.Reads as join-class-reads
-use Rattle.constraint_set.proofs.second_member.Reads as second-member-reads
+use Rattle.constraint_merge.proofs.merge_classes.Statement.{statement}
+use Rattle.constraint_merge.proofs.merge_classes.Tie as tie
+use Rattle.constraint_merge.proofs.merge_classes.Reads as reads
+use Rattle.constraint_merge.proofs.merge_classes.Lts as lts
+use Rattle.constraint_merge.proofs.join_class.Reads as join-class-reads
+use Rattle.constraint_merge.proofs.second_member.Reads as second-member-reads
 use Rattle.value_classes.proofs.ValueEquivalenceClasses.members.Reads as members-reads
 
 abbrev Inv-loop : tie.InvT-loop
@@ -26,48 +26,48 @@ Inv-loop members q₀ r₀ q r = (r ≤ 128) × (q .constraints ≡ stepsTo (joi
 abbrev μ-loop : tie.MeasureT-loop
 μ-loop members q₀ r₀ q r = 128 - r
 
--- src/lib.rt:640:19
+-- src/lib.rt:164:19
 members-requires : tie.Need-members-requires Inv-loop μ-loop
 members-requires c κs = search needs
 
--- src/lib.rt:646:5
+-- src/lib.rt:170:5
 loop-holds : tie.Need-loop-holds Inv-loop μ-loop
 unfolding stepsTo
 loop-holds c = (omega arith, refl, not-yet (c .before .args .t))
 
--- src/lib.rt:647:21
+-- src/lib.rt:171:21
 element-copy-out-first : tie.Need-element-copy-out-first Inv-loop μ-loop
 element-copy-out-first c = search needs
 
--- src/lib.rt:647:21
+-- src/lib.rt:171:21
 cast-first : tie.Need-cast-first Inv-loop μ-loop
 cast-first c = search needs
 
--- src/lib.rt:648:20
+-- src/lib.rt:172:20
 element-copy-out-next : tie.Need-element-copy-out-next Inv-loop μ-loop
 element-copy-out-next c = search needs
 
--- src/lib.rt:648:20
+-- src/lib.rt:172:20
 cast-next : tie.Need-cast-next Inv-loop μ-loop
 cast-next c = search needs
 
--- src/lib.rt:649:13
+-- src/lib.rt:173:13
 second-member-requires : tie.Need-second-member-requires Inv-loop μ-loop
 second-member-requires c κs = search needs
 
--- src/lib.rt:651:13
+-- src/lib.rt:175:13
 join-class-requires : tie.Need-join-class-requires Inv-loop μ-loop
 join-class-requires c κs = (c .before .before .before .before .before .loop .inv .2, c .before .before .before .before .loop-test .taken)
 
--- src/lib.rt:653:9
+-- src/lib.rt:177:9
 add-r : tie.Need-add-r Inv-loop μ-loop
 add-r c = search needs
 
--- src/lib.rt:646:5
+-- src/lib.rt:170:5
 loop-less : tie.Need-loop-less Inv-loop μ-loop
 loop-less c = search needs
 
--- src/lib.rt:646:5
+-- src/lib.rt:170:5
 loop-again : tie.Need-loop-again Inv-loop μ-loop
 loop-again c =
     let v = c .before .before .before .before .before .loop .inv in
@@ -80,7 +80,7 @@ loop-again c =
     (λ w. (omega arith, ap (λ (j : Joining). j .constraints) (w .1) ∙ steps-next (joinChain ms) _ r q _ (v .1) (chained-past ms r 128 _ q (w .0 .left) ∙ start), subst SettledIf (sym (w .1)) (v .2)))
     (c .if1 .came)
 
--- src/lib.rt:637:1
+-- src/lib.rt:161:1
 returns : tie.Need-returns Inv-loop μ-loop
 unfolding mergeClasses
 returns c =

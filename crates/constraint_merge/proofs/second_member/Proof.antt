@@ -1,6 +1,6 @@
 use borrow.Author.Tests.{eq-eqb, ne-eqb}
-use Rattle.constraint_set.proofs.second_member.Statement.{statement}
-use Rattle.constraint_set.proofs.second_member.Tie as tie
+use Rattle.constraint_merge.proofs.second_member.Statement.{statement}
+use Rattle.constraint_merge.proofs.second_member.Tie as tie
 
 returns : tie.Need-returns
 returns c = rw (eq-eqb _ _ (c .if1 .taken))

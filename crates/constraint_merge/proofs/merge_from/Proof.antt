@@ -1,7 +1,7 @@
-use Rattle.constraint_set.proofs.Merging.{told-refused, told-done}
+use Rattle.constraint_merge.proofs.Merging.{told-refused, told-done}
 use borrow.Author.Needs.{needs}
-use Rattle.constraint_set.proofs.merge_from.Statement.{statement}
-use Rattle.constraint_set.proofs.merge_from.Tie as tie
+use Rattle.constraint_merge.proofs.merge_from.Statement.{statement}
+use Rattle.constraint_merge.proofs.merge_from.Tie as tie
 
 merge-classes-requires : tie.Need-merge-classes-requires
 merge-classes-requires c κs = search needs

@@ -1,5 +1,6 @@
 use borrow.Author.Needs.{needs}
-use Rattle.constraint_set.proofs.Loops.{steps-next, range-laid, range-left}
+use Rattle.constraint_set.proofs.Loops.{steps-next}
+use Rattle.constraint_merge.proofs.Merging.{range-laid, range-left}
 use Rattle.constraints.specs.Sets.{stepsTo, mergeRange, mergeRanges}
 use Rattle.value_classes.specs.declared.ValueEquivalenceClasses.{ValueEquivalenceClasses}
 use Rattle.value_classes.specs.Parents.{rootOf}
@@ -9,8 +10,8 @@ use mathlib.Core.Logic.{⊎-elim}
 use native.Mathlib.Omega.{arith}
 use Prim.Native.Nat.{_≤_, _<_, _-_}
 use mathlib.Core.Path.{_≡_, refl, sym, ap, _∙_}
-use Rattle.constraint_set.proofs.merge_ranges.Statement.{statement}
-use Rattle.constraint_set.proofs.merge_ranges.Tie as tie
+use Rattle.constraint_merge.proofs.merge_ranges.Statement.{statement}
+use Rattle.constraint_merge.proofs.merge_ranges.Tie as tie
 
 abbrev Inv-loop : tie.InvT-loop
 Inv-loop others q₀ classes i₀ q i = (i ≤ 128) × (q ≡ stepsTo (mergeRange others) i q₀) × (q .«equivalence_classes» ≡ classes)

@@ -1,30 +1,30 @@
-use Rattle.constraint_set.proofs.Uniting.{fully-joined, not-joined}
+use Rattle.constraint_merge.proofs.Uniting.{fully-joined, not-joined}
 use borrow.Author.Needs.{needs}
-use Rattle.constraint_set.proofs.join_values.Statement.{statement}
-use Rattle.constraint_set.proofs.join_values.Tie as tie
-use Rattle.constraint_set.proofs.join_values.Reads as reads
-use Rattle.constraint_set.proofs.join_values.Lts as lts
+use Rattle.constraint_merge.proofs.join_values.Statement.{statement}
+use Rattle.constraint_merge.proofs.join_values.Tie as tie
+use Rattle.constraint_merge.proofs.join_values.Reads as reads
+use Rattle.constraint_merge.proofs.join_values.Lts as lts
 use Rattle.constraint_set.proofs.normalize.Reads as normalize-reads
 use Rattle.value_classes.proofs.ValueEquivalenceClasses.parents_ok.Reads as parents-ok-reads
 use Rattle.value_classes.proofs.ValueEquivalenceClasses.union.Reads as union-reads
 
--- src/lib.rt:582:9
+-- src/lib.rt:58:9
 union-requires : tie.Need-union-requires
 union-requires c κs = search needs
 
--- src/lib.rt:585:13
+-- src/lib.rt:61:13
 parents-ok-requires : tie.Need-parents-ok-requires
 parents-ok-requires c κs = search needs
 
--- src/lib.rt:588:13
+-- src/lib.rt:64:13
 normalize-requires : tie.Need-normalize-requires
 normalize-requires c κs = search needs
 
--- src/lib.rt:589:9
+-- src/lib.rt:65:9
 returns : tie.Need-returns
 returns c = fully-joined (c .before .before .before .before .before .before .args .s) (c .before .before .before .before .before .before .args .left) (c .before .before .before .before .before .before .args .right) (c .before .before .before .before .union .result) (c .before .before .before .before .union .ensures) (c .normalize .result) (c .before .parents-ok .result) (search needs) (c .before .before .before .if1 .taken) (c .before .parents-ok .ensures) (c .normalize .ensures)
 
--- src/lib.rt:578:1
+-- src/lib.rt:54:1
 returns-2 : tie.Need-returns-2
 returns-2 c = not-joined (c .before .before .before .args .s) (c .before .before .before .args .left) (c .before .before .before .args .right) (c .before .union .result) (c .before .union .ensures) (c .if1 .left)
 

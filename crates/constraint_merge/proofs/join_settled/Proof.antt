@@ -3,19 +3,19 @@ use lib.ListN.{getD}
 use mir.Syntax.{w64}
 use mir.Val.{Fits}
 use borrow.Author.Needs.{needs}
-use Rattle.constraint_set.proofs.Uniting.{goes-on, high-below, turned, unturned, chain-ended, settled-on}
-use Rattle.constraint_set.specs.Chained.{chained}
+use Rattle.constraint_merge.proofs.Uniting.{goes-on, high-below, turned, unturned, chain-ended, settled-on}
+use Rattle.constraint_merge.specs.Chained.{chained}
 use Rattle.constraint_set.specs.Settled.{Settled}
 use mathlib.Core.Logic.{⊎-elim}
 use native.Mathlib.Omega.{arith}
 use Prim.Native.Nat.{_<_}
 use mathlib.Core.Path.{_≡_, refl, _∙_}
-use Rattle.constraint_set.proofs.join_settled.Statement.{statement}
-use Rattle.constraint_set.proofs.join_settled.Tie as tie
-use Rattle.constraint_set.proofs.join_settled.Reads as reads
-use Rattle.constraint_set.proofs.join_settled.Lts as lts
+use Rattle.constraint_merge.proofs.join_settled.Statement.{statement}
+use Rattle.constraint_merge.proofs.join_settled.Tie as tie
+use Rattle.constraint_merge.proofs.join_settled.Reads as reads
+use Rattle.constraint_merge.proofs.join_settled.Lts as lts
 use Rattle.constraint_set.proofs.place_of.Reads as place-of-reads
-use Rattle.constraint_set.proofs.root_pair.Reads as root-pair-reads
+use Rattle.constraint_merge.proofs.root_pair.Reads as root-pair-reads
 use Rattle.constraints.proofs.Entry.empty.Reads as Entry-empty-reads
 use Rattle.constraints.proofs.Holder.empty.Reads as Holder-empty-reads
 
@@ -33,123 +33,123 @@ small c = high-below (c .before .before .before .loop .q) (c .before .before .be
 fits : (c : tie.Start Inv-loop μ-loop) (i : ℕ) → Fits w64 (getD (c .args .t5 .next) i 0)
 fits c i = search needs
 
--- src/lib.rt:615:9
+-- src/lib.rt:83:9
 empty-requires : tie.Need-empty-requires Inv-loop μ-loop
 empty-requires c κs = search needs
 
--- src/lib.rt:616:9
+-- src/lib.rt:84:9
 empty-requires-2 : tie.Need-empty-requires-2 Inv-loop μ-loop
 empty-requires-2 c κs = search needs
 
--- src/lib.rt:620:5
+-- src/lib.rt:88:5
 loop-holds : tie.Need-loop-holds Inv-loop μ-loop
 loop-holds c = (refl, c .before .before .pre .0)
 
--- src/lib.rt:622:13
+-- src/lib.rt:90:13
 root-pair-requires : tie.Need-root-pair-requires Inv-loop μ-loop
 root-pair-requires c κs = (c .before .before .before .before .before .pre .1, goes-on (c .before .before .loop .left) (c .before .before .loop .m) (c .before .loop-test .taken) .1)
 
--- src/lib.rt:627:22
+-- src/lib.rt:95:22
 element-copy-out-n1 : tie.Need-element-copy-out-n1 Inv-loop μ-loop
 element-copy-out-n1 c = omega (arith, c .before .if1 .taken, small (c .before .before))
 
--- src/lib.rt:628:22
+-- src/lib.rt:96:22
 element-copy-out-n2 : tie.Need-element-copy-out-n2 Inv-loop μ-loop
 element-copy-out-n2 c = omega (arith, small (c .before .before .before))
 
--- src/lib.rt:629:22
+-- src/lib.rt:97:22
 mul-h1 : tie.Need-mul-h1 Inv-loop μ-loop
 mul-h1 c = omega (arith, c .before .before .before .if1 .taken, small (c .before .before .before .before))
 
--- src/lib.rt:629:22
+-- src/lib.rt:97:22
 element-copy-out-h1 : tie.Need-element-copy-out-h1 Inv-loop μ-loop
 element-copy-out-h1 c = omega (arith, c .before .before .before .if1 .taken, small (c .before .before .before .before))
 
--- src/lib.rt:630:22
+-- src/lib.rt:98:22
 mul-h2 : tie.Need-mul-h2 Inv-loop μ-loop
 mul-h2 c = omega (arith, small (c .before .before .before .before .before))
 
--- src/lib.rt:630:22
+-- src/lib.rt:98:22
 element-copy-out-h2 : tie.Need-element-copy-out-h2 Inv-loop μ-loop
 element-copy-out-h2 c = omega (arith, small (c .before .before .before .before .before))
 
--- src/lib.rt:631:22
+-- src/lib.rt:99:22
 mul-e1 : tie.Need-mul-e1 Inv-loop μ-loop
 mul-e1 c = omega (arith, c .before .before .before .before .before .if1 .taken, small (c .before .before .before .before .before .before))
 
--- src/lib.rt:631:22
+-- src/lib.rt:99:22
 element-copy-out-e1 : tie.Need-element-copy-out-e1 Inv-loop μ-loop
 element-copy-out-e1 c = omega (arith, c .before .before .before .before .before .if1 .taken, small (c .before .before .before .before .before .before))
 
--- src/lib.rt:632:22
+-- src/lib.rt:100:22
 mul-e2 : tie.Need-mul-e2 Inv-loop μ-loop
 mul-e2 c = omega (arith, small (c .before .before .before .before .before .before .before))
 
--- src/lib.rt:632:22
+-- src/lib.rt:100:22
 element-copy-out-e2 : tie.Need-element-copy-out-e2 Inv-loop μ-loop
 element-copy-out-e2 c = omega (arith, small (c .before .before .before .before .before .before .before))
 
--- src/lib.rt:633:17
+-- src/lib.rt:101:17
 place-of-requires : tie.Need-place-of-requires Inv-loop μ-loop
 place-of-requires c κs = search needs
 
--- src/lib.rt:638:13
+-- src/lib.rt:106:13
 element-write-q : tie.Need-element-write-q Inv-loop μ-loop
 element-write-q c = omega (arith, c .before .before .before .before .before .before .before .before .before .before .if1 .taken, small (c .before .before .before .before .before .before .before .before .before .before .before))
 
--- src/lib.rt:639:13
+-- src/lib.rt:107:13
 element-write-q-2 : tie.Need-element-write-q-2 Inv-loop μ-loop
 element-write-q-2 c = omega (arith, small (c .before .before .before .before .before .before .before .before .before .before .before))
 
--- src/lib.rt:640:13
+-- src/lib.rt:108:13
 mul-h : tie.Need-mul-h Inv-loop μ-loop
 mul-h c = omega (arith, c .before .before .before .before .before .before .before .before .before .before .if1 .taken, small (c .before .before .before .before .before .before .before .before .before .before .before))
 
--- src/lib.rt:640:13
+-- src/lib.rt:108:13
 element-set-from-h : tie.Need-element-set-from-h Inv-loop μ-loop
 element-set-from-h c = omega (arith, c .before .before .before .before .before .before .before .before .before .before .if1 .taken, small (c .before .before .before .before .before .before .before .before .before .before .before))
 
--- src/lib.rt:641:13
+-- src/lib.rt:109:13
 mul-no-literal : tie.Need-mul-no-literal Inv-loop μ-loop
 mul-no-literal c = omega (arith, small (c .before .before .before .before .before .before .before .before .before .before .before))
 
--- src/lib.rt:641:13
+-- src/lib.rt:109:13
 element-set-from-no-literal : tie.Need-element-set-from-no-literal Inv-loop μ-loop
 element-set-from-no-literal c = omega (arith, small (c .before .before .before .before .before .before .before .before .before .before .before))
 
--- src/lib.rt:642:13
+-- src/lib.rt:110:13
 mul-e : tie.Need-mul-e Inv-loop μ-loop
 mul-e c = omega (arith, c .before .before .before .before .before .before .before .before .before .before .if1 .taken, small (c .before .before .before .before .before .before .before .before .before .before .before))
 
--- src/lib.rt:642:13
+-- src/lib.rt:110:13
 element-set-from-e : tie.Need-element-set-from-e Inv-loop μ-loop
 element-set-from-e c = omega (arith, c .before .before .before .before .before .before .before .before .before .before .if1 .taken, small (c .before .before .before .before .before .before .before .before .before .before .before))
 
--- src/lib.rt:643:13
+-- src/lib.rt:111:13
 mul-no-entry : tie.Need-mul-no-entry Inv-loop μ-loop
 mul-no-entry c = omega (arith, small (c .before .before .before .before .before .before .before .before .before .before .before))
 
--- src/lib.rt:643:13
+-- src/lib.rt:111:13
 element-set-from-no-entry : tie.Need-element-set-from-no-entry Inv-loop μ-loop
 element-set-from-no-entry c = omega (arith, small (c .before .before .before .before .before .before .before .before .before .before .before))
 
--- src/lib.rt:646:13
+-- src/lib.rt:114:13
 element-copy-out-m : tie.Need-element-copy-out-m Inv-loop μ-loop
 element-copy-out-m c = goes-on (c .before .before .before .before .loop .left) (c .before .before .before .before .loop .m) (c .before .before .before .loop-test .taken) .1
 
--- src/lib.rt:646:13
+-- src/lib.rt:114:13
 cast-m : tie.Need-cast-m Inv-loop μ-loop
 cast-m c = fits (c .before .before .before .before .before .before .before .before) (c .before .before .before .before .before .loop .m)
 
--- src/lib.rt:647:9
+-- src/lib.rt:115:9
 sub-left : tie.Need-sub-left Inv-loop μ-loop
 sub-left c = omega (arith, goes-on (c .before .before .before .before .before .loop .left) (c .before .before .before .before .before .loop .m) (c .before .before .before .before .loop-test .taken) .0)
 
--- src/lib.rt:620:5
+-- src/lib.rt:88:5
 loop-less : tie.Need-loop-less Inv-loop μ-loop
 loop-less c = omega (arith, goes-on (c .before .before .before .before .before .loop .left) (c .before .before .before .before .before .loop .m) (c .before .before .before .before .loop-test .taken) .0)
 
--- src/lib.rt:620:5
+-- src/lib.rt:88:5
 loop-again : tie.Need-loop-again Inv-loop μ-loop
 loop-again c =
     let g = c .before .before .before .before .before .loop .inv in
@@ -161,7 +161,7 @@ loop-again c =
     (λ w. next (w .1 ∙ unturned q (g .1) (c .before .before .before .before .before .before .before .before .args .r) (c .before .before .before .before .before .loop .m) (c .before .before .before .before .before .before .before .before .pre .1) (on .1) (c .before .before .root-pair .result) (c .before .before .root-pair .ensures) (λ h. omega arith)) (g .0))
     (c .before .if1 .came)
 
--- src/lib.rt:610:1
+-- src/lib.rt:78:1
 returns : tie.Need-returns Inv-loop μ-loop
 returns c = record { whole = chain-ended (c .before .before .before .before .args .t5) (c .before .before .before .before .args .r) (c .before .loop .left) (c .before .loop .m) (c .before .loop .q) (c .loop-test .left) ∙ c .before .loop .inv .0; good = λ e. c .before .loop .inv .1 }
 

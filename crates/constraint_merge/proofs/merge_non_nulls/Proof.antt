@@ -1,12 +1,13 @@
 use borrow.Author.Needs.{needs}
-use Rattle.constraint_set.proofs.Loops.{steps-next, null-laid, null-left}
+use Rattle.constraint_set.proofs.Loops.{steps-next}
+use Rattle.constraint_merge.proofs.Merging.{null-laid, null-left}
 use Rattle.constraints.specs.Sets.{stepsTo, mergeNonNull, mergeNonNulls}
 use mathlib.Core.Logic.{⊎-elim}
 use native.Mathlib.Omega.{arith}
 use Prim.Native.Nat.{_≤_, _-_}
 use mathlib.Core.Path.{_≡_, refl}
-use Rattle.constraint_set.proofs.merge_non_nulls.Statement.{statement}
-use Rattle.constraint_set.proofs.merge_non_nulls.Tie as tie
+use Rattle.constraint_merge.proofs.merge_non_nulls.Statement.{statement}
+use Rattle.constraint_merge.proofs.merge_non_nulls.Tie as tie
 
 abbrev Inv-loop : tie.InvT-loop
 Inv-loop others q₀ i₀ q i = (i ≤ 128) × (q ≡ stepsTo (mergeNonNull others) i q₀)

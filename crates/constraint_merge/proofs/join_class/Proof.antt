@@ -2,20 +2,19 @@ use Prim.Native.Nat.{ℕ}
 use lib.ListN.{getD}
 use mir.Syntax.{w64}
 use mir.Val.{Fits}
-use Prim.Native.Nat.{_<_}
 use borrow.Author.Needs.{needs}
-use Rattle.constraint_set.proofs.Merging.{chained-step}
-use Rattle.constraint_set.proofs.Uniting.{goes-on-unsettled, unsettled-ended, chain-ended}
-use Rattle.constraint_set.specs.Chained.{chained}
-use Rattle.constraint_set.specs.Settled.{SettledIf}
+use Rattle.constraint_merge.proofs.Merging.{chained-step}
+use Rattle.constraint_merge.proofs.Uniting.{goes-on-unsettled, unsettled-ended, chain-ended}
+use Rattle.constraint_merge.specs.Chained.{chained}
+use Rattle.constraint_merge.specs.Joins.{SettledIf}
 use native.Mathlib.Omega.{arith}
 use mathlib.Core.Path.{_≡_, refl, _∙_}
-use Rattle.constraint_set.proofs.join_class.Statement.{statement}
-use Rattle.constraint_set.proofs.join_class.Tie as tie
-use Rattle.constraint_set.proofs.join_class.Reads as reads
-use Rattle.constraint_set.proofs.join_class.Lts as lts
-use Rattle.constraint_set.proofs.join_settled.Reads as join-settled-reads
-use Rattle.constraint_set.proofs.join_values.Reads as join-values-reads
+use Rattle.constraint_merge.proofs.join_class.Statement.{statement}
+use Rattle.constraint_merge.proofs.join_class.Tie as tie
+use Rattle.constraint_merge.proofs.join_class.Reads as reads
+use Rattle.constraint_merge.proofs.join_class.Lts as lts
+use Rattle.constraint_merge.proofs.join_settled.Reads as join-settled-reads
+use Rattle.constraint_merge.proofs.join_values.Reads as join-values-reads
 
 abbrev Inv-loop : tie.InvT-loop
 Inv-loop r start members q₀ m₀ left₀ q m left = (chained members r left m (q .constraints) ≡ chained members r 128 start (q₀ .constraints)) × SettledIf q
@@ -27,43 +26,43 @@ abbrev μ-loop : tie.MeasureT-loop
 fits : (c : tie.Start Inv-loop μ-loop) (i : ℕ) → Fits w64 (getD (c .args .t4 .next) i 0)
 fits c i = search needs
 
--- src/lib.rt:660:5
+-- src/lib.rt:144:5
 loop-holds : tie.Need-loop-holds Inv-loop μ-loop
 loop-holds c = (refl, c .pre .0)
 
--- src/lib.rt:662:9
+-- src/lib.rt:146:9
 join-values-requires : tie.Need-join-values-requires Inv-loop μ-loop
 join-values-requires c κs = search needs
 
--- src/lib.rt:663:13
+-- src/lib.rt:147:13
 element-copy-out-m : tie.Need-element-copy-out-m Inv-loop μ-loop
 element-copy-out-m c = goes-on-unsettled (c .before .before .before .before .loop .left) (c .before .before .before .before .loop .m) (c .before .before .before .before .loop .q .settled) (c .before .before .if1 .taken) .1
 
--- src/lib.rt:663:13
+-- src/lib.rt:147:13
 cast-m : tie.Need-cast-m Inv-loop μ-loop
 cast-m c = fits (c .before .before .before .before .before .before) (c .before .before .before .before .before .loop .m)
 
--- src/lib.rt:664:9
+-- src/lib.rt:148:9
 sub-left : tie.Need-sub-left Inv-loop μ-loop
 sub-left c = omega (arith, goes-on-unsettled (c .before .before .before .before .before .loop .left) (c .before .before .before .before .before .loop .m) (c .before .before .before .before .before .loop .q .settled) (c .before .before .before .if1 .taken) .0)
 
--- src/lib.rt:660:5
+-- src/lib.rt:144:5
 loop-less : tie.Need-loop-less Inv-loop μ-loop
 loop-less c = omega (arith, goes-on-unsettled (c .before .before .before .before .before .loop .left) (c .before .before .before .before .before .loop .m) (c .before .before .before .before .before .loop .q .settled) (c .before .before .before .if1 .taken) .0)
 
--- src/lib.rt:660:5
+-- src/lib.rt:144:5
 loop-again : tie.Need-loop-again Inv-loop μ-loop
 loop-again c = (let on = goes-on-unsettled (c .before .before .before .before .before .loop .left) (c .before .before .before .before .before .loop .m) (c .before .before .before .before .before .loop .q .settled) (c .before .before .before .if1 .taken) in chained-step (c .before .before .before .before .before .before .args .t4) (c .before .before .before .before .before .before .args .r) (c .before .before .before .before .before .loop .left) (c .before .before .before .before .before .loop .m) (c .before .before .before .before .before .loop .q .constraints) _ (on .0) (on .1) (c .before .join-values .ensures .whole) ∙ c .before .before .before .before .before .loop .inv .0, c .before .join-values .ensures .good)
 
--- src/lib.rt:668:13
+-- src/lib.rt:152:13
 join-settled-requires : tie.Need-join-settled-requires Inv-loop μ-loop
 join-settled-requires c κs = (c .before .before .before .before .loop .inv .1 (c .before .if2 .taken), c .before .before .before .before .before .pre .1)
 
--- src/lib.rt:669:9
+-- src/lib.rt:153:9
 returns : tie.Need-returns Inv-loop μ-loop
 returns c = record { whole = c .join-settled .ensures .whole ∙ c .before .before .before .before .before .loop .inv .0; good = c .join-settled .ensures .good }
 
--- src/lib.rt:652:1
+-- src/lib.rt:136:1
 returns-2 : tie.Need-returns-2 Inv-loop μ-loop
 returns-2 c = record { whole = chain-ended (c .before .before .before .before .args .t4) (c .before .before .before .before .args .r) (c .before .before .before .loop .left) (c .before .before .before .loop .m) (c .before .before .before .loop .q .constraints) (unsettled-ended (c .before .before .before .loop .left) (c .before .before .before .loop .m) (c .before .before .before .loop .q .settled) (c .before .if1 .left) (c .if2 .left)) ∙ c .before .before .before .loop .inv .0; good = c .before .before .before .loop .inv .1 }
 

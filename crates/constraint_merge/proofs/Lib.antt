@@ -1,0 +1,2 @@
+pub mod Merging
+pub mod Uniting

@@ -1,0 +1,153 @@
+-- A union in a settled set, and what the code of a merge knows of its set. Assumes nothing.
+use mathlib.Core.Path.{_≡_, refl, sym, ap, _∙_, subst}
+use mathlib.Core.Bool.{Bool, true, false, cond, not, _&&_, and-true}
+use Prim.Native.Nat.{ℕ, zero, suc, _-_, _≤_, _<_, min, max}
+use native.Mathlib.Decide.{decLt, decLe}
+use native.Mathlib.Omega.{arith}
+use borrow.Author.Tests.{lt-ltb, ltb-true}
+use lib.Dec.{T, ltb}
+use lib.ListN.{length, getD, set}
+use Rattle.lists.proofs.RangeLaws.{and-left, and-right}
+use Rattle.value_classes.specs.Parents.{joined, parentsOk}
+use Rattle.value_classes.specs.Classes.{canonicalOf, unionOf}
+use Rattle.value_classes.specs.declared.ValueEquivalenceClasses.{ValueEquivalenceClasses}
+use Rattle.value_classes.specs.declared.United.{United}
+use Rattle.value_classes.specs.declared.Members.{Members}
+use Rattle.value_classes.proofs.RootLaws.{falls, root-below, root-idempotent}
+use Rattle.value_classes.proofs.Unions.{union-joined, union-same}
+use Rattle.constraints.specs.Sets.{none, noEntry, parentsOf, canonicalAt, withClasses, normalized, unionBy, unionValues}
+use Rattle.constraints.specs.declared.Holder.{Holder}
+use Rattle.constraints.specs.declared.Entry.{Entry}
+use Rattle.constraints.specs.declared.ConstraintSet.{ConstraintSet}
+use Rattle.constraint_merge.specs.Chained.{chained}
+use Rattle.constraint_set.specs.Settled.{nullOn, placeAt, Settled, unitedRoots}
+use Rattle.constraint_merge.specs.Joins.{rootPair, joining, SettledIf, JoinedTo}
+use Rattle.constraint_set.specs.declared.Place.{Place}
+use Rattle.constraint_set.specs.declared.RootPair.{RootPair}
+use Rattle.constraint_merge.proofs.Merging.{chained-past, chained-none, chained-step}
+use Rattle.constraint_set.proofs.Uniting.{rootsWritten}
+use Rattle.constraint_set.proofs.Settling.{normalized-settled, joined-normalized, united-settled}
+
+-- ---- a union of two identities in a settled set
+module _ (s : ConstraintSet) (g : Settled s) (l r : ℕ) (hl : l < 128) (hr : r < 128) where
+  abbrev w : RootPair
+  w = rootPair (s .«equivalence_classes») l r
+
+  abbrev x : ℕ
+  x = canonicalAt s l
+
+  abbrev y : ℕ
+  y = canonicalAt s r
+
+  own : (i : ℕ) → canonicalAt s (canonicalAt s i) ≡ canonicalAt s i
+  own i = root-idempotent (parentsOf s) (falls (parentsOf s) (g .ok)) i
+
+  own-low : canonicalAt s (min x y) ≡ min x y
+  own-low = elim (decLe x y) [
+    | yes h ↦ (let e : min x y ≡ x = omega arith in rw e (own l))
+    | no h ↦ (let e : min x y ≡ y = omega arith in rw e (own r))
+  ]
+
+  pub high-small : max x y < 128
+  high-small = omega (arith, root-below (parentsOf s) 128 l x (g .many) refl hl, root-below (parentsOf s) 128 r y (g .many) refl hr)
+
+  apart : min x y < max x y → unionValues s l r ≡ unitedRoots s (min x y) (max x y)
+  unfolding unionValues
+  apart h =
+      ap (unionBy s) (union-joined (s .«equivalence_classes») l r hl hr (omega arith)) ∙ (unfold joined in joined-normalized s g (min x y) (max x y) h high-small own-low)
+
+  together : (min x y < max x y → ⊥) → s ≡ unionValues s l r
+  unfolding unionValues
+  together n = sym (ap (unionBy s) (union-same (s .«equivalence_classes») l r hl hr (omega arith)))
+
+  -- a union keeps a set settled
+  pub union-settled : Settled (unionValues s l r)
+  union-settled = elim (decLt (min x y) (max x y)) [
+    | yes h ↦ subst Settled (sym (apart h)) (united-settled s g (min x y) (max x y) h high-small own-low)
+    | no n ↦ subst Settled (together n) g
+  ]
+
+-- ---- one turn of the loop over the members of a class in a settled set
+module _ (s : ConstraintSet) (g : Settled s) (l r : ℕ) (hl : l < 128) (hr : r < 128) (w : RootPair) (ew : w ≡ rootPair (s .«equivalence_classes») l r) where
+  pub high-below : w .high < 128
+  unfolding rootPair
+  high-below = subst (λ (v : RootPair). v .high < 128) (sym ew) (high-small s g l r hl hr)
+
+  -- one turn of the loop, with a union and without
+  pub turned : (at : Place) (bare : Holder) (nowhere : Entry) → w .low < w .high → at ≡ placeAt s (w .low) (w .high) → bare ≡ none → nowhere ≡ noEntry → rootsWritten s w at bare nowhere ≡ unionValues s l r
+  unfolding rootPair unitedRoots joined nullOn
+  turned at bare nowhere h ea eb en =
+      (λ i. rootsWritten s (ew i) ((ea ∙ ap (λ (v : RootPair). placeAt s (v .low) (v .high)) ew) i) (eb i) (en i))
+      ∙ sym (apart s g l r hl hr (subst (λ (v : RootPair). v .low < v .high) ew h))
+
+  pub unturned : (w .low < w .high → ⊥) → s ≡ unionValues s l r
+  unfolding rootPair
+  unturned n = together s g l r hl hr (subst (λ (v : RootPair). v .low < v .high → ⊥) ew n)
+
+-- ---- what the code makes of a set and the flag `settled`
+pub not-yet : (t : ConstraintSet) → SettledIf (joining t false)
+not-yet t e = absurd (subst T (sym e) tt)
+
+module _ (s : ConstraintSet) (l r : ℕ) (u : United) (eu : u ≡ unionOf (s .«equivalence_classes») l r) where
+  pub fully-joined : (t : ConstraintSet) (ok : Bool) → length (u .classes .parents) ≡ 128 → u .joined ≡ true → ok ≡ parentsOk (u .classes .parents) → t ≡ normalized (withClasses s (u .classes))
+      → JoinedTo (joining t ok) (unionValues s l r)
+  unfolding unionValues
+  fully-joined t ok long ej eo et = record {
+    whole = et ∙ sym (ap (λ (b : Bool). cond b (normalized (withClasses s (u .classes))) s) ej) ∙ ap (unionBy s) eu;
+    good = λ q. subst Settled (sym et) (normalized-settled (withClasses s (u .classes)) long (sym eo ∙ q));
+  }
+
+  pub not-joined : u .joined ≡ false → JoinedTo (joining s false) (unionValues s l r)
+  unfolding unionValues
+  not-joined ej = record {
+    whole = sym (ap (λ (b : Bool). cond b (normalized (withClasses s (u .classes))) s) ej) ∙ ap (unionBy s) eu;
+    good = not-yet s;
+  }
+
+-- ---- the parts that the code makes
+module _ (c : ValueEquivalenceClasses) (l r x y : ℕ) (ex : x ≡ canonicalOf c l) (ey : y ≡ canonicalOf c r) where
+  abbrev rootsBy : ℕ → ℕ → RootPair
+  rootsBy a b = record { classes = record { parents = set (c .parents) b a }; low = a; high = b }
+
+  pub left-lower : x < y → rootsBy x y ≡ rootPair c l r
+  unfolding rootPair joined
+  left-lower h =
+      let m : max x y ≡ y = omega arith in
+      let n : min x y ≡ x = omega arith in
+      rw (← ex, ← ey, m, n)
+
+  pub right-lower : y ≤ x → rootsBy y x ≡ rootPair c l r
+  unfolding rootPair joined
+  right-lower h =
+      let m : max x y ≡ x = omega arith in
+      let n : min x y ≡ y = omega arith in
+      rw (← ex, ← ey, m, n)
+
+-- ---- the loops over the members of a class
+abbrev pub more : ℕ → ℕ → Bool
+more n m = ltb 0 n && ltb m 128
+
+pub goes-on : (n m : ℕ) → more n m ≡ true → (0 < n) × (m < 128)
+goes-on n m e = (ltb-true _ _ (and-left (ltb 0 n) (ltb m 128) e), ltb-true _ _ (and-right (ltb 0 n) (ltb m 128) e))
+
+pub goes-on-unsettled : (n m : ℕ) (b : Bool) → (more n m && not b) ≡ true → (0 < n) × (m < 128)
+goes-on-unsettled n m b e = goes-on n m (and-left (more n m) (not b) e)
+
+pub unsettled-ended : (n m : ℕ) (b : Bool) → (more n m && not b) ≡ false → b ≡ false → more n m ≡ false
+unsettled-ended n m b e d = sym (and-true (more n m)) ∙ ap (λ (x : Bool). more n m && not x) (sym d) ∙ e
+
+module _ (ms : Members) (r n m : ℕ) where
+  pub chain-ended : (t : ConstraintSet) → more n m ≡ false → t ≡ chained ms r n m t
+  chain-ended t e = elim (decLt m 128) [
+    | yes h ↦ chained-none ms r n m t (none-left n (sym (and-true (ltb 0 n)) ∙ ap (λ (b : Bool). ltb 0 n && b) (sym (lt-ltb m 128 h)) ∙ e))
+    | no h ↦ chained-past ms r n m t (omega arith)
+  ]
+    where
+      none-left : (n : ℕ) → ltb 0 n ≡ false → n ≡ 0
+      none-left zero e = refl
+      none-left (suc n) e = absurd (subst T (sym (lt-ltb 0 (suc n) (omega arith)) ∙ e) tt)
+
+  -- a member united in a settled set
+  pub settled-on : (t u v : ConstraintSet) → Settled t → r < 128 → (0 < n) × (m < 128) → u ≡ unionValues t r m → chained ms r n m t ≡ v
+      → (chained ms r (n - 1) (getD (ms .next) m 0) u ≡ v) × Settled u
+  settled-on t u v g hr h e ev = (chained-step ms r n m t u (h .0) (h .1) e ∙ ev, subst Settled (sym e) (union-settled t g r m hr (h .1)))

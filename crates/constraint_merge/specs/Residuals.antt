@@ -1,0 +1,11 @@
+-- The residual handles of one set pushed to those of another. Assumes nothing.
+use Prim.Native.Nat.{ℕ, min}
+use mathlib.Core.Bool.{not}
+use mathlib.Core.List.{List}
+use Rattle.constraints.specs.Sets.{mergeResiduals, roomTo}
+use Rattle.constraints.specs.declared.ConstraintSet.{ConstraintSet}
+use Rattle.constraints.specs.declared.Applied.{Applied}
+
+-- the first handles of a list after those of t, and whether one did not find room
+unfoldable pub residualsKept : ConstraintSet → List ℕ → ℕ → Applied
+residualsKept t l n = record { constraints = mergeResiduals t l n; refused = not (roomTo t l (min n 64)) }
