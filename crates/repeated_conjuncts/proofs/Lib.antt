@@ -1,0 +1,14 @@
+pub mod Tightening
+pub mod Growing
+pub mod CellTwice
+pub mod Keeping
+pub mod Recording
+pub mod HandleKept
+pub mod ClassJoins
+pub mod ActedTwice
+pub mod Numbers
+pub mod SameLiterals
+pub mod LaidSets
+pub mod LaidJoins
+pub mod LiteralAgain
+pub mod EndsEnough
