@@ -1,21 +1,22 @@
 -- The public entries, one law for each way out: a test that fails, and the answer where all pass. Assumes nothing.
-use Prim.Native.Nat.{ℕ, _<_, _≤_}
+use Prim.Native.Nat.{_<_, _≤_}
 use mathlib.Core.Path.{_≡_, refl, sym, ap, _∙_}
-use mathlib.Core.Bool.{Bool, true, false, cond, _&&_}
+use mathlib.Core.Bool.{Bool, true, false, cond}
 use lib.Dec.{ltb}
 use borrow.Author.Tests.{lt-ltb, le-ltb}
 use Rattle.lists.specs.Ranges.{allFrom}
-use Rattle.constraints.specs.Sets.{setOk, mergeFrom, done}
+use Rattle.constraints.specs.Sets.{setOk, mergeFrom, done, refusedWith}
 use Rattle.constraints.specs.declared.ConstraintSet.{ConstraintSet}
 use Rattle.constraints.specs.declared.Applied.{Applied}
 use Rattle.plan.specs.declared.Plan.{Plan}
 use Rattle.plan.specs.declared.Expr.{Expr}
 use Rattle.plan_rules.specs.Rules.{planOk}
 use Rattle.predicates.specs.Facts.{lineageOk, definitionOk, residualOk, factsOk, withConstraints}
-use Rattle.predicates.specs.Entries.{refused, answered, overridden, inputsMerged, predicateApplied, applyPredicate, mergeInputs}
+use Rattle.predicates.specs.Entries.{accepted, refused, answered, inputsMerged, predicateApplied, applyPredicate, mergeInputs}
 use Rattle.predicates.specs.declared.LogicalFacts.{LogicalFacts}
 use Rattle.predicates.specs.declared.FactsAnswer.{FactsAnswer}
-use Rattle.predicates.specs.declared.Outcome.the-variants.{NoSuch}
+use Rattle.predicates.specs.declared.Outcome.the-variants.{Residuals, NoSuch}
+use Rattle.repeated_conjuncts.specs.Given.{orGiven}
 use Rattle.logical_facts.specs.Columns.{columnsOver}
 use Rattle.logical_facts.specs.declared.ByColumn.{ByColumn}
 
@@ -62,6 +63,16 @@ module _ (p : Plan) (f : LogicalFacts) (e : Expr) where
       → answered f f (predicateApplied p (f .lineage) (f .constraints) (e .0)) ≡ applyPredicate p f e
   unfolding applyPredicate
   apply-pass a b c = rw (a, lt-ltb (e .0) (p .expressions .count) b, c)
+
+-- the answer has no set after a refusal, so it does not matter which is handed back
+pub answered-given : (old f : LogicalFacts) (s : ConstraintSet) (a : Applied) → answered old f (orGiven s a) ≡ answered old f a
+answered-given old f s a = go (a .refused) refl
+  where
+    go : (b : Bool) → a .refused ≡ b → answered old f (orGiven s a) ≡ answered old f a
+    go true e =
+        ap (λ (b : Bool). answered old f (cond b (refusedWith s) a)) e
+        ∙ sym (ap (λ (b : Bool). cond b (refused old Residuals) (accepted (withConstraints f (a .constraints)))) e)
+    go false e = ap (λ (b : Bool). answered old f (cond b (refusedWith s) a)) e
 
 -- ---- `merge_inputs`
 module _ (p : Plan) (f g : LogicalFacts) (merge : Bool) where

@@ -1,6 +1,3 @@
 pub mod Collecting
-pub mod Wides
-pub mod Owned
-pub mod Joins
-pub mod Applying
 pub mod Walking
+pub mod Handing

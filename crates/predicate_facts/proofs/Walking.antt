@@ -2,10 +2,10 @@
 use Prim.Native.Nat.{ℕ, suc, _<_}
 use mathlib.Core.Path.{_≡_, refl, sym, ap, subst, _∙_}
 use mathlib.Core.Bool.{Bool, true, false, not, _&&_}
-use mathlib.Core.List.{List, [], _∷_, _++_}
+use mathlib.Core.List.{List, [], _++_}
 use native.Mathlib.Omega.{arith}
 use lib.Dec.{ltb}
-use lib.ListN.{length, take, replicate}
+use lib.ListN.{length}
 use borrow.Author.Tests.{ltb-true, ltb-false, not-true}
 use Rattle.lists.proofs.RangeLaws.{and-left, and-right}
 use Rattle.constraints.specs.Sets.{done}
@@ -20,7 +20,7 @@ use Rattle.conjuncts.specs.declared.Walk.{Walk}
 use Rattle.conjuncts.proofs.Entries.{entry-at, other-entry}
 use Rattle.conjuncts.proofs.Rests.{restOf, Good}
 use Rattle.conjuncts.proofs.Stepping.{nothing-left, and-within, start-good, start-rest}
-use Rattle.predicate_facts.proofs.Applying.{refused-stays, applied-append}
+use Rattle.applied_conjuncts.proofs.Applying.{refused-stays, applied-append}
 
 module _ (apply : ConstraintSet → ℕ → Applied) where
   accepted : (a : Applied) → a .refused ≡ false → a ≡ done (a .constraints)
@@ -71,17 +71,17 @@ module _ (kind code a b bits start items lineage : List ℕ) (long : length item
     pub start-ready : Good w
     start-ready = subst Good (sym same-start) (start-good kind code a b bits start items long e (and-within kind code a b bits start items long short e y))
 
-    pub start-applied : (x : Applied) → allApplied conjunct (restOf node items w) x ≡ allApplied conjunct (conjunctsOf node items e) x
-    start-applied x =
-        ap (λ (u : Walk). allApplied conjunct (restOf node items u) x) same-start
-        ∙ sym (ap (λ (l : List ℕ). allApplied conjunct l x) (start-rest kind code a b bits start items long e (and-within kind code a b bits start items long short e y) y))
+    pub start-whole : restOf node items w ≡ conjunctsOf node items e
+    start-whole =
+        ap (restOf node items) same-start ∙ sym (start-rest kind code a b bits start items long e (and-within kind code a b bits start items long short e y) y)
 
 -- an expression that is no And is its own conjunct
-pub alone-applied : (kind code a b bits start items lineage : List ℕ) (e : ℕ) → isAnd kind code e ≡ false → (x : Applied)
-    → allApplied (conjunctApplied lineage (nodeOf kind code a b bits start)) (take 1 (replicate 64 e)) x
-    ≡ allApplied (conjunctApplied lineage (nodeOf kind code a b bits start)) (conjunctsOf (nodeOf kind code a b bits start) items e) x
-alone-applied kind code a b bits start items lineage e f x =
+pub alone-applied : (kind code a b bits start items lineage : List ℕ) (e : ℕ) → isAnd kind code e ≡ false → (s : ConstraintSet)
+    → conjunctApplied lineage (nodeOf kind code a b bits start) s e
+    ≡ allApplied (conjunctApplied lineage (nodeOf kind code a b bits start)) (conjunctsOf (nodeOf kind code a b bits start) items e) (done s)
+unfolding allApplied
+alone-applied kind code a b bits start items lineage e f s =
     sym
-    (ap (λ (l : List ℕ). allApplied (conjunctApplied lineage (nodeOf kind code a b bits start)) l x)
+    (ap (λ (l : List ℕ). allApplied (conjunctApplied lineage (nodeOf kind code a b bits start)) l (done s))
     (entry-at (nodeOf kind code a b bits start) items (suc e) e (omega arith)
     ∙ other-entry (conjunctsTo (nodeOf kind code a b bits start) items e) items e kind code a b bits start f))

@@ -1,33 +1,31 @@
-// Applying a predicate to a set: its conjuncts are collected some at a time, and each is applied to the set where it lies. A set is 9 KB and a
-// walk 6 KB, so neither is handed on for a single conjunct.
-use conjunct_facts::Cell;
+// Applying a predicate to a set: its conjuncts are collected some at a time, or all of them without those that repeat, and then applied to the set.
+// A walk is 6 KB, so it is not handed on for a single conjunct.
 use conjuncts::Move;
 use conjuncts::Walk;
 use constraints::Applied;
 use constraints::ConstraintSet;
-use constraints::Entry;
-use constraints::Holder;
-use value_classes::Roots;
 ghost use mathlib.Core.Path.{_≡_};
 ghost use mathlib.Core.Bool.{true};
 ghost use mathlib.Core.List.{List, _++_};
 ghost use Prim.Native.Nat.{ℕ, _<_, _≤_};
 ghost use lib.ListN.{length, take};
-ghost use Rattle.constraints.specs.Sets.{done, unionValues};
-ghost use Rattle.constraint_set.specs.Settled.{Settled, unitedRoots};
+ghost use Rattle.constraints.specs.Sets.{done};
 ghost use Rattle.plan_data.specs.Nodes.{nodeOf};
 ghost use Rattle.predicates.specs.Conjuncts.{conjunctsOf};
 ghost use Rattle.predicates.specs.Apply.{conjunctApplied, allApplied};
+ghost use Rattle.conjuncts.specs.Walks.{isAnd};
 ghost use Rattle.conjuncts.proofs.Rests.{Good, restOf, stepsLeft};
+ghost use Rattle.repeated_conjuncts.specs.Given.{orGiven};
 
-// Conjuncts that a walk found, at most 64, and what is left of it.
+// Conjuncts that a walk found in at most 1,024 turns, and what is left of it.
 struct Found {
     walk: Walk,
-    handles: [u16; 64],
+    handles: [u16; 2048],
     count: usize,
 }
 
-// The walk goes on in its place until 64 conjuncts are found or none is left: a walk is too big to be handed on for each.
+// The walk goes on in its place until it ends or 1,024 turns are done: a walk is too big to be handed on for each conjunct, and Ands that hold nothing,
+// shared, could take any number of turns.
 fn next_conjuncts<'a>(
     kind: &'a [u8],
     code: &'a [u8],
@@ -39,14 +37,16 @@ fn next_conjuncts<'a>(
     requires { ⌜ length (now items) ≡ 2048 ⌝ }
     requires { ⌜ Good w ⌝ }
     ensures { λ r. ⌜ Good (r .walk) ⌝ }
-    ensures { λ r. ⌜ r .count ≤ 64 ⌝ }
+    ensures { λ r. ⌜ r .count ≤ 1024 ⌝ }
     ensures { λ r. ⌜ ((b bits : List ℕ) → restOf (nodeOf (now (kind .entry)) (now (code .entry)) (now (a .entry)) b bits (now (start .entry))) (now (items .entry)) w ≡ take (r .count) (r .handles) ++ restOf (nodeOf (now (kind .entry)) (now (code .entry)) (now (a .entry)) b bits (now (start .entry))) (now (items .entry)) (r .walk)) ⌝ }
     ensures { λ r. ⌜ (0 < w .depth → stepsLeft (now (kind .entry)) (now (code .entry)) (now (a .entry)) (now (start .entry)) (now (items .entry)) (r .walk) < stepsLeft (now (kind .entry)) (now (code .entry)) (now (a .entry)) (now (start .entry)) (now (items .entry)) w) ⌝ }
 {
     let mut walk = w;
-    let mut handles = [0u16; 64];
+    let mut handles = [0u16; 2048];
     let mut count: usize = 0;
-    while (0 < walk.depth) & (count < 64) {
+    let mut turns: usize = 0;
+    while (0 < walk.depth) & (turns < 1024) {
+        turns += 1;
         let depth = walk.depth;
         let k = depth - 1;
         let owner = walk.owner[k];
@@ -84,136 +84,6 @@ fn next_conjuncts<'a>(
     }
 }
 
-// What stands at the representative b comes to a, the lower one: in a settled set that joins their classes.
-fn join_roots(s: ConstraintSet, a: usize, b: usize) -> ConstraintSet
-    requires { ⌜ a < b ⌝ }
-    requires { ⌜ b < 128 ⌝ }
-    ensures { λ r. ⌜ r ≡ unitedRoots s a b ⌝ }
-{
-    let n1 = s.non_null_values[a];
-    let n2 = s.non_null_values[b];
-    let h1 = s.literal_equalities[a];
-    let h2 = s.literal_equalities[b];
-    let e1 = s.ranges[a];
-    let e2 = s.ranges[b];
-    let p = constraint_set::place_of(h1, h2, e1, e2);
-    let h = p.literal;
-    let e = p.entry;
-    let no_literal = Holder::empty();
-    let no_entry = Entry::empty();
-    let mut q = s;
-    let mut classes = q.equivalence_classes;
-    classes.parents[b] = a as u8;
-    let was = q.contradictory;
-    q.equivalence_classes = classes;
-    q.non_null_values[a] = n1 | n2;
-    q.non_null_values[b] = false;
-    q.literal_equalities[a] = h;
-    q.literal_equalities[b] = no_literal;
-    q.ranges[a] = e;
-    q.ranges[b] = no_entry;
-    q.contradictory = was | p.bad;
-    q
-}
-
-// Two classes joined. Where everything is known to stand at the representatives, only one place changes.
-fn join(s: ConstraintSet, left: usize, right: usize, settled: bool) -> ConstraintSet
-    requires { ⌜ left < 128 ⌝ }
-    requires { ⌜ right < 128 ⌝ }
-    requires { ⌜ (settled ≡ true → Settled s) ⌝ }
-    ensures { λ r. ⌜ r ≡ unionValues s left right ⌝ }
-{
-    if !settled {
-        return constraint_set::union_values(s, left, right);
-    }
-    let classes = s.equivalence_classes;
-    let l = classes.canonical(left);
-    let r = classes.canonical(right);
-    if l < r {
-        return join_roots(s, l, r);
-    }
-    if r < l {
-        return join_roots(s, r, l);
-    }
-    s
-}
-
-// The first `count` handles, one after the other. It goes on after the flag is set, and ends where a 65th residual is wanted. Representatives are
-// looked up in a table, and where the set was checked once, a change asks for a check of its own place only. A join leaves everything at the
-// representatives, if no parent is above its child, and what conjuncts record is put there: so the next join changes one place only.
-fn apply_found<'a>(
-    kind: &'a [u8],
-    code: &'a [u8],
-    a: &'a [u16],
-    b: &'a [u16],
-    bits: &'a [u64],
-    start: &'a [u16],
-    lineage: &'a [u8],
-    s: ConstraintSet,
-    handles: [u16; 64],
-    count: usize,
-) -> Applied
-    requires { ⌜ count ≤ 64 ⌝ }
-    ensures { λ r. ⌜ r ≡ allApplied (conjunctApplied (now (lineage .entry)) (nodeOf (now (kind .entry)) (now (code .entry)) (now (a .entry)) (now (b .entry)) (now (bits .entry)) (now (start .entry)))) (take count handles) (done s) ⌝ }
-{
-    let mut q = s;
-    let classes = s.equivalence_classes;
-    let mut roots = classes.roots();
-    let mut settled = false;
-    let mut checked = false;
-    let mut refused = false;
-    let mut k: usize = 0;
-    while (k < count) & !refused {
-        let h = handles[k];
-        let action = conjunct_facts::action_of(kind, code, a, b, bits, start, lineage, h);
-        let i = conjunct_facts::first_of(action);
-        let j = conjunct_facts::second_of(action);
-        if roots.of[i] != roots.of[j] {
-            q = join(q, i, j, settled);
-            let joined = q.equivalence_classes;
-            roots = joined.roots();
-            settled = joined.parents_ok();
-            checked = true;
-        }
-        let r = roots.of[i] as usize;
-        let literal = q.literal_equalities[r];
-        let entry = q.ranges[r];
-        let old = Cell {
-            non_null: q.non_null_values[r],
-            literal,
-            entry,
-            contradictory: q.contradictory,
-        };
-        let new = conjunct_facts::cell_after(old, action);
-        let kept_literal = new.literal;
-        let kept_entry = new.entry;
-        q.non_null_values[r] = new.non_null;
-        q.literal_equalities[r] = kept_literal;
-        q.ranges[r] = kept_entry;
-        q.contradictory = new.contradictory;
-        if !checked & conjunct_facts::is_checking(action) {
-            q = constraint_set::cross_check_literals_and_ranges(q);
-            checked = true;
-        }
-        let list = q.residual_predicates;
-        let kept = conjunct_facts::residuals_after(
-            list,
-            q.residuals,
-            h,
-            conjunct_facts::is_residual(action),
-        );
-        let longer = kept.list;
-        q.residual_predicates = longer;
-        q.residuals = kept.count;
-        refused = kept.refused;
-        k += 1;
-    }
-    Applied {
-        constraints: q,
-        refused,
-    }
-}
-
 // What is to come in a walk.
 fn apply_walk<'a>(
     kind: &'a [u8],
@@ -242,7 +112,7 @@ fn apply_walk<'a>(
         let handles = found.handles;
         let t = applied.constraints;
         walk = next;
-        applied = apply_found(
+        applied = applied_conjuncts::apply_handles(
             kind,
             code,
             a,
@@ -258,6 +128,99 @@ fn apply_walk<'a>(
     applied
 }
 
+// A refusal hands back the set that was given.
+fn given_back(s: ConstraintSet, a: Applied) -> Applied
+    ensures { λ r. ⌜ r ≡ orGiven s a ⌝ }
+{
+    let refused = a.refused;
+    if refused {
+        return Applied {
+            constraints: s,
+            refused: true,
+        };
+    }
+    a
+}
+
+// An And whose walk takes more than 1,024 turns, all of them to come in w. Of 1,024 conjuncts or more some repeat, as no other than 1,023 expressions can be
+// among them; it may also be an And of few conjuncts, or none, that lie deep or are reached by many paths. In a ready set those between two of the same are
+// left out. A refusal may then leave another set, so the answer is only told up to what `given_back` hands on.
+fn apply_many<'a>(
+    kind: &'a [u8; 1024],
+    code: &'a [u8; 1024],
+    a: &'a [u16; 1024],
+    b: &'a [u16; 1024],
+    bits: &'a [u64; 1024],
+    start: &'a [u16; 1024],
+    items: &'a [u16; 2048],
+    lineage: &'a [u8; 64],
+    w: Walk,
+    s: ConstraintSet,
+    e: u16,
+) -> Applied
+    requires { ⌜ Good w ⌝ }
+    requires { ⌜ restOf (nodeOf (now kind) (now code) (now a) (now b) (now bits) (now start)) (now items) w ≡ conjunctsOf (nodeOf (now kind) (now code) (now a) (now b) (now bits) (now start)) (now items) e ⌝ }
+    ensures { λ r. ⌜ orGiven s r ≡ orGiven s (allApplied (conjunctApplied (now (lineage .entry)) (nodeOf (now (kind .entry)) (now (code .entry)) (now (a .entry)) (now (b .entry)) (now (bits .entry)) (now (start .entry)))) (conjunctsOf (nodeOf (now (kind .entry)) (now (code .entry)) (now (a .entry)) (now (b .entry)) (now (bits .entry)) (now (start .entry))) (now (items .entry)) e) (done s)) ⌝ }
+{
+    if ready_sets::is_ready(s) {
+        let t = thinned_conjuncts::thinned_conjuncts(kind, code, a, start, items, e);
+        if t.whole {
+            let handles = t.handles;
+            return applied_conjuncts::apply_handles(
+                kind,
+                code,
+                a,
+                b,
+                bits,
+                start,
+                lineage,
+                s,
+                handles,
+                t.count,
+            );
+        }
+    }
+    apply_walk(kind, code, a, b, bits, start, items, lineage, w, s)
+}
+
+// An And's conjuncts. Where the walk is short, nothing else is looked at.
+fn apply_and<'a>(
+    kind: &'a [u8; 1024],
+    code: &'a [u8; 1024],
+    a: &'a [u16; 1024],
+    b: &'a [u16; 1024],
+    bits: &'a [u64; 1024],
+    start: &'a [u16; 1024],
+    items: &'a [u16; 2048],
+    lineage: &'a [u8; 64],
+    s: ConstraintSet,
+    e: u16,
+) -> Applied
+    requires { ⌜ isAnd (now kind) (now code) e ≡ true ⌝ }
+    ensures { λ r. ⌜ orGiven s r ≡ orGiven s (allApplied (conjunctApplied (now (lineage .entry)) (nodeOf (now (kind .entry)) (now (code .entry)) (now (a .entry)) (now (b .entry)) (now (bits .entry)) (now (start .entry)))) (conjunctsOf (nodeOf (now (kind .entry)) (now (code .entry)) (now (a .entry)) (now (b .entry)) (now (bits .entry)) (now (start .entry))) (now (items .entry)) e) (done s)) ⌝ }
+{
+    let w = conjuncts::enter(a, start, Walk::empty(), e);
+    let found = next_conjuncts(kind, code, a, start, items, w);
+    let left = found.walk.depth;
+    if left == 0 {
+        let handles = found.handles;
+        let count = found.count;
+        return applied_conjuncts::apply_handles(
+            kind,
+            code,
+            a,
+            b,
+            bits,
+            start,
+            lineage,
+            s,
+            handles,
+            count,
+        );
+    }
+    apply_many(kind, code, a, b, bits, start, items, lineage, w, s, e)
+}
+
 // All conjuncts of the expression e.
 pub fn apply_to<'a>(
     kind: &'a [u8; 1024],
@@ -271,12 +234,12 @@ pub fn apply_to<'a>(
     s: ConstraintSet,
     e: u16,
 ) -> Applied
-    ensures { λ r. ⌜ r ≡ allApplied (conjunctApplied (now (lineage .entry)) (nodeOf (now (kind .entry)) (now (code .entry)) (now (a .entry)) (now (b .entry)) (now (bits .entry)) (now (start .entry)))) (conjunctsOf (nodeOf (now (kind .entry)) (now (code .entry)) (now (a .entry)) (now (b .entry)) (now (bits .entry)) (now (start .entry))) (now (items .entry)) e) (done s) ⌝ }
+    ensures { λ r. ⌜ r ≡ orGiven s (allApplied (conjunctApplied (now (lineage .entry)) (nodeOf (now (kind .entry)) (now (code .entry)) (now (a .entry)) (now (b .entry)) (now (bits .entry)) (now (start .entry)))) (conjunctsOf (nodeOf (now (kind .entry)) (now (code .entry)) (now (a .entry)) (now (b .entry)) (now (bits .entry)) (now (start .entry))) (now (items .entry)) e) (done s)) ⌝ }
 {
     if conjuncts::is_and(kind, code, e) {
-        let w = conjuncts::enter(a, start, Walk::empty(), e);
-        return apply_walk(kind, code, a, b, bits, start, items, lineage, w, s);
+        let all = apply_and(kind, code, a, b, bits, start, items, lineage, s, e);
+        return given_back(s, all);
     }
-    let handles = [e; 64];
-    apply_found(kind, code, a, b, bits, start, lineage, s, handles, 1)
+    let one = applied_conjuncts::apply_one(kind, code, a, b, bits, start, lineage, s, e);
+    given_back(s, one)
 }

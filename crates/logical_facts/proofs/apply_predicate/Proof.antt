@@ -1,17 +1,10 @@
 use mathlib.Core.Path.{sym, ap, _∙_}
 use borrow.Author.Tests.{not-true, not-false}
 use Rattle.predicates.specs.Entries.{answered, predicateApplied}
-use Rattle.logical_facts.proofs.WaysOut.{apply-fail-1, apply-fail-2, apply-fail-3, apply-pass}
+use Rattle.logical_facts.proofs.WaysOut.{answered-given, apply-fail-1, apply-fail-2, apply-fail-3, apply-pass}
 use borrow.Author.Needs.{needs}
 use Rattle.logical_facts.proofs.apply_predicate.Statement.{statement}
 use Rattle.logical_facts.proofs.apply_predicate.Tie as tie
-use Rattle.logical_facts.proofs.apply_predicate.Reads as reads
-use Rattle.logical_facts.proofs.apply_predicate.Lts as lts
-use Rattle.logical_facts.proofs.answer.Reads as answer-reads
-use Rattle.predicate_facts.proofs.apply_to.Reads as apply-to-reads
-use Rattle.logical_facts.proofs.facts_ok.Reads as facts-ok-reads
-use Rattle.logical_facts.proofs.no_such.Reads as no-such-reads
-use Rattle.plan_rules.proofs.plan_ok.Reads as plan-ok-reads
 
 -- src/lib.rt:456:9
 plan-ok-requires : tie.Need-plan-ok-requires
@@ -56,7 +49,7 @@ answer-requires c κs = search needs
 -- src/lib.rt:449:1
 returns-4 : tie.Need-returns-4
 unfolding predicateApplied
-returns-4 c = c .answer .ensures ∙ ap (answered (c .before .before .before .before .before .before .before .before .before .before .before .before .before .before .before .before .before .before .before .before .before .args .t2) (c .before .before .before .before .before .before .before .before .before .before .before .before .before .before .before .before .before .before .before .before .before .args .t2)) (c .before .apply-to .ensures) ∙ apply-pass (c .before .before .before .before .before .before .before .before .before .before .before .before .before .before .before .before .before .before .before .before .before .args .p) (c .before .before .before .before .before .before .before .before .before .before .before .before .before .before .before .before .before .before .before .before .before .args .t2) (c .before .before .before .before .before .before .before .before .before .before .before .before .before .before .before .before .before .before .before .before .before .args .e) (sym (c .before .before .before .before .before .before .before .before .before .before .before .before .before .before .before .before .before .plan-ok .ensures) ∙ not-false _ (c .before .before .before .before .before .before .before .before .before .before .before .before .before .before .before .before .if1 .left)) (c .before .before .before .before .before .before .before .before .before .before .before .before .before .before .before .if2 .left) (sym (c .before .before .before .before .before .before .before .before .before .before .before .before .before .before .facts-ok .ensures) ∙ not-false _ (c .before .before .before .before .before .before .before .before .before .before .before .before .before .if3 .left))
+returns-4 c = c .answer .ensures ∙ ap (answered (c .before .before .before .before .before .before .before .before .before .before .before .before .before .before .before .before .before .before .before .before .before .args .t2) (c .before .before .before .before .before .before .before .before .before .before .before .before .before .before .before .before .before .before .before .before .before .args .t2)) (c .before .apply-to .ensures) ∙ answered-given (c .before .before .before .before .before .before .before .before .before .before .before .before .before .before .before .before .before .before .before .before .before .args .t2) (c .before .before .before .before .before .before .before .before .before .before .before .before .before .before .before .before .before .before .before .before .before .args .t2) (c .before .before .before .before .before .before .before .before .before .before .before .before .before .before .before .before .before .before .before .before .before .args .t2 .constraints) (predicateApplied (c .before .before .before .before .before .before .before .before .before .before .before .before .before .before .before .before .before .before .before .before .before .args .p) (c .before .before .before .before .before .before .before .before .before .before .before .before .before .before .before .before .before .before .before .before .before .args .t2 .lineage) (c .before .before .before .before .before .before .before .before .before .before .before .before .before .before .before .before .before .before .before .before .before .args .t2 .constraints) (c .before .before .before .before .before .before .before .before .before .before .before .before .before .before .before .before .before .before .before .before .before .args .e .0)) ∙ apply-pass (c .before .before .before .before .before .before .before .before .before .before .before .before .before .before .before .before .before .before .before .before .before .args .p) (c .before .before .before .before .before .before .before .before .before .before .before .before .before .before .before .before .before .before .before .before .before .args .t2) (c .before .before .before .before .before .before .before .before .before .before .before .before .before .before .before .before .before .before .before .before .before .args .e) (sym (c .before .before .before .before .before .before .before .before .before .before .before .before .before .before .before .before .before .plan-ok .ensures) ∙ not-false _ (c .before .before .before .before .before .before .before .before .before .before .before .before .before .before .before .before .if1 .left)) (c .before .before .before .before .before .before .before .before .before .before .before .before .before .before .before .if2 .left) (sym (c .before .before .before .before .before .before .before .before .before .before .before .before .before .before .facts-ok .ensures) ∙ not-false _ (c .before .before .before .before .before .before .before .before .before .before .before .before .before .if3 .left))
 
 pub apply-predicate-spec : {M : Type 1} → statement M
 apply-predicate-spec =

@@ -1,7 +1,8 @@
-use mathlib.Core.Path.{_≡_, refl, sym, ap, _∙_}
+use mathlib.Core.Path.{ap, _∙_}
 use Rattle.deriving.specs.Operators.{fitted, filtered}
 use Rattle.predicates.specs.Entries.{answered, predicateApplied}
 use Rattle.constraints.specs.declared.Applied.{Applied}
+use Rattle.logical_facts.proofs.WaysOut.{answered-given}
 use borrow.Author.Needs.{needs}
 use Rattle.operator_facts.proofs.filter.Statement.{statement}
 use Rattle.operator_facts.proofs.filter.Tie as tie
@@ -14,7 +15,7 @@ fit-applied-requires c κs = search needs
 
 returns : tie.Need-returns
 unfolding filtered predicateApplied
-returns c = c .fit-applied .ensures ∙ ap (λ (a : Applied). fitted (c .before .before .before .before .before .before .before .before .before .before .before .before .before .before .before .before .args .h) (answered (c .before .before .before .before .before .before .before .before .before .before .before .before .before .before .before .before .args .t4) (c .before .before .before .before .before .before .before .before .before .before .before .before .before .before .before .before .args .t4) a)) (c .before .apply-to .ensures)
+returns c = c .fit-applied .ensures ∙ ap (λ (a : Applied). fitted (c .before .before .before .before .before .before .before .before .before .before .before .before .before .before .before .before .args .h) (answered (c .before .before .before .before .before .before .before .before .before .before .before .before .before .before .before .before .args .t4) (c .before .before .before .before .before .before .before .before .before .before .before .before .before .before .before .before .args .t4) a)) (c .before .apply-to .ensures) ∙ ap (fitted (c .before .before .before .before .before .before .before .before .before .before .before .before .before .before .before .before .args .h)) (answered-given (c .before .before .before .before .before .before .before .before .before .before .before .before .before .before .before .before .args .t4) (c .before .before .before .before .before .before .before .before .before .before .before .before .before .before .before .before .args .t4) (c .before .before .before .before .before .before .before .before .before .before .before .before .before .before .before .before .args .t4 .constraints) (predicateApplied (c .before .before .before .before .before .before .before .before .before .before .before .before .before .before .before .before .args .p) (c .before .before .before .before .before .before .before .before .before .before .before .before .before .before .before .before .args .t4 .lineage) (c .before .before .before .before .before .before .before .before .before .before .before .before .before .before .before .before .args .t4 .constraints) (c .before .before .before .before .before .before .before .before .before .before .before .before .before .before .before .before .args .e .0)))
 
 pub filter-spec : {M : Type 1} → statement M
 filter-spec = tie.close (tie.spec apply-to-requires fit-applied-requires returns)

@@ -1,15 +1,11 @@
-use borrow.Author.Needs.{needs}
 use mathlib.Core.Path.{_≡_, refl, _∙_}
+use borrow.Author.Needs.{needs}
 use Rattle.plan_data.specs.Nodes.{nodeOf}
 use Rattle.predicates.specs.Apply.{conjunctApplied, allApplied}
 use Rattle.conjuncts.proofs.Rests.{Good, restOf, stepsLeft}
 use Rattle.predicate_facts.proofs.Walking.{some-more, walk-some, walk-accepted, walk-done}
 use Rattle.predicate_facts.proofs.apply_walk.Statement.{statement}
 use Rattle.predicate_facts.proofs.apply_walk.Tie as tie
-use Rattle.predicate_facts.proofs.apply_walk.Reads as reads
-use Rattle.predicate_facts.proofs.apply_walk.Lts as lts
-use Rattle.predicate_facts.proofs.apply_found.Reads as apply-found-reads
-use Rattle.predicate_facts.proofs.next_conjuncts.Reads as next-conjuncts-reads
 
 abbrev Inv-loop : tie.InvT-loop
 Inv-loop kind code a b bits start items lineage walk₀ applied₀ walk applied =
@@ -18,27 +14,21 @@ Inv-loop kind code a b bits start items lineage walk₀ applied₀ walk applied 
 abbrev μ-loop : tie.MeasureT-loop
 μ-loop kind code a b bits start items lineage walk₀ applied₀ walk applied = stepsLeft kind code a start items walk
 
--- src/lib.rt:239:5
 loop-holds : tie.Need-loop-holds Inv-loop μ-loop
 loop-holds c = (c .before .before .before .before .before .before .before .before .pre .1, refl)
 
--- src/lib.rt:240:13
 next-conjuncts-requires : tie.Need-next-conjuncts-requires Inv-loop μ-loop
 next-conjuncts-requires c κs = (c .before .before .before .before .before .before .before .before .before .before .before .before .pre .0, c .before .before .before .loop .inv .0)
 
--- src/lib.rt:245:9
-apply-found-requires : tie.Need-apply-found-requires Inv-loop μ-loop
-apply-found-requires c κs = c .before .before .before .next-conjuncts .ensures .1 .0
+apply-handles-requires : tie.Need-apply-handles-requires Inv-loop μ-loop
+apply-handles-requires c κs = search needs
 
--- src/lib.rt:239:5
 loop-less : tie.Need-loop-less Inv-loop μ-loop
 loop-less c = c .before .before .before .before .next-conjuncts .ensures .1 .1 .1 (walk-some (c .before .before .before .before .before .before .before .before .loop .walk .depth) (c .before .before .before .before .before .before .before .before .loop .applied .refused) (c .before .before .before .before .before .if1 .taken))
 
--- src/lib.rt:239:5
 loop-again : tie.Need-loop-again Inv-loop μ-loop
-loop-again c = (c .before .before .before .before .next-conjuncts .ensures .0, c .before .before .before .before .before .before .before .before .loop .inv .1 ∙ some-more (conjunctApplied (c .before .before .before .before .before .before .before .before .before .before .before .before .before .before .before .before .before .args .lineage .now) (nodeOf (c .before .before .before .before .before .before .before .before .before .before .before .before .before .before .before .before .before .args .kind .now) (c .before .before .before .before .before .before .before .before .before .before .before .before .before .before .before .before .before .args .code .now) (c .before .before .before .before .before .before .before .before .before .before .before .before .before .before .before .before .before .args .a .now) (c .before .before .before .before .before .before .before .before .before .before .before .before .before .before .before .before .before .args .b .now) (c .before .before .before .before .before .before .before .before .before .before .before .before .before .before .before .before .before .args .bits .now) (c .before .before .before .before .before .before .before .before .before .before .before .before .before .before .before .before .before .args .start .now))) _ _ _ (c .before .before .before .before .before .before .before .before .loop .applied) (c .apply-found .result) (walk-accepted (c .before .before .before .before .before .before .before .before .loop .walk .depth) (c .before .before .before .before .before .before .before .before .loop .applied .refused) (c .before .before .before .before .before .if1 .taken)) (c .before .before .before .before .next-conjuncts .ensures .1 .1 .0 (c .before .before .before .before .before .before .before .before .before .before .before .before .before .before .before .before .before .args .b .now) (c .before .before .before .before .before .before .before .before .before .before .before .before .before .before .before .before .before .args .bits .now)) (c .apply-found .ensures))
+loop-again c = (c .before .before .before .before .next-conjuncts .ensures .0, c .before .before .before .before .before .before .before .before .loop .inv .1 ∙ some-more (conjunctApplied (c .before .before .before .before .before .before .before .before .before .before .before .before .before .before .before .before .before .args .lineage .now) (nodeOf (c .before .before .before .before .before .before .before .before .before .before .before .before .before .before .before .before .before .args .kind .now) (c .before .before .before .before .before .before .before .before .before .before .before .before .before .before .before .before .before .args .code .now) (c .before .before .before .before .before .before .before .before .before .before .before .before .before .before .before .before .before .args .a .now) (c .before .before .before .before .before .before .before .before .before .before .before .before .before .before .before .before .before .args .b .now) (c .before .before .before .before .before .before .before .before .before .before .before .before .before .before .before .before .before .args .bits .now) (c .before .before .before .before .before .before .before .before .before .before .before .before .before .before .before .before .before .args .start .now))) _ _ _ (c .before .before .before .before .before .before .before .before .loop .applied) (c .apply-handles .result) (walk-accepted (c .before .before .before .before .before .before .before .before .loop .walk .depth) (c .before .before .before .before .before .before .before .before .loop .applied .refused) (c .before .before .before .before .before .if1 .taken)) (c .before .before .before .before .next-conjuncts .ensures .1 .1 .0 (c .before .before .before .before .before .before .before .before .before .before .before .before .before .before .before .before .before .args .b .now) (c .before .before .before .before .before .before .before .before .before .before .before .before .before .before .before .before .before .args .bits .now)) (c .apply-handles .ensures))
 
--- src/lib.rt:218:1
 returns : tie.Need-returns Inv-loop μ-loop
 returns c = walk-done (c .before .before .before .before .before .before .before .before .before .before .before .before .args .kind .now) (c .before .before .before .before .before .before .before .before .before .before .before .before .args .code .now) (c .before .before .before .before .before .before .before .before .before .before .before .before .args .a .now) (c .before .before .before .before .before .before .before .before .before .before .before .before .args .b .now) (c .before .before .before .before .before .before .before .before .before .before .before .before .args .bits .now) (c .before .before .before .before .before .before .before .before .before .before .before .before .args .start .now) (c .before .before .before .before .before .before .before .before .before .before .before .before .args .items .now) (c .before .before .before .before .before .before .before .before .before .before .before .before .args .lineage .now) (c .before .before .before .before .before .before .before .before .before .before .before .before .pre .0) _ (c .before .before .before .loop .walk) (c .before .before .before .loop .applied) _ (c .if1 .left) (c .before .before .before .loop .inv .1)
 
@@ -50,7 +40,7 @@ apply-walk-spec =
     μ-loop
     loop-holds
     next-conjuncts-requires
-    apply-found-requires
+    apply-handles-requires
     loop-less
     loop-again
     returns)

@@ -1,7 +1,7 @@
 use Rattle.conjuncts.specs.Walks.{passed}
 use borrow.Author.Needs.{needs}
 use Rattle.conjuncts.proofs.Rests.{stepsLeft}
-use Rattle.predicate_facts.proofs.Collecting.{Collected, Turning, less-left, some-frame, some-room, popped-on, skipped-on, found-on, entered-on, skip-operand, found-operand, enter-operand, enter-frame}
+use Rattle.predicate_facts.proofs.Collecting.{Collected, Turning, at-most, less-left, some-frame, some-place, popped-on, skipped-on, found-on, entered-on, skip-operand, found-operand, enter-operand, enter-frame}
 use Rattle.predicate_facts.proofs.next_conjuncts.Statement.{statement}
 use Rattle.predicate_facts.proofs.next_conjuncts.Tie as tie
 use Rattle.predicate_facts.proofs.next_conjuncts.Reads as reads
@@ -10,23 +10,26 @@ use Rattle.conjuncts.proofs.turn.Reads as turn-reads
 use Rattle.lists.proofs.at16.Reads as at16-reads
 
 abbrev Inv-loop : tie.InvT-loop
-Inv-loop kind code a start items walk₀ handles₀ count₀ walk handles count = Collected kind code a start items walk₀ walk handles count
+Inv-loop kind code a start items walk₀ handles₀ count₀ turns₀ walk handles count turns = Collected kind code a start items walk₀ walk handles count turns
 
 abbrev μ-loop : tie.MeasureT-loop
-μ-loop kind code a start items walk₀ handles₀ count₀ walk handles count = stepsLeft kind code a start items walk
+μ-loop kind code a start items walk₀ handles₀ count₀ turns₀ walk handles count turns = stepsLeft kind code a start items walk
 
 abbrev At-turn : Type 0
 At-turn = lts.After-turn (turn-reads.Asked, turn-reads.Learnt, at16-reads.Asked, at16-reads.Learnt) reads.Pre reads.Post Inv-loop μ-loop
 
 turning : (c : At-turn)
-    → Turning (c .before .before .before .before .before .before .before .before .before .before .before .args .kind .now) (c .before .before .before .before .before .before .before .before .before .before .before .args .code .now) (c .before .before .before .before .before .before .before .before .before .before .before .args .a .now) (c .before .before .before .before .before .before .before .before .before .before .before .args .start .now) (c .before .before .before .before .before .before .before .before .before .before .before .args .items .now) (c .before .before .before .before .before .before .before .before .before .before .before .args .w) (c .before .before .before .before .before .loop .walk) (c .before .before .before .before .before .loop .handles) (c .before .before .before .before .before .loop .count) (c .turn .result)
+    → Turning (c .before .before .before .before .before .before .before .before .before .before .before .args .kind .now) (c .before .before .before .before .before .before .before .before .before .before .before .args .code .now) (c .before .before .before .before .before .before .before .before .before .before .before .args .a .now) (c .before .before .before .before .before .before .before .before .before .before .before .args .start .now) (c .before .before .before .before .before .before .before .before .before .before .before .args .items .now) (c .before .before .before .before .before .before .before .before .before .before .before .args .w) (c .before .before .before .before .before .loop .walk) (c .before .before .before .before .before .loop .handles) (c .before .before .before .before .before .loop .count) (c .before .before .before .before .before .loop .turns) (c .turn .result)
 turning c = record { long = c .before .before .before .before .before .before .before .before .before .before .before .pre .0; had = c .before .before .before .before .before .loop .inv; more = c .before .before .before .before .loop-test .taken; next = c .turn .ensures }
 
 loop-holds : tie.Need-loop-holds Inv-loop μ-loop
 loop-holds c = search needs
 
+add-turns : tie.Need-add-turns Inv-loop μ-loop
+add-turns c = search needs
+
 sub-k : tie.Need-sub-k Inv-loop μ-loop
-sub-k c = some-frame (c .before .loop .walk .depth) (c .before .loop .count) (c .loop-test .taken)
+sub-k c = some-frame (c .before .loop .walk .depth) (c .before .loop .turns) (c .loop-test .taken)
 
 mul-owner : tie.Need-mul-owner Inv-loop μ-loop
 mul-owner c = search needs
@@ -172,7 +175,7 @@ mul-handles : tie.Need-mul-handles Inv-loop μ-loop
 mul-handles c = search needs
 
 array-write-handles : tie.Need-array-write-handles Inv-loop μ-loop
-array-write-handles c = some-room (c .before .before .before .before .before .before .before .before .loop .walk .depth) (c .before .before .before .before .before .before .before .before .loop .count) (c .before .before .before .before .before .before .before .loop-test .taken)
+array-write-handles c = some-place (c .before .before .before .before .before .before .before .before .loop .walk .depth) (c .before .before .before .before .before .before .before .before .loop .count) (c .before .before .before .before .before .before .before .before .loop .turns) (c .before .before .before .before .before .before .before .before .loop .inv .one-each) (c .before .before .before .before .before .before .before .loop-test .taken)
 
 add-count : tie.Need-add-count Inv-loop μ-loop
 add-count c = search needs
@@ -186,7 +189,7 @@ unfolding passed
 loop-again-4 c = found-on (turning (c .before .before .before)) (c .before .turn3 .given .0 .0) (c .before .turn3 .given .1) .0
 
 returns : tie.Need-returns Inv-loop μ-loop
-returns c = (c .before .loop .inv .good, (c .before .loop .inv .few, (c .before .loop .inv .to-come, less-left (c .before .before .before .before .before .before .before .pre .0) (c .before .loop .inv) (c .loop-test .left))))
+returns c = (c .before .loop .inv .good, (at-most (c .before .loop .inv), (c .before .loop .inv .to-come, less-left (c .before .before .before .before .before .before .before .pre .0) (c .before .loop .inv) (c .loop-test .left))))
 
 pub next-conjuncts-spec : {M : Type 1} → statement M
 next-conjuncts-spec =
@@ -195,6 +198,7 @@ next-conjuncts-spec =
     Inv-loop
     μ-loop
     loop-holds
+    add-turns
     sub-k
     mul-owner
     element-copy-out-owner

@@ -1,22 +1,21 @@
 -- Conjuncts applied one after the other to a set that stays in its place. Assumes nothing.
-use Prim.Native.Nat.{ℕ, suc, _+_, _-_, _<_, _≤_}
+use Prim.Native.Nat.{ℕ, suc, _+_, _<_, _≤_}
 use mathlib.Core.Path.{_≡_, refl, sym, ap, subst, _∙_}
 use mathlib.Core.Bool.{Bool, true, false, cond, not, _&&_, _||_}
 use mathlib.Core.List.{List, [], _∷_, _++_}
-use mathlib.Core.Logic.{_⊎_, inl, inr, ⊎-elim}
 use native.Mathlib.Omega.{arith}
-use lib.Dec.{ltb, eqb}
+use lib.Dec.{ltb}
 use native.Mathlib.Numerals.{add-one}
 use lib.ListN.{length, getD, take, drop, drop-of-length-le}
 use lib.Seq.{drop-cons, length-take-le}
 use borrow.Author.Tests.{ltb-true, ltb-false, not-true}
 use Rattle.lists.proofs.RangeLaws.{and-left, and-right}
-use Rattle.value_classes.specs.Parents.{rootOf, parentsOk, each}
+use Rattle.value_classes.specs.Parents.{rootOf, parentsOk}
 use Rattle.value_classes.specs.Listed.{rootsOf}
 use Rattle.value_classes.specs.declared.Roots.{Roots}
 use Rattle.value_classes.specs.declared.ValueEquivalenceClasses.{ValueEquivalenceClasses}
 use Rattle.value_classes.proofs.RootLaws.{each-at, root-small}
-use Rattle.constraints.specs.Sets.{done, parentsOf, canonicalAt, unionValues, normalized, crossCheck, handles, withResiduals, withClasses}
+use Rattle.constraints.specs.Sets.{done, parentsOf, canonicalAt, unionValues, normalized, crossCheck, handles, withResiduals}
 use Rattle.constraints.specs.declared.ConstraintSet.{ConstraintSet}
 use Rattle.constraints.specs.declared.Applied.{Applied}
 use Rattle.constraints.proofs.Operations.{union-two}
@@ -32,10 +31,10 @@ use Rattle.conjunct_facts.specs.Cells.{cellOf, withCell, cellAfter}
 use Rattle.conjunct_facts.specs.declared.Action.{Action}
 use Rattle.conjunct_facts.specs.declared.Cell.{Cell}
 use Rattle.conjunct_facts.proofs.Acts.{acts, proper}
-use Rattle.predicate_facts.proofs.Wides.{Wide, union-wide, cell-wide}
+use Rattle.applied_conjuncts.proofs.Wides.{Wide, union-wide, cell-wide}
 use Rattle.conjunct_facts.proofs.CellLaws.{joinedBy, joined-apart, joined-together, first-low, second-low, written, turned, turned-checked}
 use Rattle.conjunct_facts.proofs.Settles.{turned-settled}
-use Rattle.predicate_facts.proofs.Joins.{union-settles}
+use Rattle.applied_conjuncts.proofs.Joins.{union-settles}
 
 abbrev pub appliedOf : ConstraintSet → Bool → Applied
 appliedOf q refused = record { constraints = q; refused = refused }
@@ -214,8 +213,8 @@ pub second-index : (lineage : List ℕ) (node : ℕ → ExprData) (h : ℕ) (act
 second-index lineage node h act i ea ei = omega (arith, ei, second-low act (subst Proper (sym ea) (proper lineage node h)))
 
 -- the place k of the loop
-pub found-within : (k n : ℕ) (refused : Bool) → (ltb k n && not refused) ≡ true → n ≤ 64 → k < 64
+pub found-within : (k n : ℕ) (refused : Bool) → (ltb k n && not refused) ≡ true → n ≤ 2048 → k < 2048
 found-within k n refused e few = omega (arith, ltb-true k n (and-left (ltb k n) (not refused) e))
 
-pub take-length : (n : ℕ) (l : List ℕ) → length l ≡ 64 → n ≤ 64 → length (take n l) ≡ n
+pub take-length : (n : ℕ) (l : List ℕ) → length l ≡ 2048 → n ≤ 2048 → length (take n l) ≡ n
 take-length n l e h = length-take-le n l (omega arith)

@@ -1,114 +1,83 @@
 use borrow.Author.Needs.{needs}
-use Rattle.predicate_facts.proofs.Joins.{roots-written}
-use Rattle.predicate_facts.proofs.join_roots.Statement.{statement}
-use Rattle.predicate_facts.proofs.join_roots.Tie as tie
-use Rattle.predicate_facts.proofs.join_roots.Reads as reads
-use Rattle.predicate_facts.proofs.join_roots.Lts as lts
-use Rattle.constraint_set.proofs.place_of.Reads as place-of-reads
-use Rattle.constraints.proofs.Entry.empty.Reads as Entry-empty-reads
-use Rattle.constraints.proofs.Holder.empty.Reads as Holder-empty-reads
+use Rattle.applied_conjuncts.proofs.Joins.{roots-written}
+use Rattle.applied_conjuncts.proofs.join_roots.Statement.{statement}
+use Rattle.applied_conjuncts.proofs.join_roots.Tie as tie
 
--- src/lib.rt:93:14
 element-copy-out-n1 : tie.Need-element-copy-out-n1
 element-copy-out-n1 c = search needs
 
--- src/lib.rt:94:14
 element-copy-out-n2 : tie.Need-element-copy-out-n2
 element-copy-out-n2 c = search needs
 
--- src/lib.rt:95:14
 mul-h1 : tie.Need-mul-h1
 mul-h1 c = search needs
 
--- src/lib.rt:95:14
 element-copy-out-h1 : tie.Need-element-copy-out-h1
 element-copy-out-h1 c = search needs
 
--- src/lib.rt:96:14
 mul-h2 : tie.Need-mul-h2
 mul-h2 c = search needs
 
--- src/lib.rt:96:14
 element-copy-out-h2 : tie.Need-element-copy-out-h2
 element-copy-out-h2 c = search needs
 
--- src/lib.rt:97:14
 mul-e1 : tie.Need-mul-e1
 mul-e1 c = search needs
 
--- src/lib.rt:97:14
 element-copy-out-e1 : tie.Need-element-copy-out-e1
 element-copy-out-e1 c = search needs
 
--- src/lib.rt:98:14
 mul-e2 : tie.Need-mul-e2
 mul-e2 c = search needs
 
--- src/lib.rt:98:14
 element-copy-out-e2 : tie.Need-element-copy-out-e2
 element-copy-out-e2 c = search needs
 
--- src/lib.rt:99:9
 place-of-requires : tie.Need-place-of-requires
 place-of-requires c κs = search needs
 
--- src/lib.rt:102:9
 empty-requires : tie.Need-empty-requires
 empty-requires c κs = search needs
 
--- src/lib.rt:103:9
 empty-requires-2 : tie.Need-empty-requires-2
 empty-requires-2 c κs = search needs
 
--- src/lib.rt:106:26
 cast-classes : tie.Need-cast-classes
 cast-classes c = search needs
 
--- src/lib.rt:106:5
 element-write-classes : tie.Need-element-write-classes
 element-write-classes c = search needs
 
--- src/lib.rt:109:5
 element-write-q : tie.Need-element-write-q
 element-write-q c = search needs
 
--- src/lib.rt:110:5
 element-write-q-2 : tie.Need-element-write-q-2
 element-write-q-2 c = search needs
 
--- src/lib.rt:111:5
 mul-h : tie.Need-mul-h
 mul-h c = search needs
 
--- src/lib.rt:111:5
 element-set-from-h : tie.Need-element-set-from-h
 element-set-from-h c = search needs
 
--- src/lib.rt:112:5
 mul-no-literal : tie.Need-mul-no-literal
 mul-no-literal c = search needs
 
--- src/lib.rt:112:5
 element-set-from-no-literal : tie.Need-element-set-from-no-literal
 element-set-from-no-literal c = search needs
 
--- src/lib.rt:113:5
 mul-e : tie.Need-mul-e
 mul-e c = search needs
 
--- src/lib.rt:113:5
 element-set-from-e : tie.Need-element-set-from-e
 element-set-from-e c = search needs
 
--- src/lib.rt:114:5
 mul-no-entry : tie.Need-mul-no-entry
 mul-no-entry c = search needs
 
--- src/lib.rt:114:5
 element-set-from-no-entry : tie.Need-element-set-from-no-entry
 element-set-from-no-entry c = search needs
 
--- src/lib.rt:88:1
 returns : tie.Need-returns
 returns c = roots-written (c .before .before .before .before .before .before .before .before .before .before .before .before .before .args .t1) (c .before .before .before .before .before .before .before .before .before .before .before .before .before .args .a) (c .before .before .before .before .before .before .before .before .before .before .before .before .before .args .b) (c .before .before .before .before .before .before .place-of .result) (c .before .before .before .empty .result) (c .before .before .empty2 .result) (c .before .before .before .before .before .before .place-of .ensures) (c .before .before .before .empty .ensures) (c .before .before .empty2 .ensures)
 

@@ -9,7 +9,7 @@ use mir.Val.{Val}
 use Rattle.constraints.specs.Sets.{parentsOf, literals}
 use Rattle.constraints.specs.declared.ConstraintSet.{ConstraintSet}
 use Rattle.constraints.proofs.ConstraintSet as C
-use Rattle.predicate_facts.proofs.Wides.{Wide}
+use Rattle.applied_conjuncts.proofs.Wides.{Wide}
 
 parents-long : (s : ConstraintSet) (vs : List Val) → shadow (row C.the-type .own s vs) → length (parentsOf s) ≡ 128
 parents-long s vs p = search needs

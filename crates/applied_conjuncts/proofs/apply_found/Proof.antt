@@ -1,12 +1,12 @@
 use borrow.Author.Needs.{needs}
 use Prim.Native.Nat.{_≤_, _<_, _-_}
 use lib.ListN.{length, getD, take}
-use Rattle.predicate_facts.proofs.Owned.{set-wide}
+use Rattle.applied_conjuncts.proofs.Owned.{set-wide}
 use lib.Seq.{getD-take}
 use Rattle.plan_data.specs.Nodes.{nodeOf}
-use Rattle.predicates.specs.Apply.{conjunctApplied, allApplied}
-use mathlib.Core.Path.{_≡_, refl, sym, ap, subst, _∙_}
-use mathlib.Core.Bool.{Bool, true, cond, not}
+use Rattle.predicates.specs.Apply.{conjunctApplied}
+use mathlib.Core.Path.{_≡_, refl, sym, subst, _∙_}
+use mathlib.Core.Bool.{not}
 use mathlib.Core.Logic.{⊎-elim}
 use native.Mathlib.Omega.{arith}
 use lib.Dec.{T}
@@ -14,77 +14,52 @@ use borrow.Author.Tests.{ltb-true}
 use Rattle.lists.proofs.RangeLaws.{and-left}
 use Rattle.conjunct_facts.specs.Actions.{Proper}
 use Rattle.conjunct_facts.proofs.Acts.{proper}
-use Rattle.predicate_facts.proofs.Applying.{Turning, JoinedIn, CheckedIn, when-apart, when-together, when-checked, when-not, turn-again, found-ends, first-index, second-index, root-low, found-within, take-length}
+use Rattle.applied_conjuncts.proofs.Applying.{Turning, JoinedIn, CheckedIn, when-apart, when-together, when-checked, when-not, turn-again, found-ends, first-index, second-index, root-low, found-within, take-length}
 use Rattle.conjunct_facts.specs.Cells.{withCell}
-use Rattle.predicate_facts.proofs.apply_found.Statement.{statement}
-use Rattle.predicate_facts.proofs.apply_found.Tie as tie
-use Rattle.predicate_facts.proofs.apply_found.Reads as reads
-use Rattle.predicate_facts.proofs.apply_found.Lts as lts
-use Rattle.conjunct_facts.proofs.action_of.Reads as action-of-reads
-use Rattle.conjunct_facts.proofs.cell_after.Reads as cell-after-reads
-use Rattle.conjunct_facts.proofs.first_of.Reads as first-of-reads
-use Rattle.conjunct_facts.proofs.is_checking.Reads as is-checking-reads
-use Rattle.conjunct_facts.proofs.is_residual.Reads as is-residual-reads
-use Rattle.conjunct_facts.proofs.residuals_after.Reads as residuals-after-reads
-use Rattle.conjunct_facts.proofs.second_of.Reads as second-of-reads
-use Rattle.constraint_set.proofs.cross_check_literals_and_ranges.Reads as cross-check-literals-and-ranges-reads
-use Rattle.predicate_facts.proofs.join.Reads as join-reads
-use Rattle.value_classes.proofs.ValueEquivalenceClasses.parents_ok.Reads as parents-ok-reads
-use Rattle.value_classes.proofs.ValueEquivalenceClasses.roots.Reads as roots-reads
+use Rattle.applied_conjuncts.proofs.apply_found.Statement.{statement}
+use Rattle.applied_conjuncts.proofs.apply_found.Tie as tie
 
 abbrev Inv-loop : tie.InvT-loop
 Inv-loop kind code a b bits start lineage count handles q₀ roots₀ settled₀ checked₀ refused₀ k₀ q roots settled checked refused k =
-    Turning (conjunctApplied lineage (nodeOf kind code a b bits start)) (take count handles) q₀ q roots settled checked refused k × (k ≤ count) × (length handles ≡ 64)
+    Turning (conjunctApplied lineage (nodeOf kind code a b bits start)) (take count handles) q₀ q roots settled checked refused k × (k ≤ count) × (length handles ≡ 2048)
 
 abbrev μ-loop : tie.MeasureT-loop
 μ-loop kind code a b bits start lineage count handles q₀ roots₀ settled₀ checked₀ refused₀ k₀ q roots settled checked refused k =
     count - k
 
--- src/lib.rt:161:21
 roots-requires : tie.Need-roots-requires Inv-loop μ-loop
 roots-requires c κs = search needs
 
--- src/lib.rt:166:5
 loop-holds : tie.Need-loop-holds Inv-loop μ-loop
 loop-holds c = (record { wide = set-wide (c .before .before .before .before .before .before .before .before .before .args .s) _ (c .before .before .before .before .before .before .before .before .before .good .1 .1 .1 .1 .1 .1 .1 .0); rooted = c .roots .ensures; settles = λ e. absurd (subst T (sym e) tt); told = λ e. absurd (subst T (sym e) tt); to-come = refl }, omega arith, search needs)
 
--- src/lib.rt:167:17
 mul-h : tie.Need-mul-h Inv-loop μ-loop
 mul-h c = search needs
 
--- src/lib.rt:167:17
 array-read-h : tie.Need-array-read-h Inv-loop μ-loop
 array-read-h c = found-within (c .before .loop .k) (c .before .before .before .before .before .before .before .before .before .before .before .args .count) (c .before .loop .refused) (c .loop-test .taken) (c .before .before .before .before .before .before .before .before .before .before .before .pre)
 
--- src/lib.rt:168:13
 action-of-requires : tie.Need-action-of-requires Inv-loop μ-loop
 action-of-requires c κs = search needs
 
--- src/lib.rt:169:13
 first-of-requires : tie.Need-first-of-requires Inv-loop μ-loop
 first-of-requires c κs = search needs
 
--- src/lib.rt:170:13
 second-of-requires : tie.Need-second-of-requires Inv-loop μ-loop
 second-of-requires c κs = search needs
 
--- src/lib.rt:171:12
 element-copy-out-if1 : tie.Need-element-copy-out-if1 Inv-loop μ-loop
 element-copy-out-if1 c = first-index (c .before .before .before .before .before .before .before .before .before .before .before .before .before .before .args .lineage .now) (nodeOf (c .before .before .before .before .before .before .before .before .before .before .before .before .before .before .args .kind .now) (c .before .before .before .before .before .before .before .before .before .before .before .before .before .before .args .code .now) (c .before .before .before .before .before .before .before .before .before .before .before .before .before .before .args .a .now) (c .before .before .before .before .before .before .before .before .before .before .before .before .before .before .args .b .now) (c .before .before .before .before .before .before .before .before .before .before .before .before .before .before .args .bits .now) (c .before .before .before .before .before .before .before .before .before .before .before .before .before .before .args .start .now)) _ _ _ (c .before .before .action-of .ensures) (c .before .first-of .ensures)
 
--- src/lib.rt:171:27
 element-copy-out-if1-2 : tie.Need-element-copy-out-if1-2 Inv-loop μ-loop
 element-copy-out-if1-2 c = second-index (c .before .before .before .before .before .before .before .before .before .before .before .before .before .before .before .args .lineage .now) (nodeOf (c .before .before .before .before .before .before .before .before .before .before .before .before .before .before .before .args .kind .now) (c .before .before .before .before .before .before .before .before .before .before .before .before .before .before .before .args .code .now) (c .before .before .before .before .before .before .before .before .before .before .before .before .before .before .before .args .a .now) (c .before .before .before .before .before .before .before .before .before .before .before .before .before .before .before .args .b .now) (c .before .before .before .before .before .before .before .before .before .before .before .before .before .before .before .args .bits .now) (c .before .before .before .before .before .before .before .before .before .before .before .before .before .before .before .args .start .now)) _ _ _ (c .before .before .before .action-of .ensures) (c .before .second-of .ensures)
 
--- src/lib.rt:172:17
 join-requires : tie.Need-join-requires Inv-loop μ-loop
 join-requires c κs = (first-index (c .before .before .before .before .before .before .before .before .before .before .before .before .before .before .before .before .before .args .lineage .now) (nodeOf (c .before .before .before .before .before .before .before .before .before .before .before .before .before .before .before .before .before .args .kind .now) (c .before .before .before .before .before .before .before .before .before .before .before .before .before .before .before .before .before .args .code .now) (c .before .before .before .before .before .before .before .before .before .before .before .before .before .before .before .before .before .args .a .now) (c .before .before .before .before .before .before .before .before .before .before .before .before .before .before .before .before .before .args .b .now) (c .before .before .before .before .before .before .before .before .before .before .before .before .before .before .before .before .before .args .bits .now) (c .before .before .before .before .before .before .before .before .before .before .before .before .before .before .before .before .before .args .start .now)) _ _ _ (c .before .before .before .before .before .action-of .ensures) (c .before .before .before .before .first-of .ensures), (second-index (c .before .before .before .before .before .before .before .before .before .before .before .before .before .before .before .before .before .args .lineage .now) (nodeOf (c .before .before .before .before .before .before .before .before .before .before .before .before .before .before .before .before .before .args .kind .now) (c .before .before .before .before .before .before .before .before .before .before .before .before .before .before .before .before .before .args .code .now) (c .before .before .before .before .before .before .before .before .before .before .before .before .before .before .before .before .before .args .a .now) (c .before .before .before .before .before .before .before .before .before .before .before .before .before .before .before .before .before .args .b .now) (c .before .before .before .before .before .before .before .before .before .before .before .before .before .before .before .before .before .args .bits .now) (c .before .before .before .before .before .before .before .before .before .before .before .before .before .before .before .before .before .args .start .now)) _ _ _ (c .before .before .before .before .before .action-of .ensures) (c .before .before .before .second-of .ensures), c .before .before .before .before .before .before .before .loop .inv .0 .settles))
 
--- src/lib.rt:174:21
 roots-requires-2 : tie.Need-roots-requires-2 Inv-loop μ-loop
 roots-requires-2 c κs = search needs
 
--- src/lib.rt:175:13
 parents-ok-requires : tie.Need-parents-ok-requires Inv-loop μ-loop
 parents-ok-requires c κs = search needs
 
@@ -97,63 +72,48 @@ joined c =
 low : (c : tie.Joined1 Inv-loop μ-loop) → getD (c .if1 .roots .of) (c .before .before .before .before .first-of .result) 0 < 128
 low c = root-low _ _ (joined c .rooted) (joined c .wide .0) _ (first-index (c .before .before .before .before .before .before .before .before .before .before .before .before .before .before .before .before .before .args .lineage .now) (nodeOf (c .before .before .before .before .before .before .before .before .before .before .before .before .before .before .before .before .before .args .kind .now) (c .before .before .before .before .before .before .before .before .before .before .before .before .before .before .before .before .before .args .code .now) (c .before .before .before .before .before .before .before .before .before .before .before .before .before .before .before .before .before .args .a .now) (c .before .before .before .before .before .before .before .before .before .before .before .before .before .before .before .before .before .args .b .now) (c .before .before .before .before .before .before .before .before .before .before .before .before .before .before .before .before .before .args .bits .now) (c .before .before .before .before .before .before .before .before .before .before .before .before .before .before .before .before .before .args .start .now)) _ _ _ (c .before .before .before .before .before .action-of .ensures) (c .before .before .before .before .first-of .ensures))
 
--- src/lib.rt:178:17
 element-copy-out-r : tie.Need-element-copy-out-r Inv-loop μ-loop
 element-copy-out-r c = first-index (c .before .before .before .before .before .before .before .before .before .before .before .before .before .before .before .before .before .args .lineage .now) (nodeOf (c .before .before .before .before .before .before .before .before .before .before .before .before .before .before .before .before .before .args .kind .now) (c .before .before .before .before .before .before .before .before .before .before .before .before .before .before .before .before .before .args .code .now) (c .before .before .before .before .before .before .before .before .before .before .before .before .before .before .before .before .before .args .a .now) (c .before .before .before .before .before .before .before .before .before .before .before .before .before .before .before .before .before .args .b .now) (c .before .before .before .before .before .before .before .before .before .before .before .before .before .before .before .before .before .args .bits .now) (c .before .before .before .before .before .before .before .before .before .before .before .before .before .before .before .before .before .args .start .now)) _ _ _ (c .before .before .before .before .before .action-of .ensures) (c .before .before .before .before .first-of .ensures)
 
--- src/lib.rt:178:17
 cast-r : tie.Need-cast-r Inv-loop μ-loop
 cast-r c = let l = low (c .before) in search needs
 
--- src/lib.rt:179:23
 mul-literal : tie.Need-mul-literal Inv-loop μ-loop
 mul-literal c = let l = low (c .before) in search needs
 
--- src/lib.rt:179:23
 element-copy-out-literal : tie.Need-element-copy-out-literal Inv-loop μ-loop
 element-copy-out-literal c = low (c .before)
 
--- src/lib.rt:180:21
 mul-entry : tie.Need-mul-entry Inv-loop μ-loop
 mul-entry c = let l = low (c .before .before) in search needs
 
--- src/lib.rt:180:21
 element-copy-out-entry : tie.Need-element-copy-out-entry Inv-loop μ-loop
 element-copy-out-entry c = low (c .before .before)
 
--- src/lib.rt:182:23
 element-copy-out-if2 : tie.Need-element-copy-out-if2 Inv-loop μ-loop
 element-copy-out-if2 c = low (c .before .before .before)
 
--- src/lib.rt:187:13
 cell-after-requires : tie.Need-cell-after-requires Inv-loop μ-loop
 cell-after-requires c κs = search needs
 
--- src/lib.rt:190:9
 element-write-q : tie.Need-element-write-q Inv-loop μ-loop
 element-write-q c = low (c .before .before .before .before .before .before .before)
 
--- src/lib.rt:191:9
 mul-kept-literal : tie.Need-mul-kept-literal Inv-loop μ-loop
 mul-kept-literal c = let l = low (c .before .before .before .before .before .before .before) in search needs
 
--- src/lib.rt:191:9
 element-set-from-kept-literal : tie.Need-element-set-from-kept-literal Inv-loop μ-loop
 element-set-from-kept-literal c = low (c .before .before .before .before .before .before .before)
 
--- src/lib.rt:192:9
 mul-kept-entry : tie.Need-mul-kept-entry Inv-loop μ-loop
 mul-kept-entry c = let l = low (c .before .before .before .before .before .before .before) in search needs
 
--- src/lib.rt:192:9
 element-set-from-kept-entry : tie.Need-element-set-from-kept-entry Inv-loop μ-loop
 element-set-from-kept-entry c = low (c .before .before .before .before .before .before .before)
 
--- src/lib.rt:194:23
 is-checking-requires : tie.Need-is-checking-requires Inv-loop μ-loop
 is-checking-requires c κs = search needs
 
--- src/lib.rt:195:17
 cross-check-literals-and-ranges-requires :
     tie.Need-cross-check-literals-and-ranges-requires Inv-loop μ-loop
 cross-check-literals-and-ranges-requires c κs = search needs
@@ -164,27 +124,21 @@ unfolding withCell
 checked c =
     ⊎-elim (λ w. when-checked (c .before .before .before .before .before .before .before .before .before .before .before .before .before .before .action-of .result) (c .before .before .before .before .before .before .before .before .before .if1 .checked) (c .before .is-checking .result) _ _ _ _ (c .before .is-checking .ensures) (w .0 .taken) (w .1 .ensures) (w .2) (w .3)) (λ w. when-not (c .before .before .before .before .before .before .before .before .before .before .before .before .before .before .action-of .result) (c .before .before .before .before .before .before .before .before .before .if1 .checked) (c .before .is-checking .result) _ _ _ (c .before .is-checking .ensures) (w .0 .left) (w .1) (w .2)) (c .if2 .came)
 
--- src/lib.rt:203:13
 is-residual-requires : tie.Need-is-residual-requires Inv-loop μ-loop
 is-residual-requires c κs = search needs
 
--- src/lib.rt:199:13
 residuals-after-requires : tie.Need-residuals-after-requires Inv-loop μ-loop
 residuals-after-requires c κs = search needs
 
--- src/lib.rt:209:9
 add-k : tie.Need-add-k Inv-loop μ-loop
 add-k c = let l = found-within (c .before .before .before .before .before .before .before .before .before .before .before .before .before .before .before .before .before .before .before .before .loop .k) (c .before .before .before .before .before .before .before .before .before .before .before .before .before .before .before .before .before .before .before .before .before .before .before .before .before .before .before .before .before .before .args .count) (c .before .before .before .before .before .before .before .before .before .before .before .before .before .before .before .before .before .before .before .before .loop .refused) (c .before .before .before .before .before .before .before .before .before .before .before .before .before .before .before .before .before .before .before .loop-test .taken) (c .before .before .before .before .before .before .before .before .before .before .before .before .before .before .before .before .before .before .before .before .before .before .before .before .before .before .before .before .before .before .pre) in search needs
 
--- src/lib.rt:166:5
 loop-less : tie.Need-loop-less Inv-loop μ-loop
 loop-less c = let l = ltb-true (c .before .before .before .before .before .before .before .before .before .before .before .before .before .before .before .before .before .before .before .before .loop .k) (c .before .before .before .before .before .before .before .before .before .before .before .before .before .before .before .before .before .before .before .before .before .before .before .before .before .before .before .before .before .before .args .count) (and-left _ (not (c .before .before .before .before .before .before .before .before .before .before .before .before .before .before .before .before .before .before .before .before .loop .refused)) (c .before .before .before .before .before .before .before .before .before .before .before .before .before .before .before .before .before .before .before .loop-test .taken)) in omega arith
 
--- src/lib.rt:166:5
 loop-again : tie.Need-loop-again Inv-loop μ-loop
 loop-again c = (turn-again (c .before .before .before .before .before .before .before .before .before .before .before .before .before .before .before .before .before .before .before .before .before .before .before .before .before .before .before .before .before .before .args .lineage .now) (nodeOf (c .before .before .before .before .before .before .before .before .before .before .before .before .before .before .before .before .before .before .before .before .before .before .before .before .before .before .before .before .before .before .args .kind .now) (c .before .before .before .before .before .before .before .before .before .before .before .before .before .before .before .before .before .before .before .before .before .before .before .before .before .before .before .before .before .before .args .code .now) (c .before .before .before .before .before .before .before .before .before .before .before .before .before .before .before .before .before .before .before .before .before .before .before .before .before .before .before .before .before .before .args .a .now) (c .before .before .before .before .before .before .before .before .before .before .before .before .before .before .before .before .before .before .before .before .before .before .before .before .before .before .before .before .before .before .args .b .now) (c .before .before .before .before .before .before .before .before .before .before .before .before .before .before .before .before .before .before .before .before .before .before .before .before .before .before .before .before .before .before .args .bits .now) (c .before .before .before .before .before .before .before .before .before .before .before .before .before .before .before .before .before .before .before .before .before .before .before .before .before .before .before .before .before .before .args .start .now)) (take (c .before .before .before .before .before .before .before .before .before .before .before .before .before .before .before .before .before .before .before .before .before .before .before .before .before .before .before .before .before .before .args .count) (c .before .before .before .before .before .before .before .before .before .before .before .before .before .before .before .before .before .before .before .before .before .before .before .before .before .before .before .before .before .before .args .t9)) (c .before .before .before .before .before .before .before .before .before .before .before .before .before .before .before .before .before .before .before .before .before .before .before .before .before .before .before .before .before .before .args .s) (c .before .before .before .before .before .before .before .before .before .before .before .before .before .before .before .before .before .before .before .before .loop .q) (c .before .before .before .before .before .before .before .before .before .before .before .before .before .before .before .before .before .before .before .before .loop .roots) (c .before .before .before .before .before .before .before .before .before .before .before .before .before .before .before .before .before .before .before .before .loop .settled) (c .before .before .before .before .before .before .before .before .before .before .before .before .before .before .before .before .before .before .before .before .loop .checked) (c .before .before .before .before .before .before .before .before .before .before .before .before .before .before .before .before .before .before .before .before .loop .refused) (c .before .before .before .before .before .before .before .before .before .before .before .before .before .before .before .before .before .before .before .before .loop .k) (c .before .before .before .before .before .before .before .before .before .before .before .before .before .before .before .before .before .before .before .before .before .before .before .before .before .before .before .before .before .before .args .count) (c .before .before .before .before .before .before .before .before .before .before .before .before .before .before .before .before .before .before .before .before .loop .inv .0) (take-length (c .before .before .before .before .before .before .before .before .before .before .before .before .before .before .before .before .before .before .before .before .before .before .before .before .before .before .before .before .before .before .args .count) (c .before .before .before .before .before .before .before .before .before .before .before .before .before .before .before .before .before .before .before .before .before .before .before .before .before .before .before .before .before .before .args .t9) (c .before .before .before .before .before .before .before .before .before .before .before .before .before .before .before .before .before .before .before .before .loop .inv .2) (c .before .before .before .before .before .before .before .before .before .before .before .before .before .before .before .before .before .before .before .before .before .before .before .before .before .before .before .before .before .before .pre)) (c .before .before .before .before .before .before .before .before .before .before .before .before .before .before .before .before .before .before .before .loop-test .taken) _ (sym (getD-take (c .before .before .before .before .before .before .before .before .before .before .before .before .before .before .before .before .before .before .before .before .before .before .before .before .before .before .before .before .before .before .args .count) (c .before .before .before .before .before .before .before .before .before .before .before .before .before .before .before .before .before .before .before .before .before .before .before .before .before .before .before .before .before .before .args .t9) (c .before .before .before .before .before .before .before .before .before .before .before .before .before .before .before .before .before .before .before .before .loop .k) 0 (ltb-true _ _ (and-left _ (not (c .before .before .before .before .before .before .before .before .before .before .before .before .before .before .before .before .before .before .before .before .loop .refused)) (c .before .before .before .before .before .before .before .before .before .before .before .before .before .before .before .before .before .before .before .loop-test .taken))))) (c .before .before .before .before .before .before .before .before .before .before .before .before .before .before .before .before .before .before .action-of .result) (c .before .before .before .before .before .before .before .before .before .before .before .before .before .before .before .before .before .before .action-of .ensures) (c .before .before .before .before .before .before .before .before .before .before .before .before .before .if1 .q) (c .before .before .before .before .if2 .q) (c .before .before .before .before .before .before .before .before .before .before .before .before .before .if1 .roots) (c .before .before .before .before .before .before .before .before .before .before .before .before .before .if1 .settled) (c .before .before .before .before .before .before .before .before .before .before .before .before .before .if1 .checked) (c .before .before .before .before .if2 .checked) _ (c .before .before .before .before .before .before .before .before .cell-after .result) (c .before .residuals-after .result) (joined (c .before .before .before .before .before .before .before .before .before .before .before .before .before)) _ (c .before .before .before .before .before .before .before .before .before .before .before .before .before .before .before .before .before .first-of .ensures) refl (c .before .before .before .before .before .before .before .before .cell-after .ensures) (checked (c .before .before .before .before)) (c .before .before .is-residual .result) (c .before .before .is-residual .ensures) (c .before .residuals-after .ensures), omega (arith, ltb-true (c .before .before .before .before .before .before .before .before .before .before .before .before .before .before .before .before .before .before .before .before .loop .k) (c .before .before .before .before .before .before .before .before .before .before .before .before .before .before .before .before .before .before .before .before .before .before .before .before .before .before .before .before .before .before .args .count) (and-left _ (not (c .before .before .before .before .before .before .before .before .before .before .before .before .before .before .before .before .before .before .before .before .loop .refused)) (c .before .before .before .before .before .before .before .before .before .before .before .before .before .before .before .before .before .before .before .loop-test .taken))), c .before .before .before .before .before .before .before .before .before .before .before .before .before .before .before .before .before .before .before .before .loop .inv .2)
 
--- src/lib.rt:144:1
 returns : tie.Need-returns Inv-loop μ-loop
 returns c = sym (found-ends (conjunctApplied (c .before .before .before .before .before .before .before .before .before .before .before .args .lineage .now) (nodeOf (c .before .before .before .before .before .before .before .before .before .before .before .args .kind .now) (c .before .before .before .before .before .before .before .before .before .before .before .args .code .now) (c .before .before .before .before .before .before .before .before .before .before .before .args .a .now) (c .before .before .before .before .before .before .before .before .before .before .before .args .b .now) (c .before .before .before .before .before .before .before .before .before .before .before .args .bits .now) (c .before .before .before .before .before .before .before .before .before .before .before .args .start .now))) (take (c .before .before .before .before .before .before .before .before .before .before .before .args .count) (c .before .before .before .before .before .before .before .before .before .before .before .args .t9)) (c .before .loop .k) (c .before .before .before .before .before .before .before .before .before .before .before .args .count) (c .before .loop .q) (c .before .loop .refused) (take-length (c .before .before .before .before .before .before .before .before .before .before .before .args .count) (c .before .before .before .before .before .before .before .before .before .before .before .args .t9) (c .before .loop .inv .2) (c .before .before .before .before .before .before .before .before .before .before .before .pre)) (c .before .loop .inv .1) (c .loop-test .left)) ∙ sym (c .before .loop .inv .0 .to-come)
 

@@ -8,7 +8,7 @@ use lib.ListN.{length, replicate, length-set, length-replicate}
 use Rattle.scalar.specs.declared.ScalarValue.{ScalarValue}
 use Rattle.value_range.specs.declared.ValueRange.{ValueRange}
 use Rattle.value_classes.specs.Parents.{joined}
-use Rattle.constraints.specs.Sets.{none, noEntry, parentsOf, literals, nonNullAt, literalAt, entryAt, canonicalAt, withClasses, withNonNulls, withLiterals, withRanges, withResiduals, putNonNull, putLiteral, putRange, layRange, crossCheck, moveNonNull, moveLiteral, moveRange, nonNullsMoved, literalsMoved, rangesMoved, normalized, unionValues}
+use Rattle.constraints.specs.Sets.{none, noEntry, parentsOf, literals, nonNullAt, literalAt, entryAt, canonicalAt, withNonNulls, withLiterals, withRanges, putNonNull, putLiteral, putRange, layRange, crossCheck, moveNonNull, moveLiteral, moveRange, nonNullsMoved, literalsMoved, rangesMoved, normalized, unionValues}
 use Rattle.constraints.specs.declared.Holder.{Holder}
 use Rattle.constraints.specs.declared.Entry.{Entry}
 use Rattle.constraints.specs.declared.ConstraintSet.{ConstraintSet}
