@@ -1,0 +1,4 @@
+pub mod MergedReady
+pub mod AppliedReady
+pub mod EveryAnswer
+pub mod DerivedReady
