@@ -1,10 +1,10 @@
 #!/usr/bin/env python3
-"""Predicates and merges as steps for the program facts_run, and what it must write, as optd's own Rust answers.
+"""Predicates and merges as steps for the program test_apply, and what it must write, as optd's own Rust answers.
 
     cases.py ORACLE SEED COUNT STEPS ANSWERS     ORACLE is oracle/target/release/oracle; writes the two files
 
 A case is a plan of two Scans, predicates on each, and a join. The Rust derives the Scans, the Selections over
-them and the join; facts_run applies the same predicates and merges the same two sides. Random plans come first,
+them and the join; test_apply applies the same predicates and merges the same two sides. Random plans come first,
 then fixed ones: residuals around 64 on either side, and the deepest And that a plan can hold.
 """
 import random
@@ -103,7 +103,7 @@ def value(kind, word):
 
 
 def listed(lines, numbers):
-    """A listing of the Rust's as facts_run writes it."""
+    """A listing of the Rust's as test_apply writes it."""
     head, columns, entries, residuals = lines[0].split(), [], [], []
     for line in lines[1:]:
         w = line.split()

@@ -1,5 +1,5 @@
 #!/usr/bin/env python3
-"""PostgreSQL as a judge of rows_run: random typed predicates, as SQL and as steps for the program.
+"""PostgreSQL as a judge of test_rows: random typed predicates, as SQL and as steps for the program.
 
     judge.py SEED COUNT PROGRAM              COUNT predicates on three rows each; says where the two differ
     judge.py SEED COUNT PROGRAM --keep DIR   also writes DIR/steps and DIR/answers, PostgreSQL's own answers
@@ -145,7 +145,7 @@ def main():
     assert len(wanted) == len(got) == 3 * count, (len(wanted), len(got))
     differ = [i for i in range(3 * count) if wanted[i] != got[i]]
     for i in differ[:5]:
-        print(f"row {i % 3} of {queries[i // 3]}\n  PostgreSQL {wanted[i]}, rows_run {got[i]}")
+        print(f"row {i % 3} of {queries[i // 3]}\n  PostgreSQL {wanted[i]}, test_rows {got[i]}")
     tally = ", ".join(f"{wanted.count(t)} {t}" for t in "TFU")
     print(f"seed {seed}: {count} predicates on 3 rows each, {tally}; {len(differ)} answers differ")
     if "--keep" in sys.argv:

@@ -1,5 +1,5 @@
 #!/usr/bin/env python3
-"""Random expressions on random rows as steps for the program rows_run, and what each must answer.
+"""Random expressions on random rows as steps for the program test_rows, and what each must answer.
 
     cases.py SEED COUNT STEPS ANSWERS     writes the two files
 

@@ -11,24 +11,24 @@ use borrow.Author.Tests.{ne-eqb}
 use Rattle.plan.specs.declared.Plan.{Plan}
 use Rattle.plan_file.specs.Answers as Files
 use Rattle.plan_file.specs.declared.Answer.{Answer}
-use Rattle.identities.specs.Identities.{identitiesOf}
-use Rattle.identities.specs.declared.Identities.{Identities}
+use Rattle.plan_identities.specs.Identities.{identitiesOf}
+use Rattle.plan_identities.specs.declared.Identities.{Identities}
 use Rattle.listing.specs.Listing.{listingText}
-use Rattle.deriving.specs.Operators as Deriving
-use Rattle.deriving.specs.Deriving.{deriveOf}
-use Rattle.deriving.specs.declared.DeriveAnswer.{DeriveAnswer}
-use Rattle.predicates.specs.Facts as Applying
-use Rattle.predicates.specs.Entries.{applyPredicate}
-use Rattle.predicates.specs.declared.LogicalFacts.{LogicalFacts}
-use Rattle.predicates.specs.declared.FactsAnswer.{FactsAnswer}
-use Rattle.predicates.specs.declared.Outcome.the-variants as O
+use Rattle.derive_spec.specs.Operators as Deriving
+use Rattle.derive_spec.specs.Deriving.{deriveOf}
+use Rattle.derive_spec.specs.declared.DeriveAnswer.{DeriveAnswer}
+use Rattle.apply_spec.specs.Facts as Applying
+use Rattle.apply_spec.specs.Entries.{applyPredicate}
+use Rattle.apply_spec.specs.declared.LogicalFacts.{LogicalFacts}
+use Rattle.apply_spec.specs.declared.FactsAnswer.{FactsAnswer}
+use Rattle.apply_spec.specs.declared.Outcome.the-variants as O
 use Rattle.refusals.specs.Numbers.{lastOf, standingOf, truthFound}
 use Rattle.plan_file_write.specs.Written.{writtenOf}
 use Rattle.rows.specs.Evaluate as Evaluating
 use Rattle.rows.specs.declared.Row.{Row}
 use Rattle.rows.specs.declared.Evaluation.{Evaluation}
-use Rattle.simplifying.specs.OneOperator as Simplifying
-use Rattle.simplifying.specs.declared.Rewritten.{Rewritten}
+use Rattle.simplify_spec.specs.OneOperator as Simplifying
+use Rattle.simplify_spec.specs.declared.Rewritten.{Rewritten}
 use Rattle.boundary.specs.Replies.{headOf, readReply, onPlan, evaluateReply, rewriteReply, simplifyReply, cellsTo, derivedReply, deriveReply, factsReply, turnBy, inTurn, turnReply, appliedReply, applyReply}
 use Rattle.boundary.specs.declared.InTurn.{InTurn}
 

@@ -10,20 +10,20 @@ use Rattle.plan_file.specs.Answers as Files
 use Rattle.plan_file.specs.declared.Answer.{Answer}
 use Rattle.plan_file_laws.specs.Writing.{put8}
 use Rattle.plan_file_write.specs.Written.{writtenOf}
-use Rattle.identities.specs.Identities.{identitiesOf}
+use Rattle.plan_identities.specs.Identities.{identitiesOf}
 use Rattle.rows.specs.Evaluate as Evaluating
 use Rattle.rows.specs.declared.Row.{Row}
-use Rattle.predicates.specs.Facts as Applying
-use Rattle.predicates.specs.Entries.{applyPredicate}
-use Rattle.predicates.specs.declared.LogicalFacts.{LogicalFacts}
-use Rattle.predicates.specs.declared.FactsAnswer.{FactsAnswer}
-use Rattle.predicates.specs.declared.Outcome.the-variants as O
+use Rattle.apply_spec.specs.Facts as Applying
+use Rattle.apply_spec.specs.Entries.{applyPredicate}
+use Rattle.apply_spec.specs.declared.LogicalFacts.{LogicalFacts}
+use Rattle.apply_spec.specs.declared.FactsAnswer.{FactsAnswer}
+use Rattle.apply_spec.specs.declared.Outcome.the-variants as O
 use Rattle.listing.specs.Listing.{listingText}
-use Rattle.deriving.specs.Operators as Deriving
-use Rattle.deriving.specs.Deriving.{deriveOf}
-use Rattle.deriving.specs.declared.DeriveAnswer.{DeriveAnswer}
-use Rattle.simplifying.specs.OneOperator as Simplifying
-use Rattle.simplifying.specs.declared.Rewritten.{Rewritten}
+use Rattle.derive_spec.specs.Operators as Deriving
+use Rattle.derive_spec.specs.Deriving.{deriveOf}
+use Rattle.derive_spec.specs.declared.DeriveAnswer.{DeriveAnswer}
+use Rattle.simplify_spec.specs.OneOperator as Simplifying
+use Rattle.simplify_spec.specs.declared.Rewritten.{Rewritten}
 use Rattle.refusals.specs.Numbers.{lastOf, standingOf, truthFound}
 use Rattle.boundary.specs.declared.InTurn.{InTurn}
 

@@ -1,24 +1,24 @@
 // What programs in other languages call: bytes of a plan file and numbers in, a reply as bytes out. A reply is the number of the refusal, 0 for
 // none; a number of eight bytes, high byte first; and what is handed back. Each function writes as much of its reply as `out` has room for and
 // answers where that ended. Every input has a reply.
-use deriving::DeriveOutcome;
+use apply_spec::LogicalFacts;
+use apply_spec::Outcome;
+use derive_spec::DeriveOutcome;
 use plan::Expr;
 use plan::Operator;
 use plan::Plan;
 use plan_file::Reading;
-use predicates::LogicalFacts;
-use predicates::Outcome;
 use rows::Evaluation;
 use rows::Row;
-use simplifying::Rewrite;
+use simplify_spec::Rewrite;
 ghost use mathlib.Core.Path.{_≡_};
 ghost use mathlib.Core.List.{[]};
 ghost use Rattle.plan_file.specs.Answers as Files;
 ghost use Rattle.plan_file.specs.Steps.{readOf};
 ghost use Rattle.rows.specs.Evaluate as Evaluating;
-ghost use Rattle.predicates.specs.Facts as Applying;
-ghost use Rattle.deriving.specs.Operators as Deriving;
-ghost use Rattle.simplifying.specs.OneOperator as Simplifying;
+ghost use Rattle.apply_spec.specs.Facts as Applying;
+ghost use Rattle.derive_spec.specs.Operators as Deriving;
+ghost use Rattle.simplify_spec.specs.OneOperator as Simplifying;
 ghost use Rattle.writing.specs.Text.{Wrote};
 ghost use Rattle.boundary.specs.Replies.{headOf, readReply, onPlan, deriveReply, factsReply, inTurn, turnReply, applyReply, simplifyReply, evaluateReply, cellsTo, rowIn};
 
@@ -58,13 +58,13 @@ fn refused_deriving(out: &mut [u8], o: DeriveOutcome) -> usize
 fn derive_plan(out: &mut [u8], p: Plan, h: u16) -> usize
     ensures { λ r. ⌜ Wrote (now (out .entry)) 0 (now (out .exit)) r (deriveReply h p) ⌝ }
 {
-    let d = derive_facts::derive_logical_facts(p, Operator(h));
+    let d = derive_logical_facts::derive_logical_facts(p, Operator(h));
     let o = d.outcome;
     let q = refused_deriving(out, o);
     if refusals::derive_number(o) != 0 {
         return q;
     }
-    let ids = identities::identities_of(p);
+    let ids = plan_identities::identities_of(p);
     let f = d.facts;
     listing::listing(out, q, h as usize, ids, f)
 }
@@ -104,7 +104,7 @@ fn turn_reply(out: &mut [u8], p: Plan, h: u16, t: InTurn) -> usize
     let n = refusals::outcome_number(o);
     let place = t.place;
     let q = head(out, n, place as u64);
-    let ids = identities::identities_of(p);
+    let ids = plan_identities::identities_of(p);
     let f = t.facts;
     listing::listing(out, q, h as usize, ids, f)
 }
@@ -112,7 +112,7 @@ fn turn_reply(out: &mut [u8], p: Plan, h: u16, t: InTurn) -> usize
 fn apply_plan(out: &mut [u8], p: Plan, h: u16, predicates: &[u16]) -> usize
     ensures { λ r. ⌜ Wrote (now (out .entry)) 0 (now (out .exit)) r (applyReply h (now (predicates .entry)) p) ⌝ }
 {
-    let d = derive_facts::derive_logical_facts(p, Operator(h));
+    let d = derive_logical_facts::derive_logical_facts(p, Operator(h));
     let o = d.outcome;
     if refusals::derive_number(o) != 0 {
         return refused_deriving(out, o);

@@ -2,20 +2,20 @@
 use mathlib.Core.Path.{refl}
 use lib.Ieee.{ofInt, lt, eq}
 use Rattle.lists.specs.Ranges.{allFrom, anyFrom, countFrom}
-use Rattle.kinds.specs.Rows.{lineOf, rowOf}
-use Rattle.kinds.specs.Records.{bitsOk, handleOk, countOf, moreOf}
+use Rattle.plan_kinds.specs.Rows.{lineOf, rowOf}
+use Rattle.plan_kinds.specs.Records.{bitsOk, handleOk, countOf, moreOf}
 use Rattle.scalar.specs.declared.ScalarValue.the-variants as S
 use Rattle.value_classes.specs.Parents.{parentIn, climb, rootOf, parentsOk, joined, each}
 use Rattle.value_classes.specs.Classes.{emptyClasses, unionOf}
-use Rattle.constraints.specs.Sets.{emptySet, setOk, putNonNull, putLiteral, layRange, putRange, crossCheck, stepsTo, nonNullsMoved, literalsMoved, rangesMoved, normalized, unionValues, addNonNull, addLiteral, addBound, addRange, pushResidual, addResidual}
+use Rattle.constraint_spec.specs.Sets.{emptySet, setOk, putNonNull, putLiteral, layRange, putRange, crossCheck, stepsTo, nonNullsMoved, literalsMoved, rangesMoved, normalized, unionValues, addNonNull, addLiteral, addBound, addRange, pushResidual, addResidual}
 use Rattle.plan_rules.specs.Rules.{recordOk, itemOk, listsOk, exprOkOf, operatorOkOf, scansOf, countsWithin, planOk}
 use Rattle.plan_data.specs.Nodes.{exprData}
-use Rattle.predicates.specs.Facts.{lineageOk, definitionOk, factsOk}
-use Rattle.predicates.specs.Conjuncts.{joinedOf, conjunctsTo}
-use Rattle.predicates.specs.Apply.{comparisonApplied, conjunctApplied, allApplied}
-use Rattle.predicates.specs.Entries.{predicateApplied, applyPredicate}
-use Rattle.predicates.specs.Meaning.{AllOf}
-use Rattle.simplifying.specs.OneExpression.{operandsFrom, rebuilt, naryOf, simplifyBelow, simplifyAt}
+use Rattle.apply_spec.specs.Facts.{lineageOk, definitionOk, factsOk}
+use Rattle.apply_spec.specs.Conjuncts.{joinedOf, conjunctsTo}
+use Rattle.apply_spec.specs.Apply.{comparisonApplied, conjunctApplied, allApplied}
+use Rattle.apply_spec.specs.Entries.{predicateApplied, applyPredicate}
+use Rattle.apply_spec.specs.Meaning.{AllOf}
+use Rattle.simplify_spec.specs.OneExpression.{operandsFrom, rebuilt, naryOf, simplifyBelow, simplifyAt}
 use Rattle.cases.specs.CaseTable.{cases, Holds}
 
 -- every case of the table holds. Assumes nothing

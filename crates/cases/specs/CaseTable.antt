@@ -12,19 +12,19 @@ use Rattle.value_range.specs.Ranges.{noBound, boundAt}
 use Rattle.value_range.specs.declared.Bound.{Bound}
 use Rattle.value_classes.specs.Parents.{each}
 use Rattle.value_classes.specs.Classes.{emptyClasses}
-use Rattle.constraints.specs.Sets.{none, held, noEntry, entryOf}
-use Rattle.constraints.specs.declared.Holder.{Holder}
-use Rattle.constraints.specs.declared.Entry.{Entry}
-use Rattle.constraints.specs.declared.ConstraintSet.{ConstraintSet}
+use Rattle.constraint_spec.specs.Sets.{none, held, noEntry, entryOf}
+use Rattle.constraint_spec.specs.declared.Holder.{Holder}
+use Rattle.constraint_spec.specs.declared.Entry.{Entry}
+use Rattle.constraint_spec.specs.declared.ConstraintSet.{ConstraintSet}
 use Rattle.plan.specs.declared.Plan.{Plan}
 use Rattle.plan.specs.declared.Expr.{Expr}
-use Rattle.predicates.specs.Facts.{withConstraints}
-use Rattle.predicates.specs.Meaning.{freshFacts, AcceptedAll}
-use Rattle.predicates.specs.declared.LogicalFacts.{LogicalFacts}
-use Rattle.simplifying.specs.OneExpression.{kept, took, addLiteral as newLiteral, simplifyAt}
-use Rattle.simplifying.specs.OneOperator.{startOf}
-use Rattle.simplifying.specs.declared.Simplified.{Simplified}
-use Rattle.simplifying.proofs.Cases.{and-none, and-one, and-true, or-false}
+use Rattle.apply_spec.specs.Facts.{withConstraints}
+use Rattle.apply_spec.specs.Meaning.{freshFacts, AcceptedAll}
+use Rattle.apply_spec.specs.declared.LogicalFacts.{LogicalFacts}
+use Rattle.simplify_spec.specs.OneExpression.{kept, took, addLiteral as newLiteral, simplifyAt}
+use Rattle.simplify_spec.specs.OneOperator.{startOf}
+use Rattle.simplify_spec.specs.declared.Simplified.{Simplified}
+use Rattle.simplify_spec.proofs.CaseEleven.{and-none, and-one, and-true, or-false}
 
 -- x and y are Int32 columns with lineage, z Int64, b Boolean; their identities are 0 to 3. The expressions, a line for eight of them:
 -- x, y, z, b, 7, x < 7, x = 7, x <= 7;

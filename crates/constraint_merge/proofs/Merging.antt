@@ -16,13 +16,13 @@ use Rattle.value_classes.proofs.RootLaws.{each-at}
 use Rattle.value_classes.proofs.MemberLaws.{first-at-least, first-at-most, first-member, first-skips}
 use Rattle.value_classes.proofs.Unions.{left-out}
 use Rattle.value_range.specs.declared.ValueRange.{ValueRange}
-use Rattle.constraints.specs.Sets.{blank, entryOf, nonNulls, literals, handles, entryAt, canonicalAt, withNonNulls, rangeIn, tightenBy, putNonNull, mergeRange, mergeNonNull, flagIf, withResiduals, unionValues, roomFor, done, refusedWith, stepsTo, joinMember, joinClass, mergeResidual, mergeClasses, mergeLiterals, mergeRanges, mergeNonNulls, mergeValues, normalized, mergedSet, roomTo, mergeRoom, mergeFrom}
-use Rattle.constraints.specs.declared.Entry.{Entry}
-use Rattle.constraints.specs.declared.ConstraintSet.{ConstraintSet}
-use Rattle.constraints.specs.declared.Applied.{Applied}
-use Rattle.constraints.proofs.Steps.{steps-skip}
-use Rattle.constraints.proofs.Operations.{union-one}
-use Rattle.constraints.proofs.Merge.{merge-done, merge-refused}
+use Rattle.constraint_spec.specs.Sets.{blank, entryOf, nonNulls, literals, handles, entryAt, canonicalAt, withNonNulls, rangeIn, tightenBy, putNonNull, mergeRange, mergeNonNull, flagIf, withResiduals, unionValues, roomFor, done, refusedWith, stepsTo, joinMember, joinClass, mergeResidual, mergeClasses, mergeLiterals, mergeRanges, mergeNonNulls, mergeValues, normalized, mergedSet, roomTo, mergeRoom, mergeFrom}
+use Rattle.constraint_spec.specs.declared.Entry.{Entry}
+use Rattle.constraint_spec.specs.declared.ConstraintSet.{ConstraintSet}
+use Rattle.constraint_spec.specs.declared.Applied.{Applied}
+use Rattle.constraint_spec.proofs.Steps.{steps-skip}
+use Rattle.constraint_spec.proofs.Operations.{union-one}
+use Rattle.constraint_spec.proofs.Merge.{merge-done, merge-refused}
 use Rattle.constraint_merge.specs.Chained.{secondOf, chained}
 use Rattle.constraint_merge.specs.Residuals.{residualsKept}
 use Rattle.constraint_set.specs.Kept.{keptBy}

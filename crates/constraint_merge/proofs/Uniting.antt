@@ -15,10 +15,10 @@ use Rattle.value_classes.specs.declared.United.{United}
 use Rattle.value_classes.specs.declared.Members.{Members}
 use Rattle.value_classes.proofs.RootLaws.{falls, root-below, root-idempotent}
 use Rattle.value_classes.proofs.Unions.{union-joined, union-same}
-use Rattle.constraints.specs.Sets.{none, noEntry, parentsOf, canonicalAt, withClasses, normalized, unionBy, unionValues}
-use Rattle.constraints.specs.declared.Holder.{Holder}
-use Rattle.constraints.specs.declared.Entry.{Entry}
-use Rattle.constraints.specs.declared.ConstraintSet.{ConstraintSet}
+use Rattle.constraint_spec.specs.Sets.{none, noEntry, parentsOf, canonicalAt, withClasses, normalized, unionBy, unionValues}
+use Rattle.constraint_spec.specs.declared.Holder.{Holder}
+use Rattle.constraint_spec.specs.declared.Entry.{Entry}
+use Rattle.constraint_spec.specs.declared.ConstraintSet.{ConstraintSet}
 use Rattle.constraint_merge.specs.Chained.{chained}
 use Rattle.constraint_set.specs.Settled.{nullOn, placeAt, Settled, unitedRoots}
 use Rattle.constraint_merge.specs.Joins.{rootPair, joining, SettledIf, JoinedTo}

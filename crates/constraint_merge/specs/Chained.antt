@@ -4,8 +4,8 @@ use mathlib.Core.Bool.{cond}
 use lib.Dec.{ltb, eqb}
 use lib.ListN.{getD}
 use Rattle.value_classes.specs.declared.Members.{Members}
-use Rattle.constraints.specs.Sets.{unionValues}
-use Rattle.constraints.specs.declared.ConstraintSet.{ConstraintSet}
+use Rattle.constraint_spec.specs.Sets.{unionValues}
+use Rattle.constraint_spec.specs.declared.ConstraintSet.{ConstraintSet}
 
 -- the first member of the class of r, or, where that is r, the next
 abbrev pub secondOf : Members → ℕ → ℕ

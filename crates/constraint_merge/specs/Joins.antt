@@ -5,7 +5,7 @@ use Prim.Native.Nat.{ℕ, min, max}
 use Rattle.value_classes.specs.Parents.{joined}
 use Rattle.value_classes.specs.Classes.{canonicalOf}
 use Rattle.value_classes.specs.declared.ValueEquivalenceClasses.{ValueEquivalenceClasses}
-use Rattle.constraints.specs.declared.ConstraintSet.{ConstraintSet}
+use Rattle.constraint_spec.specs.declared.ConstraintSet.{ConstraintSet}
 use Rattle.constraint_set.specs.Settled.{Settled}
 use Rattle.constraint_set.specs.declared.RootPair.{RootPair}
 use Rattle.constraint_merge.specs.declared.Joining.{Joining}

@@ -2,9 +2,9 @@
 use Prim.Native.Nat.{ℕ, min}
 use mathlib.Core.Bool.{not}
 use mathlib.Core.List.{List}
-use Rattle.constraints.specs.Sets.{mergeResiduals, roomTo}
-use Rattle.constraints.specs.declared.ConstraintSet.{ConstraintSet}
-use Rattle.constraints.specs.declared.Applied.{Applied}
+use Rattle.constraint_spec.specs.Sets.{mergeResiduals, roomTo}
+use Rattle.constraint_spec.specs.declared.ConstraintSet.{ConstraintSet}
+use Rattle.constraint_spec.specs.declared.Applied.{Applied}
 
 -- the first handles of a list after those of t, and whether one did not find room
 unfoldable pub residualsKept : ConstraintSet → List ℕ → ℕ → Applied

@@ -11,10 +11,10 @@ use borrow.Author.Tests.{lt-ltb}
 use Rattle.lists.specs.Ranges.{anyFrom}
 use Rattle.scalar.specs.Kinds.{isNull}
 use Rattle.scalar.specs.declared.ScalarValue.{ScalarValue}
-use Rattle.constraints.specs.Sets.{none, literals, literalAt, entryAt, crossed, crossedAt, crossCheck, withFlag, flagIf, clashes, canonicalAt, putNonNull, putLiteral, addLiteral}
-use Rattle.constraints.specs.declared.Holder.{Holder}
-use Rattle.constraints.specs.declared.ConstraintSet.{ConstraintSet}
-use Rattle.constraints.proofs.Operations.{any-at}
+use Rattle.constraint_spec.specs.Sets.{none, literals, literalAt, entryAt, crossed, crossedAt, crossCheck, withFlag, flagIf, clashes, canonicalAt, putNonNull, putLiteral, addLiteral}
+use Rattle.constraint_spec.specs.declared.Holder.{Holder}
+use Rattle.constraint_spec.specs.declared.ConstraintSet.{ConstraintSet}
+use Rattle.constraint_spec.proofs.Operations.{any-at}
 use Rattle.constraint_set.specs.Checked.{Checked}
 use Rattle.constraint_set.proofs.Loops.{literal-added}
 

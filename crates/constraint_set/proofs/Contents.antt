@@ -11,11 +11,11 @@ use Rattle.scalar.specs.declared.ScalarValue.{ScalarValue}
 use Rattle.value_range.specs.Ranges.{noBound, boundAt, unboundedRange, takesLower, takesUpper, tightenLower, tightenUpper, emptyRange}
 use Rattle.value_range.specs.declared.Bound.{Bound}
 use Rattle.value_range.specs.declared.ValueRange.{ValueRange}
-use Rattle.constraints.specs.Sets.{none, held, noEntry, blank, entryOf, nonNulls, literals, nonNullAt, literalAt, entryAt, canonicalAt, withNonNulls, withLiterals, withRanges, withFlag, clashes, rangeIn, lowerBy, upperBy, tightenBy, putNonNull, putLiteral, layRange, putRange, stepsTo, moveNonNull, moveLiteral, moveRange, nonNullsMoved, literalsMoved, rangesMoved}
-use Rattle.constraints.specs.declared.Holder.{Holder}
-use Rattle.constraints.specs.declared.Entry.{Entry}
-use Rattle.constraints.specs.declared.ConstraintSet.{ConstraintSet}
-use Rattle.constraints.proofs.Steps.{pick-has}
+use Rattle.constraint_spec.specs.Sets.{none, held, noEntry, blank, entryOf, nonNulls, literals, nonNullAt, literalAt, entryAt, canonicalAt, withNonNulls, withLiterals, withRanges, withFlag, clashes, rangeIn, lowerBy, upperBy, tightenBy, putNonNull, putLiteral, layRange, putRange, stepsTo, moveNonNull, moveLiteral, moveRange, nonNullsMoved, literalsMoved, rangesMoved}
+use Rattle.constraint_spec.specs.declared.Holder.{Holder}
+use Rattle.constraint_spec.specs.declared.Entry.{Entry}
+use Rattle.constraint_spec.specs.declared.ConstraintSet.{ConstraintSet}
+use Rattle.constraint_spec.proofs.Steps.{pick-has}
 use Rattle.constraint_set.specs.Settled.{nullOn, literalOn, literalBad, rangeOn, rangeBad}
 use Rattle.constraint_set.proofs.Passes.{filledTo, filled-at, flagTo}
 

@@ -10,7 +10,7 @@ use borrow.Author.Tests.{eq-eqb, ne-eqb}
 use lib.Dec.{eqb}
 use lib.ListN.{length, getD, set, replicate, length-set, length-replicate, getD-replicate}
 use lib.Seq.{getD-set-same, getD-set-other, ext-getD}
-use Rattle.constraints.proofs.Steps.{pick-has}
+use Rattle.constraint_spec.proofs.Steps.{pick-has}
 use Rattle.constraint_set.specs.Settled.{Stands, movedTo}
 
 -- ---- flags

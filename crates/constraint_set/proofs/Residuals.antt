@@ -4,8 +4,8 @@ use mathlib.Core.Bool.{Bool, true, false, not, cond, _||_}
 use Prim.Native.Nat.{ℕ, _+_}
 use lib.Dec.{ltb}
 use lib.ListN.{set}
-use Rattle.constraints.specs.Sets.{handles, withResiduals, hasHandle, roomFor, pushResidual, done, refusedWith, addResidual}
-use Rattle.constraints.specs.declared.ConstraintSet.{ConstraintSet}
+use Rattle.constraint_spec.specs.Sets.{handles, withResiduals, hasHandle, roomFor, pushResidual, done, refusedWith, addResidual}
+use Rattle.constraint_spec.specs.declared.ConstraintSet.{ConstraintSet}
 use Rattle.constraint_set.specs.Kept.{keptBy}
 use Rattle.constraint_set.specs.declared.Kept.{Kept}
 

@@ -11,10 +11,10 @@ use lib.Seq.{getD-set-same, getD-set-other}
 use Rattle.value_classes.specs.Parents.{parentIn, rootOf, parentsOk}
 use Rattle.value_classes.specs.declared.ValueEquivalenceClasses.{ValueEquivalenceClasses}
 use Rattle.value_classes.proofs.RootLaws.{Falls, falls, falls-ok, parent-in, root-below, root-of-own, root-own, root-step, root-idempotent}
-use Rattle.constraints.specs.Sets.{none, noEntry, blank, parentsOf, nonNulls, literals, handles, nonNullAt, literalAt, entryAt, canonicalAt, withClasses, withNonNulls, withLiterals, withFlag, flagIf, crossed, crossedAt, crossCheck, rangesMoved, literalsMoved, normalized}
-use Rattle.constraints.specs.declared.Holder.{Holder}
-use Rattle.constraints.specs.declared.Entry.{Entry}
-use Rattle.constraints.specs.declared.ConstraintSet.{ConstraintSet}
+use Rattle.constraint_spec.specs.Sets.{none, noEntry, blank, parentsOf, nonNulls, literals, handles, nonNullAt, literalAt, entryAt, canonicalAt, withClasses, withNonNulls, withLiterals, withFlag, flagIf, crossed, crossedAt, crossCheck, rangesMoved, literalsMoved, normalized}
+use Rattle.constraint_spec.specs.declared.Holder.{Holder}
+use Rattle.constraint_spec.specs.declared.Entry.{Entry}
+use Rattle.constraint_spec.specs.declared.ConstraintSet.{ConstraintSet}
 use Rattle.constraint_set.proofs.Checking.{just-checked, crossed-flagged, check-one}
 use Rattle.constraint_set.specs.Settled.{nullOn, literalOn, literalBad, rangeOn, rangeBad, Stands, Settled, movedTo, placeOf, unitedRoots}
 use Rattle.constraint_set.proofs.Passes.{or-before, goesTo, goes-b, goes-other, filled-stands, flagTo, filled-told, filled-moved, flag-moved}

@@ -2,10 +2,10 @@
 use mathlib.Core.Path.{_≡_, ap₂, _∙_}
 use mathlib.Core.Bool.{Bool, false, _||_}
 use lib.ListN.{set}
-use Rattle.constraints.specs.Sets.{nonNulls, literals, handles, nonNullAt, crossed}
-use Rattle.constraints.specs.declared.Holder.{Holder}
-use Rattle.constraints.specs.declared.Entry.{Entry}
-use Rattle.constraints.specs.declared.ConstraintSet.{ConstraintSet}
+use Rattle.constraint_spec.specs.Sets.{nonNulls, literals, handles, nonNullAt, crossed}
+use Rattle.constraint_spec.specs.declared.Holder.{Holder}
+use Rattle.constraint_spec.specs.declared.Entry.{Entry}
+use Rattle.constraint_spec.specs.declared.ConstraintSet.{ConstraintSet}
 use Rattle.constraint_set.specs.Settled.{literalOn, literalBad, rangeOn, rangeBad, placeOf}
 use Rattle.constraint_set.specs.declared.Place.{Place}
 use Rattle.constraint_set.specs.declared.RootPair.{RootPair}

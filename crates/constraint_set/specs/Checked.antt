@@ -2,8 +2,8 @@
 use mathlib.Core.Bool.{_||_}
 use mathlib.Core.Path.{_≡_}
 use Rattle.lists.specs.Ranges.{anyFrom}
-use Rattle.constraints.specs.Sets.{crossedAt}
-use Rattle.constraints.specs.declared.ConstraintSet.{ConstraintSet}
+use Rattle.constraint_spec.specs.Sets.{crossedAt}
+use Rattle.constraint_spec.specs.declared.ConstraintSet.{ConstraintSet}
 
 abbrev pub Checked : ConstraintSet → Type 0
 Checked s = (s .contradictory || anyFrom (crossedAt s) 0 128) ≡ s .contradictory

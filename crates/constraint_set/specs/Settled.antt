@@ -7,10 +7,10 @@ use Prim.Native.Nat.{ℕ, _<_}
 use lib.ListN.{length, getD, set}
 use Rattle.value_range.specs.Ranges.{emptyRange}
 use Rattle.value_classes.specs.Parents.{parentsOk}
-use Rattle.constraints.specs.Sets.{none, held, noEntry, entryOf, blank, parentsOf, nonNulls, literals, handles, nonNullAt, literalAt, entryAt, canonicalAt, clashes, rangeIn, tightenBy, crossed}
-use Rattle.constraints.specs.declared.Holder.{Holder}
-use Rattle.constraints.specs.declared.Entry.{Entry}
-use Rattle.constraints.specs.declared.ConstraintSet.{ConstraintSet}
+use Rattle.constraint_spec.specs.Sets.{none, held, noEntry, entryOf, blank, parentsOf, nonNulls, literals, handles, nonNullAt, literalAt, entryAt, canonicalAt, clashes, rangeIn, tightenBy, crossed}
+use Rattle.constraint_spec.specs.declared.Holder.{Holder}
+use Rattle.constraint_spec.specs.declared.Entry.{Entry}
+use Rattle.constraint_spec.specs.declared.ConstraintSet.{ConstraintSet}
 use Rattle.constraint_set.specs.Checked.{Checked}
 use Rattle.constraint_set.specs.declared.Place.{Place}
 

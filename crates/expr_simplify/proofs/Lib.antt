@@ -1,3 +1,3 @@
-pub mod Ways
+pub mod ShapeAnswers
 pub mod Runs
-pub mod OperatorWays
+pub mod OperatorAnswers

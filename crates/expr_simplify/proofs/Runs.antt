@@ -1,4 +1,4 @@
--- The ways of `simplify_expr` and `simplify_run`, one by one, over their definitions: the code's passage through the operands leaves what the
+-- The ways of `simplify_expr` and `test_simplify`, one by one, over their definitions: the code's passage through the operands leaves what the
 -- definition says. Assumes nothing.
 use mathlib.Core.Path.{_≡_, refl, sym, ap, ap₂, _∙_}
 use mathlib.Core.Bool.{Bool, true, false, not, cond, _&&_, _||_}
@@ -13,13 +13,13 @@ use Rattle.plan.specs.declared.Items.{Items}
 use Rattle.plan.specs.declared.Expr.{Expr}
 use Rattle.plan_data.specs.Nodes.{runOf, recordOfExpr}
 use Rattle.plan_data.specs.declared.ExprData.the-variants.{Nary}
-use Rattle.simplifying.specs.Shapes.{isLiteral, naryOpFor}
-use Rattle.simplifying.specs.OneExpression.{shapeIn, kept, failed, addRecord, addNary, notOf, compareOf, enterOf, Operands, noOperands, joinedBy, joined, operandsFrom, itemSet, itemsPut, counted, withItems, roomFor, rebuilt, naryOf, stepBy, simplifyAt, withNode}
-use Rattle.simplifying.specs.declared.Tables.{Tables}
-use Rattle.simplifying.specs.declared.Simplified.{Simplified}
-use Rattle.simplifying.specs.declared.Shape.{Shape}
-use Rattle.simplifying.specs.declared.Shape.the-variants.{Boolean, Not, Compare, And, Or, Other}
-use Rattle.simplifying.proofs.StepLaws.{simplify-at}
+use Rattle.simplify_spec.specs.Shapes.{isLiteral, naryOpFor}
+use Rattle.simplify_spec.specs.OneExpression.{shapeIn, kept, failed, addRecord, addNary, notOf, compareOf, enterOf, Operands, noOperands, joinedBy, joined, operandsFrom, itemSet, itemsPut, counted, withItems, roomFor, rebuilt, naryOf, stepBy, simplifyAt, withNode}
+use Rattle.simplify_spec.specs.declared.Tables.{Tables}
+use Rattle.simplify_spec.specs.declared.Simplified.{Simplified}
+use Rattle.simplify_spec.specs.declared.Shape.{Shape}
+use Rattle.simplify_spec.specs.declared.Shape.the-variants.{Boolean, Not, Compare, And, Or, Other}
+use Rattle.simplify_spec.proofs.StepLaws.{simplify-at}
 use Rattle.expr_simplify.specs.declared.Tally.{Tally}
 use Rattle.expr_simplify.specs.Passage.{Out, plainOut, noTally, nextTally, lastOf, tallied, reserved, rebuiltOut, bottomOf, backItems, withPut, written, placed}
 
@@ -91,7 +91,7 @@ place-one all h t e v false deciding q =
     back-keep (bottomOf all h (q .ok) (q .st) (tallied (nextTally t e v false deciding) q)) (t .kept) v (q .kept)
     ∙ ap (λ (x : Tally). written (bottomOf all h (q .ok) (q .st) x) (t .kept) (v ∷ q .kept)) (tally-one t e v false deciding q)
 
--- the ways of `simplify_run`
+-- the ways of `test_simplify`
 module _ (all : Bool) (h : ℕ) (ok : Bool) (st : Tables) (p m : ℕ) (t : Tally) where
   pub run-none : m ≡ 0 → (o : Out) → o ≡ bottomOf all h ok st t → o ≡ placed all h t (operandsFrom simplifyAt all h ok st p m)
   unfolding operandsFrom lastOf placed

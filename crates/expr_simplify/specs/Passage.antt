@@ -8,10 +8,10 @@ use lib.ListN.{length, set}
 use Rattle.plan.specs.declared.Items.{Items}
 use Rattle.plan_data.specs.Nodes.{runOf, recordOfExpr}
 use Rattle.plan_data.specs.declared.ExprData.the-variants.{Nary}
-use Rattle.simplifying.specs.Shapes.{naryOpFor}
-use Rattle.simplifying.specs.OneExpression.{stOf, kept, failed, took, addRecord, addLiteral, Operands, itemSet, itemsPut, counted, withItems, roomFor}
-use Rattle.simplifying.specs.declared.Tables.{Tables}
-use Rattle.simplifying.specs.declared.Simplified.{Simplified}
+use Rattle.simplify_spec.specs.Shapes.{naryOpFor}
+use Rattle.simplify_spec.specs.OneExpression.{stOf, kept, failed, took, addRecord, addLiteral, Operands, itemSet, itemsPut, counted, withItems, roomFor}
+use Rattle.simplify_spec.specs.declared.Tables.{Tables}
+use Rattle.simplify_spec.specs.declared.Simplified.{Simplified}
 use Rattle.expr_simplify.specs.declared.Done.{Done}
 use Rattle.expr_simplify.specs.declared.Tally.{Tally}
 use Rattle.expr_simplify.specs.declared.Ran.{Ran}

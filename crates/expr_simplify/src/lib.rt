@@ -1,7 +1,6 @@
 // Simplifying the expressions of one operator of a plan, after the Rust's ExprSimplify. What recurses over expressions has the tables' arrays lent
 // to it one by one, never a table.
 use comparison::BinaryOp;
-use kinds::Record;
 use plan::Expr;
 use plan::Expressions;
 use plan::Items;
@@ -13,14 +12,15 @@ use plan_data::NaryOp;
 use plan_data::OperatorData;
 use plan_data::Run;
 use plan_data::UnaryOp;
+use plan_kinds::Record;
 use scalar::ScalarValue;
-use simplifying::Each;
-use simplifying::Held;
-use simplifying::Rewrite;
-use simplifying::Rewritten;
-use simplifying::Shape;
-use simplifying::Simplified;
-use simplifying::Tables;
+use simplify_spec::Each;
+use simplify_spec::Held;
+use simplify_spec::Rewrite;
+use simplify_spec::Rewritten;
+use simplify_spec::Shape;
+use simplify_spec::Simplified;
+use simplify_spec::Tables;
 ghost use mathlib.Core.Path.{_≡_};
 ghost use mathlib.Core.Bool.{Bool, true, false, not, cond, _&&_, _||_};
 ghost use mathlib.Core.List.{List};
@@ -30,9 +30,9 @@ ghost use lib.ListN.{getD, set};
 ghost use Rattle.plan.specs.Records.{operatorRecordOf};
 ghost use Rattle.plan_data.specs.Codes.{unaryOpOf, naryOpOf};
 ghost use Rattle.plan_data.specs.Nodes.{exprData, nodeOf, operatorData, recordOfOperator};
-ghost use Rattle.simplifying.specs.Shapes.{sameBool, isLiteral, naryOpFor, unaryShape, naryShape, shapeOf};
-ghost use Rattle.simplifying.specs.OneExpression.{kept, failed, took, addRecord, addNode, addLiteral, notStep, notOther, notOf, compareOf, enterOf, operandsFrom, itemSet, simplifyAt};
-ghost use Rattle.simplifying.specs.OneOperator.{operatorAt, heldOf, heldCount, heldAt, eachWith, eachTo, itemCount, itemFirst, itemSecond, withList, rebuiltOf, answered, addOperator, inputOr, eachOf, rewriteOf, simplifyOf};
+ghost use Rattle.simplify_spec.specs.Shapes.{sameBool, isLiteral, naryOpFor, unaryShape, naryShape, shapeOf};
+ghost use Rattle.simplify_spec.specs.OneExpression.{kept, failed, took, addRecord, addNode, addLiteral, notStep, notOther, notOf, compareOf, enterOf, operandsFrom, itemSet, simplifyAt};
+ghost use Rattle.simplify_spec.specs.OneOperator.{operatorAt, heldOf, heldCount, heldAt, eachWith, eachTo, itemCount, itemFirst, itemSecond, withList, rebuiltOf, answered, addOperator, inputOr, eachOf, rewriteOf, simplifyOf};
 ghost use Rattle.expr_simplify.specs.Passage.{itemsOf, tablesOf, resultOf, outOf, plainOut, noTally, nextTally, reserved, rebuiltOut, bottomOf, backItems, placed};
 
 // How far it came: a handle, the counts of expressions and items, the Rust's `changed`, and whether there was room.
@@ -569,7 +569,7 @@ fn simplify_expr(
             count: m,
         } => {
             let t = no_tally();
-            let q = simplify_run(
+            let q = test_simplify(
                 kind,
                 code,
                 a,
@@ -592,7 +592,7 @@ fn simplify_expr(
             count: m,
         } => {
             let t = no_tally();
-            let q = simplify_run(
+            let q = test_simplify(
                 kind,
                 code,
                 a,
@@ -626,7 +626,7 @@ fn no_tally() -> Tally
 }
 
 // Simplifies the m operands of h from the item p on, makes the node, and writes its list on the way back.
-fn simplify_run(
+fn test_simplify(
     kind: &mut [u8; 1024],
     code: &mut [u8; 1024],
     a: &mut [u16; 1024],
@@ -655,7 +655,7 @@ fn simplify_run(
     let neutral = is_literal(shape, all);
     let deciding = is_literal(shape, !all);
     let t2 = count(t, e, v, neutral, deciding);
-    let q = simplify_run(
+    let q = test_simplify(
         kind,
         code,
         a,

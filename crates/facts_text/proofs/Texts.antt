@@ -8,12 +8,12 @@ use borrow.Author.Tests.{ne-eqb}
 use Rattle.plan.specs.declared.Plan.{Plan}
 use Rattle.plan_file.specs.Answers as Files
 use Rattle.plan_file.specs.declared.Answer.{Answer}
-use Rattle.identities.specs.Identities.{identitiesOf}
-use Rattle.identities.specs.declared.Identities.{Identities}
+use Rattle.plan_identities.specs.Identities.{identitiesOf}
+use Rattle.plan_identities.specs.declared.Identities.{Identities}
 use Rattle.listing.specs.Listing.{listingText, refusedLine}
-use Rattle.deriving.specs.Operators as Deriving
-use Rattle.deriving.specs.Deriving.{deriveOf}
-use Rattle.deriving.specs.declared.DeriveAnswer.{DeriveAnswer}
+use Rattle.derive_spec.specs.Operators as Deriving
+use Rattle.derive_spec.specs.Deriving.{deriveOf}
+use Rattle.derive_spec.specs.declared.DeriveAnswer.{DeriveAnswer}
 use Rattle.refusals.specs.Numbers.{lastOf}
 use Rattle.facts_text.specs.FactsText.{derivedText, planText, factsText}
 

@@ -6,11 +6,11 @@ use lib.Dec.{eqb}
 use Rattle.plan.specs.declared.Plan.{Plan}
 use Rattle.plan_file.specs.Answers as Files
 use Rattle.plan_file.specs.declared.Answer.{Answer}
-use Rattle.identities.specs.Identities.{identitiesOf}
+use Rattle.plan_identities.specs.Identities.{identitiesOf}
 use Rattle.listing.specs.Listing.{listingText, refusedLine}
-use Rattle.deriving.specs.Operators as Deriving
-use Rattle.deriving.specs.Deriving.{deriveOf}
-use Rattle.deriving.specs.declared.DeriveAnswer.{DeriveAnswer}
+use Rattle.derive_spec.specs.Operators as Deriving
+use Rattle.derive_spec.specs.Deriving.{deriveOf}
+use Rattle.derive_spec.specs.declared.DeriveAnswer.{DeriveAnswer}
 use Rattle.refusals.specs.Numbers.{lastOf}
 
 -- of the operator h, from what deriving answers: P is the operator that refused

@@ -11,14 +11,14 @@ fn plan_text(out: &mut [u8], p: Plan) -> usize
     ensures { λ r. ⌜ Wrote (now (out .entry)) 0 (now (out .exit)) r (planText p) ⌝ }
 {
     let h = refusals::last_operator(p);
-    let d = derive_facts::derive_logical_facts(p, Operator(h));
+    let d = derive_logical_facts::derive_logical_facts(p, Operator(h));
     let o = d.outcome;
     let n = refusals::derive_number(o);
     if n != 0 {
         let place = refusals::derive_place(o);
         return listing::refused(out, n as usize, place as usize);
     }
-    let ids = identities::identities_of(p);
+    let ids = plan_identities::identities_of(p);
     let f = d.facts;
     listing::listing(out, 0, h as usize, ids, f)
 }

@@ -8,7 +8,7 @@ use borrow.Author.Tests.{le-leb, lt-leb}
 use lib.Dec.{eqb, leb}
 use lib.ListN.{getD}
 use Rattle.lists.proofs.RangeLaws.{count-same}
-use Rattle.identities.specs.declared.Identities.{Identities}
+use Rattle.plan_identities.specs.declared.Identities.{Identities}
 use Rattle.value_classes.specs.Parents.{each}
 use Rattle.value_classes.proofs.RootLaws.{each-at}
 use Rattle.writing.specs.Text.{Wrote, lines}

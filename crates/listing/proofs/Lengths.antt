@@ -16,11 +16,11 @@ use Rattle.plan_rules.specs.Rules.{planOk}
 use Rattle.plan_rules.proofs.RuleLaws.{rules}
 use Rattle.plan_rules.proofs.AppendRules.{Within, counts-within}
 use Rattle.scalar.specs.Scalars.{Typed}
-use Rattle.constraints.specs.Sets.{setOk, canonicalAt, nonNulls, literals, handles, literalAt, handleAt}
-use Rattle.constraints.specs.declared.ConstraintSet.{ConstraintSet}
-use Rattle.identities.specs.declared.Identities.{Identities}
-use Rattle.predicates.specs.Facts.{lineageOk, definitionOk, residualOk, factsOk}
-use Rattle.predicates.specs.declared.LogicalFacts.{LogicalFacts}
+use Rattle.constraint_spec.specs.Sets.{setOk, canonicalAt, nonNulls, literals, handles, literalAt, handleAt}
+use Rattle.constraint_spec.specs.declared.ConstraintSet.{ConstraintSet}
+use Rattle.plan_identities.specs.declared.Identities.{Identities}
+use Rattle.apply_spec.specs.Facts.{lineageOk, definitionOk, residualOk, factsOk}
+use Rattle.apply_spec.specs.declared.LogicalFacts.{LogicalFacts}
 use Rattle.writing.specs.Text.{lines}
 use Rattle.listing_lines.specs.Lines.{headerLine, columnLine, defineLine, memberText, nonnullLine, literalLine, rangeLine, residualLine}
 use Rattle.listing_lines.proofs.Lengths.{header-length, column-length, define-length, member-length, nonnull-length, literal-length, range-length, residual-length}

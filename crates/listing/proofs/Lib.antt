@@ -1,4 +1,4 @@
 pub mod Loops
 pub mod Classes
-pub mod Owned
+pub mod FactsTyped
 pub mod Lengths

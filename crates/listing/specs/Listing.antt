@@ -5,12 +5,12 @@ use mathlib.Core.List.{List, [], _∷_, _++_}
 use lib.Dec.{eqb, leb}
 use lib.ListN.{getD}
 use Rattle.lists.specs.Ranges.{countFrom}
-use Rattle.constraints.specs.declared.Holder.{Holder}
-use Rattle.constraints.specs.declared.Entry.{Entry}
-use Rattle.constraints.specs.declared.ConstraintSet.{ConstraintSet}
-use Rattle.constraints.specs.Sets.{none, blank, canonicalAt, nonNulls, literals, handles}
-use Rattle.identities.specs.declared.Identities.{Identities}
-use Rattle.predicates.specs.declared.LogicalFacts.{LogicalFacts}
+use Rattle.constraint_spec.specs.declared.Holder.{Holder}
+use Rattle.constraint_spec.specs.declared.Entry.{Entry}
+use Rattle.constraint_spec.specs.declared.ConstraintSet.{ConstraintSet}
+use Rattle.constraint_spec.specs.Sets.{none, blank, canonicalAt, nonNulls, literals, handles}
+use Rattle.plan_identities.specs.declared.Identities.{Identities}
+use Rattle.apply_spec.specs.declared.LogicalFacts.{LogicalFacts}
 use Rattle.writing.specs.Text.{decimalOf, lines}
 use Rattle.listing_lines.specs.Lines.{headerLine, columnLine, defineLine, memberText, nonnullLine, literalLine, rangeLine, residualLine}
 

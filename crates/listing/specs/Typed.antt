@@ -2,8 +2,8 @@
 use Prim.Native.Nat.{ℕ, _<_}
 use lib.ListN.{getD}
 use Rattle.scalar.specs.Scalars.{Typed}
-use Rattle.constraints.specs.Sets.{literalAt, handleAt}
-use Rattle.predicates.specs.declared.LogicalFacts.{LogicalFacts}
+use Rattle.constraint_spec.specs.Sets.{literalAt, handleAt}
+use Rattle.apply_spec.specs.declared.LogicalFacts.{LogicalFacts}
 
 pub record TypedFacts (f : LogicalFacts) : Type 0 where
   pub lineage : (c : ℕ) → getD (f .lineage) c 0 < 256

@@ -1,9 +1,9 @@
 // The listing of facts, written into a buffer that the caller lends. What does not fit is left out; 16,384 bytes hold every listing.
-use constraints::ConstraintSet;
-use constraints::Entry;
-use constraints::Holder;
-use identities::Identities;
-use predicates::LogicalFacts;
+use apply_spec::LogicalFacts;
+use constraint_spec::ConstraintSet;
+use constraint_spec::Entry;
+use constraint_spec::Holder;
+use plan_identities::Identities;
 use value_classes::ValueEquivalenceClasses;
 ghost use mathlib.Core.Path.{_≡_};
 ghost use Prim.Native.Nat.{ℕ, _≤_};

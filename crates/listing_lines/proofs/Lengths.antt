@@ -20,11 +20,11 @@ use Rattle.scalar.specs.declared.Kind.the-variants as K
 use Rattle.scalar.specs.declared.ScalarValue.{ScalarValue}
 use Rattle.scalar.specs.declared.ScalarValue.the-variants as S
 use Rattle.value_range.specs.declared.Bound.{Bound}
-use Rattle.constraints.specs.declared.Holder.{Holder}
-use Rattle.constraints.specs.declared.Entry.{Entry}
-use Rattle.identities.specs.Places.{firstFrom}
-use Rattle.identities.specs.Identities.{valueBy}
-use Rattle.identities.specs.declared.Identities.{Identities}
+use Rattle.constraint_spec.specs.declared.Holder.{Holder}
+use Rattle.constraint_spec.specs.declared.Entry.{Entry}
+use Rattle.plan_identities.specs.Places.{firstFrom}
+use Rattle.plan_identities.specs.Identities.{valueBy}
+use Rattle.plan_identities.specs.declared.Identities.{Identities}
 use Rattle.writing.specs.Text.{decimalOf, signedOf}
 use Rattle.writing.proofs.Wrotes.{decimal-low, decimal-high}
 use Rattle.listing_lines.specs.Lines.{flagText, nameText, headerLine, columnLine, defineLine, memberText, nonnullLine, kindWord, payloadText, valueText, literalLine, formText, boundText, rangeLine, residualLine}

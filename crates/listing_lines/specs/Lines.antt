@@ -11,12 +11,12 @@ use Rattle.scalar.specs.declared.Kind.the-variants as K
 use Rattle.scalar.specs.declared.ScalarValue.{ScalarValue}
 use Rattle.scalar.specs.declared.ScalarValue.the-variants as S
 use Rattle.value_range.specs.declared.Bound.{Bound}
-use Rattle.constraints.specs.declared.Holder.{Holder}
-use Rattle.constraints.specs.declared.Entry.{Entry}
-use Rattle.identities.specs.declared.ValueId.{ValueId}
-use Rattle.identities.specs.declared.ValueId.the-variants.{Base, Derived}
-use Rattle.identities.specs.declared.Identities.{Identities}
-use Rattle.identities.specs.Identities.{valueIn}
+use Rattle.constraint_spec.specs.declared.Holder.{Holder}
+use Rattle.constraint_spec.specs.declared.Entry.{Entry}
+use Rattle.plan_identities.specs.declared.ValueId.{ValueId}
+use Rattle.plan_identities.specs.declared.ValueId.the-variants.{Base, Derived}
+use Rattle.plan_identities.specs.declared.Identities.{Identities}
+use Rattle.plan_identities.specs.Identities.{valueIn}
 use Rattle.writing.specs.Text.{decimalOf, signedOf}
 
 -- ---- words

@@ -1,8 +1,8 @@
 // The lines of a listing, each written into a buffer that the caller lends. What does not fit is left out.
-use constraints::Entry;
-use constraints::Holder;
-use identities::Identities;
-use identities::ValueId;
+use constraint_spec::Entry;
+use constraint_spec::Holder;
+use plan_identities::Identities;
+use plan_identities::ValueId;
 use scalar::Kind;
 use scalar::ScalarValue;
 use value_range::Bound;
@@ -41,7 +41,7 @@ fn id_text(out: &mut [u8], at: usize, v: ValueId) -> usize
 pub fn name(out: &mut [u8], at: usize, ids: Identities, i: u8) -> usize
     ensures { λ r. ⌜ Wrote (now (out .entry)) at (now (out .exit)) r (nameText ids i) ⌝ }
 {
-    let v = identities::value_id(ids, i);
+    let v = plan_identities::value_id(ids, i);
     id_text(out, at, v)
 }
 

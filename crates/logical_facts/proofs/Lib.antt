@@ -1,2 +1,2 @@
 pub mod Overriding
-pub mod WaysOut
+pub mod EntryAnswers

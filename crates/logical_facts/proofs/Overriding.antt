@@ -8,8 +8,8 @@ use native.Mathlib.Numerals.{add-one}
 use lib.Dec.{eqb}
 use lib.ListN.{getD, set}
 use lib.Seq.{set-getD}
-use Rattle.constraints.specs.Sets.{stepsTo}
-use Rattle.predicates.specs.Entries.{override, overridden}
+use Rattle.constraint_spec.specs.Sets.{stepsTo}
+use Rattle.apply_spec.specs.Entries.{override, overridden}
 use Rattle.logical_facts.specs.Columns.{overOf, columnsOver}
 use Rattle.logical_facts.specs.declared.ByColumn.{ByColumn}
 

@@ -2,11 +2,11 @@
 use Prim.Native.Nat.{ℕ}
 use mathlib.Core.Bool.{cond}
 use lib.Dec.{eqb}
-use Rattle.constraints.specs.Sets.{canonicalAt}
+use Rattle.constraint_spec.specs.Sets.{canonicalAt}
 use Rattle.plan.specs.declared.Column.{Column}
-use Rattle.predicates.specs.Facts.{hasLineage, identityOf}
-use Rattle.predicates.specs.Entries.{overridden}
-use Rattle.predicates.specs.declared.LogicalFacts.{LogicalFacts}
+use Rattle.apply_spec.specs.Facts.{hasLineage, identityOf}
+use Rattle.apply_spec.specs.Entries.{overridden}
+use Rattle.apply_spec.specs.declared.LogicalFacts.{LogicalFacts}
 use Rattle.logical_facts.specs.declared.ByColumn.{ByColumn}
 use Rattle.logical_facts.specs.declared.ColumnValue.{ColumnValue}
 use Rattle.logical_facts.specs.declared.ColumnValue.the-variants.{At, Nothing}

@@ -1,19 +1,19 @@
 // Applying a predicate to facts and merging the facts of two inputs, after the Rust's `apply_predicate` and `merge_inputs`. Facts go in by value
 // and come back; what is passed in from outside is tested first.
-use constraints::Applied;
-use constraints::ConstraintSet;
+use apply_spec::FactsAnswer;
+use apply_spec::LogicalFacts;
+use apply_spec::Outcome;
+use constraint_spec::Applied;
+use constraint_spec::ConstraintSet;
 use plan::Column;
 use plan::Expr;
 use plan::Plan;
-use predicates::FactsAnswer;
-use predicates::LogicalFacts;
-use predicates::Outcome;
 ghost use mathlib.Core.Path.{_≡_};
 ghost use mathlib.Core.Bool.{cond};
 ghost use Rattle.lists.specs.Ranges.{allFrom};
-ghost use Rattle.constraints.specs.Sets.{done, mergeFrom};
-ghost use Rattle.predicates.specs.Facts.{lineageOk, definitionOk, residualOk, factsOk};
-ghost use Rattle.predicates.specs.Entries.{answered, refused, overridden, inputsMerged, applyPredicate, mergeInputs};
+ghost use Rattle.constraint_spec.specs.Sets.{done, mergeFrom};
+ghost use Rattle.apply_spec.specs.Facts.{lineageOk, definitionOk, residualOk, factsOk};
+ghost use Rattle.apply_spec.specs.Entries.{answered, refused, overridden, inputsMerged, applyPredicate, mergeInputs};
 ghost use Rattle.logical_facts.specs.Columns.{valueForColumn, canonicalValueForColumn, overOf, columnsOver};
 
 // The identity of a column, if it has one.
@@ -155,7 +155,7 @@ pub fn apply_predicate(p: Plan, f: LogicalFacts, e: Expr) -> FactsAnswer
     if !facts_ok(p, f) {
         return no_such(f);
     }
-    let a = predicate_facts::apply_to(
+    let a = apply_predicate::apply_to(
         &x.kind,
         &x.code,
         &x.a,

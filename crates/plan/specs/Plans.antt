@@ -1,7 +1,7 @@
 -- The tables of a plan: empty, and with one entry more. Assumes nothing.
 use Prim.Native.Nat.{ℕ, _+_}
 use lib.ListN.{set, replicate}
-use Rattle.kinds.specs.declared.Record.{Record}
+use Rattle.plan_kinds.specs.declared.Record.{Record}
 use Rattle.plan.specs.declared.Columns.{Columns}
 use Rattle.plan.specs.declared.Expressions.{Expressions}
 use Rattle.plan.specs.declared.Operators.{Operators}

@@ -2,7 +2,7 @@
 use Prim.Native.Nat.{ℕ}
 use mathlib.Core.List.{List}
 use lib.ListN.{getD}
-use Rattle.kinds.specs.declared.Record.{Record}
+use Rattle.plan_kinds.specs.declared.Record.{Record}
 use Rattle.plan.specs.declared.Plan.{Plan}
 
 -- an expression's record, from the arrays of its table

@@ -1,5 +1,5 @@
 // A plan as a value: columns, expressions, operators and list items in four tables of fixed size, each filled from its start.
-use kinds::Record;
+use plan_kinds::Record;
 ghost use mathlib.Core.Path.{_≡_};
 ghost use Prim.Native.Nat.{_<_};
 ghost use Rattle.plan.specs.Plans.{emptyColumns, emptyExpressions, emptyOperators, emptyItems, emptyPlan, columnPushed, expressionPushed, operatorPushed, itemPushed};

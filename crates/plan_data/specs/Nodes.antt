@@ -6,7 +6,7 @@ use mathlib.Core.List.{List}
 use lib.Dec.{eqb}
 use lib.ListN.{getD, take, drop}
 use Rattle.comparison.specs.Operators.{binaryOpCode, binaryOpOf}
-use Rattle.kinds.specs.declared.Record.{Record}
+use Rattle.plan_kinds.specs.declared.Record.{Record}
 use Rattle.plan.specs.declared.Plan.{Plan}
 use Rattle.plan.specs.Records.{exprRecordOf}
 use Rattle.scalar.specs.Coded.{caseCode, codeOf, bitsOf, scalarOf}

@@ -1,9 +1,9 @@
 // The nodes of a plan read out of their records, as enums to match on, and back.
 use comparison::BinaryOp;
-use kinds::Record;
 use plan::Column;
 use plan::Expr;
 use plan::Operator;
+use plan_kinds::Record;
 use scalar::ScalarValue;
 ghost use mathlib.Core.Path.{_≡_};
 ghost use Rattle.plan_data.specs.Codes.{unaryOpCode, unaryOpOf, naryOpCode, naryOpOf, joinTypeCode, joinTypeOf, kindOfJoin, markerOf};

@@ -9,16 +9,16 @@ use native.Mathlib.Omega.{arith}
 use lib.Dec.{leb, eqb}
 use lib.ListN.{length, length-drop}
 use borrow.Author.Tests.{eqb-true, leb-true, lt-leb}
-use Rattle.kinds.specs.declared.Record.{Record}
-use Rattle.kinds.specs.Rows.{rowOf}
-use Rattle.kinds.proofs.Table.{and-left, and-right, long-row}
+use Rattle.plan_kinds.specs.declared.Record.{Record}
+use Rattle.plan_kinds.specs.Rows.{rowOf}
+use Rattle.plan_kinds.proofs.Table.{and-left, and-right, long-row}
 use Rattle.plan.specs.Plans.{emptyPlan}
 use Rattle.plan_file.specs.declared.State.{State}
 use Rattle.plan_file.specs.declared.Reading.{Reading}
 use Rattle.plan_file.specs.declared.Reading.the-variants.{Whole, Short, Unknown, Room, Handle, ScannedTwice}
 use Rattle.plan_file.specs.Answers.{isWhole, refusalOf, placeOf}
 use Rattle.plan_file.specs.Steps.{kindWanted, refusedBy, isDone, stepsOf, startState, answerOf, readOf}
-use Rattle.plan_file.proofs.Ways.{Way, a-column, an-expr, an-operator, an-item, Taking, step-cases, wants}
+use Rattle.plan_file.proofs.StepCases.{Way, a-column, an-expr, an-operator, an-item, Taking, step-cases, wants}
 
 -- after k steps: within the bytes, and done or two bytes further for each step
 pub record Going (n k : ℕ) (q : State) : Type 0 where

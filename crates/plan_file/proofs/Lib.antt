@@ -1,5 +1,5 @@
-pub mod Laws
-pub mod Turns
-pub mod Ways
+pub mod RecordTests
+pub mod StepsTaken
+pub mod StepCases
 pub mod Finish
-pub mod Cases
+pub mod ReadingExamples

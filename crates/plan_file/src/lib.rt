@@ -1,13 +1,13 @@
 // Reading a plan file: every byte string gets a plan, or a refusal with its place.
-use kinds::COLUMNS;
-use kinds::EXPRESSIONS;
-use kinds::ITEMS;
-use kinds::OPERATORS;
-use kinds::Record;
-use kinds::Row;
 use plan::Added;
 use plan::Appended;
 use plan::Plan;
+use plan_kinds::COLUMNS;
+use plan_kinds::EXPRESSIONS;
+use plan_kinds::ITEMS;
+use plan_kinds::OPERATORS;
+use plan_kinds::Record;
+use plan_kinds::Row;
 ghost use mathlib.Core.Path.{_≡_};
 ghost use Prim.Native.Nat.{_+_, _≤_, _<_};
 ghost use mathlib.Core.Bool.{true, false};
@@ -192,10 +192,10 @@ fn fault(r: Row, x: Record, n: usize, q: State) -> Reading
     if n < r.length as usize {
         return Reading::Short(at);
     }
-    if !kinds::code_ok(r, x) {
+    if !plan_kinds::code_ok(r, x) {
         return Reading::Unknown(at);
     }
-    if !kinds::handles_ok(r, x, nc, ne, np) {
+    if !plan_kinds::handles_ok(r, x, nc, ne, np) {
         return Reading::Handle(at);
     }
     if scanned_twice(r, x, w, scans, np) {
@@ -225,8 +225,8 @@ fn list_of(r: Row, x: Record) -> Wanted
 {
     Wanted {
         item: r.item,
-        left: kinds::count_of(r, x),
-        more: kinds::more_of(r, x),
+        left: plan_kinds::count_of(r, x),
+        more: plan_kinds::more_of(r, x),
         scan: x.kind == 0x30,
     }
 }
@@ -309,7 +309,7 @@ fn record_step(s: &[u8], q: State) -> State
     requires { ⌜ q .at + length (now s) < 18446744073709551616 ⌝ }
     ensures { λ t. ⌜ t ≡ recordStep (now (s .entry)) q ⌝ }
 {
-    let r = kinds::row_of(lists::at8(s, 0));
+    let r = plan_kinds::row_of(lists::at8(s, 0));
     let x = fetch(s, r);
     let k = fault(r, x, s.len(), q);
     if !is_whole(k) {

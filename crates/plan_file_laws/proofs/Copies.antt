@@ -11,11 +11,11 @@ use lib.ListN.{set}
 use borrow.Author.Tests.{eqb-true, le-leb, lt-ltb, le-ltb, eq-eqb, ne-eqb}
 use Rattle.lists.specs.Ranges.{allFrom}
 use Rattle.lists.proofs.RangeLaws.{below-or-not, and-left, and-right, all-at}
-use Rattle.kinds.specs.declared.Record.{Record}
-use Rattle.kinds.specs.declared.Row.{Row}
-use Rattle.kinds.specs.Rows.{rowOf, lineOf}
-use Rattle.kinds.specs.Records.{codeOk, bitsOk, handleOk, handlesOk}
-use Rattle.kinds.proofs.Table.{holds, every-row}
+use Rattle.plan_kinds.specs.declared.Record.{Record}
+use Rattle.plan_kinds.specs.declared.Row.{Row}
+use Rattle.plan_kinds.specs.Rows.{rowOf, lineOf}
+use Rattle.plan_kinds.specs.Records.{codeOk, bitsOk, handleOk, handlesOk}
+use Rattle.plan_kinds.proofs.Table.{holds, every-row}
 use Rattle.plan.specs.declared.Plan.{Plan}
 use Rattle.plan.specs.Append.{withItem}
 use Rattle.plan.specs.Records.{columnRecord, exprRecord, exprStart, operatorRecord, operatorStart, itemRecord}
@@ -25,7 +25,7 @@ use Rattle.plan_rules.specs.Rules.{recordOk, itemOk, listsOk, exprOkOf, exprOk,
 use Rattle.plan_file.specs.declared.Wanted.{Wanted}
 use Rattle.plan_file.specs.declared.State.{State}
 use Rattle.plan_file.specs.Steps.{kindWanted, lessOne, listOf, scannedTwice}
-use Rattle.plan_file.proofs.Ways.{an-item, nextOf, wants-list}
+use Rattle.plan_file.proofs.StepCases.{an-item, nextOf, wants-list}
 use Rattle.plan_file_laws.specs.ListItems.{firstOf, secondOf, itemKind, ScanHas}
 use Rattle.plan_file_laws.specs.PlanRecords.{itemOf, itemsOf}
 use Rattle.plan_file_laws.proofs.RowFacts.{item-row, no-bits, handles-part}

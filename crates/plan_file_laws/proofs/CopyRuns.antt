@@ -12,8 +12,8 @@ use lib.Dec.{leb, eqb}
 use lib.ListN.{getD}
 use borrow.Author.Tests.{eq-eqb}
 use Rattle.lists.proofs.RangeLaws.{below-or-not}
-use Rattle.kinds.specs.declared.Record.{Record}
-use Rattle.kinds.specs.Rows.{rowOf}
+use Rattle.plan_kinds.specs.declared.Record.{Record}
+use Rattle.plan_kinds.specs.Rows.{rowOf}
 use Rattle.plan.specs.declared.Plan.{Plan}
 use Rattle.plan.specs.Plans.{emptyPlan}
 use Rattle.plan.specs.Append.{withColumn, withExpr, withOperator}
@@ -22,7 +22,7 @@ use Rattle.plan.specs.Extends.{Sized}
 use Rattle.plan.proofs.AppendLaws.{column-longer, expr-longer, operator-longer, new-column, new-expr, new-expr-start, new-operator, new-operator-start}
 use Rattle.plan_file.specs.declared.State.{State}
 use Rattle.plan_file.specs.Steps.{kindWanted, listOf, startState}
-use Rattle.plan_file.proofs.Ways.{a-column, an-expr, an-operator, nextOf}
+use Rattle.plan_file.proofs.StepCases.{a-column, an-expr, an-operator, nextOf}
 use Rattle.plan_file_laws.specs.ListItems.{itemKind, ScanHas}
 use Rattle.plan_file_laws.specs.PlanRecords.{itemOf, withItems, columnsTo, exprsTo, operatorsTo, planRecords}
 use Rattle.plan_file_laws.proofs.RowFacts.{column-row, expr-row, handles-part}

@@ -11,9 +11,9 @@ use lib.ListN.{getD, length, take, drop, length-append}
 use lib.Seq.{take-all, take-append-le, take-append-add, length-take-le, getD-take}
 use borrow.Author.Tests.{le-leb, lt-leb, ne-eqb}
 use Rattle.lists.proofs.RangeLaws.{below-or-not}
-use Rattle.kinds.specs.declared.Record.{Record}
-use Rattle.kinds.specs.declared.Row.{Row}
-use Rattle.kinds.specs.Rows.{rowOf}
+use Rattle.plan_kinds.specs.declared.Record.{Record}
+use Rattle.plan_kinds.specs.declared.Row.{Row}
+use Rattle.plan_kinds.specs.Rows.{rowOf}
 use Rattle.plan.specs.Plans.{emptyPlan}
 use Rattle.plan_file.specs.declared.Wanted.{Wanted}
 use Rattle.plan_file.specs.declared.State.{State}
@@ -22,7 +22,7 @@ use Rattle.plan_file.specs.declared.Reading.the-variants.{Whole, Short}
 use Rattle.plan_file.specs.Answers.{isWhole, refusalOf}
 use Rattle.plan_file.specs.Bytes.{recordFrom}
 use Rattle.plan_file.specs.Steps.{kindWanted, kindOk, faultOf, refusedBy, judgedStep, rowStep, recordStep, isDone, stepOf, stepsOf, startState, answerOf, readOf}
-use Rattle.plan_file.proofs.Turns.{read-early}
+use Rattle.plan_file.proofs.StepsTaken.{read-early}
 use Rattle.plan_file.proofs.Finish.{finished, lastOf, true-false}
 use Rattle.plan_file_laws.specs.ByteStrings.{Bytes}
 use Rattle.plan_file_laws.specs.Writing.{put2, put4, put8, putWord, putCode, putBits, putBody, putRecord, putRecords, recordsOf, Fits}

@@ -5,9 +5,9 @@ use mathlib.Core.Bool.{Bool, true, false, cond, _&&_, _||_}
 use mathlib.Core.Logic.{_⊎_, inl, inr, ⊎-elim}
 use lib.Dec.{eqb}
 use borrow.Author.Tests.{eqb-true}
-use Rattle.kinds.specs.declared.Row.{Row}
-use Rattle.kinds.specs.Rows.{rowOf}
-use Rattle.kinds.proofs.Table.{holds, every-row}
+use Rattle.plan_kinds.specs.declared.Row.{Row}
+use Rattle.plan_kinds.specs.Rows.{rowOf}
+use Rattle.plan_kinds.proofs.Table.{holds, every-row}
 use Rattle.lists.proofs.RangeLaws.{and-left, and-right}
 
 -- how many bytes a number takes, and a code that stands at the place n

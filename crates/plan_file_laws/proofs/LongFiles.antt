@@ -11,15 +11,15 @@ use lib.ListN.{getD, length, take, drop, length-drop}
 use lib.Seq.{length-take-le, getD-take, getD-drop}
 use borrow.Author.Tests.{eqb-true, leb-true, le-leb, lt-leb}
 use Rattle.lists.proofs.RangeLaws.{and-left, and-right}
-use Rattle.kinds.specs.declared.Record.{Record}
-use Rattle.kinds.specs.declared.Row.{Row}
-use Rattle.kinds.specs.Rows.{rowOf}
-use Rattle.kinds.proofs.Table.{holds, every-row}
+use Rattle.plan_kinds.specs.declared.Record.{Record}
+use Rattle.plan_kinds.specs.declared.Row.{Row}
+use Rattle.plan_kinds.specs.Rows.{rowOf}
+use Rattle.plan_kinds.proofs.Table.{holds, every-row}
 use Rattle.plan_file.specs.declared.State.{State}
 use Rattle.plan_file.specs.Answers.{isWhole}
 use Rattle.plan_file.specs.Bytes.{word2, word4, codeFrom, wordFrom, bitsFrom, recordFrom}
 use Rattle.plan_file.specs.Steps.{faultOf, judgedStep, rowStep, recordStep, isDone, stepOf, stepsOf, answerOf, readOf}
-use Rattle.plan_file.proofs.Turns.{read-early}
+use Rattle.plan_file.proofs.StepsTaken.{read-early}
 use Rattle.plan_file.proofs.Finish.{finished, true-false}
 use Rattle.plan_file_laws.proofs.Layouts.{or-cases}
 use Rattle.plan_file_laws.proofs.Longest.{at-most}

@@ -9,11 +9,11 @@ use lib.Dec.{ltb, leb, eqb}
 use lib.ListN.{length}
 use borrow.Author.Tests.{eqb-true, leb-true, ltb-true, eq-eqb, not-true}
 use Rattle.lists.proofs.RangeLaws.{and-left, and-right}
-use Rattle.kinds.specs.declared.Record.{Record}
-use Rattle.kinds.specs.declared.Row.{Row}
-use Rattle.kinds.specs.Rows.{rowOf, lineOf}
-use Rattle.kinds.specs.Records.{handleOk, handlesOk}
-use Rattle.kinds.proofs.Table.{holds, every-row}
+use Rattle.plan_kinds.specs.declared.Record.{Record}
+use Rattle.plan_kinds.specs.declared.Row.{Row}
+use Rattle.plan_kinds.specs.Rows.{rowOf, lineOf}
+use Rattle.plan_kinds.specs.Records.{handleOk, handlesOk}
+use Rattle.plan_kinds.proofs.Table.{holds, every-row}
 use Rattle.plan.specs.declared.Plan.{Plan}
 use Rattle.plan.specs.Plans.{emptyPlan}
 use Rattle.plan_file.specs.declared.Wanted.{Wanted}
@@ -21,7 +21,7 @@ use Rattle.plan_file.specs.declared.State.{State}
 use Rattle.plan_file.specs.declared.Reading.{Reading}
 use Rattle.plan_file.specs.Answers.{isWhole, refusalOf}
 use Rattle.plan_file.specs.Steps.{kindWanted, lessOne, refusedBy, stepsOf, startState, readOf}
-use Rattle.plan_file.proofs.Ways.{Way, a-column, an-expr, an-operator, an-item, steps-keep}
+use Rattle.plan_file.proofs.StepCases.{Way, a-column, an-expr, an-operator, an-item, steps-keep}
 use Rattle.plan_file.proofs.Finish.{accepted, refusal-none, true-false}
 use Rattle.plan_file_laws.proofs.RowFacts.{handles}
 use Rattle.plan_file_laws.proofs.Phases.{Within}

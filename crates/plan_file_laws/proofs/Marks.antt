@@ -11,9 +11,9 @@ use lib.ListN.{getD, set, length, length-set}
 use lib.Seq.{getD-set-same, getD-set-other}
 use borrow.Author.Tests.{eqb-true, leb-true, ltb-true, eq-eqb}
 use Rattle.lists.proofs.RangeLaws.{below-or-not, and-left, and-right}
-use Rattle.kinds.specs.declared.Record.{Record}
-use Rattle.kinds.specs.Rows.{rowOf, lineOf}
-use Rattle.kinds.specs.Records.{handleOk, handlesOk, countOf, moreOf}
+use Rattle.plan_kinds.specs.declared.Record.{Record}
+use Rattle.plan_kinds.specs.Rows.{rowOf, lineOf}
+use Rattle.plan_kinds.specs.Records.{handleOk, handlesOk, countOf, moreOf}
 use Rattle.plan.specs.declared.Plan.{Plan}
 use Rattle.plan.specs.Append.{withOperator, withItem}
 use Rattle.plan.specs.Records.{exprRecord, operatorRecord, operatorStart}

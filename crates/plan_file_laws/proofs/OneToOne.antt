@@ -9,8 +9,8 @@ use lib.Dec.{eqb}
 use lib.ListN.{length, length-append}
 use borrow.Author.Tests.{leb-true}
 use Rattle.lists.proofs.RangeLaws.{and-left, and-right}
-use Rattle.kinds.specs.declared.Record.{Record}
-use Rattle.kinds.specs.Rows.{rowOf}
+use Rattle.plan_kinds.specs.declared.Record.{Record}
+use Rattle.plan_kinds.specs.Rows.{rowOf}
 use Rattle.plan.specs.declared.Plan.{Plan}
 use Rattle.plan.specs.Plans.{emptyPlan}
 use Rattle.plan.specs.Records.{exprRecord, operatorRecord}
@@ -19,7 +19,7 @@ use Rattle.plan_file.specs.declared.Wanted.{Wanted}
 use Rattle.plan_file.specs.declared.State.{State}
 use Rattle.plan_file.specs.Answers.{isWhole}
 use Rattle.plan_file.specs.Steps.{kindWanted, startState, readOf}
-use Rattle.plan_file.proofs.Ways.{Way, a-column, an-expr, an-operator, an-item}
+use Rattle.plan_file.proofs.StepCases.{Way, a-column, an-expr, an-operator, an-item}
 use Rattle.plan_file.proofs.Finish.{lastOf}
 use Rattle.plan_file_laws.specs.ByteStrings.{Bytes}
 use Rattle.plan_file_laws.specs.Writing.{recordsOf, Fits}

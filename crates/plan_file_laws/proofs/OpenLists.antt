@@ -5,11 +5,11 @@ use native.Mathlib.Omega.{arith}
 use native.Mathlib.Decide.{decLt}
 use lib.Dec.{eqb}
 use borrow.Author.Tests.{lt-ltb, le-ltb}
-use Rattle.kinds.specs.declared.Record.{Record}
-use Rattle.kinds.specs.Rows.{rowOf, lineOf}
+use Rattle.plan_kinds.specs.declared.Record.{Record}
+use Rattle.plan_kinds.specs.Rows.{rowOf, lineOf}
 use Rattle.plan_file.specs.declared.Wanted.{Wanted}
 use Rattle.plan_file.specs.Steps.{kindWanted, lessOne, listOf}
-use Rattle.plan_file.proofs.Ways.{Wants}
+use Rattle.plan_file.proofs.StepCases.{Wants}
 use Rattle.plan_file_laws.specs.ListItems.{firstOf, secondOf, itemKind}
 
 -- the lists of x start at st, n items being there

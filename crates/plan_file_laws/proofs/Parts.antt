@@ -11,10 +11,10 @@ use lib.Dec.{eqb}
 use lib.ListN.{drop}
 use borrow.Author.Tests.{eqb-true, eq-eqb, ne-eqb}
 use Rattle.lists.proofs.RangeLaws.{and-left, and-right}
-use Rattle.kinds.specs.declared.Record.{Record}
-use Rattle.kinds.specs.declared.Row.{Row}
-use Rattle.kinds.specs.Rows.{Line, kinds, rowOf, lineOf}
-use Rattle.kinds.proofs.Table.{holds, every-row}
+use Rattle.plan_kinds.specs.declared.Record.{Record}
+use Rattle.plan_kinds.specs.declared.Row.{Row}
+use Rattle.plan_kinds.specs.Rows.{Line, kinds, rowOf, lineOf}
+use Rattle.plan_kinds.proofs.Table.{holds, every-row}
 use Rattle.plan.specs.declared.Plan.{Plan}
 use Rattle.plan.specs.Append.{withColumn, withExpr, withOperator, withItem}
 use Rattle.plan.specs.Records.{exprRecord, exprStart, operatorRecord, operatorStart, itemRecord}
@@ -22,7 +22,7 @@ use Rattle.plan.specs.Extends.{Extends, Sized}
 use Rattle.plan.proofs.AppendLaws.{column-longer, expr-longer, operator-longer, item-longer, new-column, new-expr, new-expr-start, new-operator, new-operator-start, new-item}
 use Rattle.plan_file.specs.declared.Wanted.{Wanted}
 use Rattle.plan_file.specs.Steps.{kindWanted, lessOne, listOf}
-use Rattle.plan_file.proofs.Ways.{Wants}
+use Rattle.plan_file.proofs.StepCases.{Wants}
 use Rattle.plan_file_laws.specs.ListItems.{firstOf, secondOf, itemKind}
 use Rattle.plan_file_laws.specs.Writing.{Fits}
 use Rattle.plan_file_laws.specs.PlanRecords.{itemOf, itemsOf, withItems, columnsTo, exprsTo, operatorsTo, belongs, partFrom, partOf}

@@ -9,11 +9,11 @@ use native.Mathlib.Nat.{le-trans}
 use lib.Dec.{leb}
 use borrow.Author.Tests.{leb-true, le-leb, lt-ltb, le-ltb, eq-eqb, ne-eqb}
 use Rattle.lists.proofs.RangeLaws.{below-or-not, and-left, and-right, and-both, all-of}
-use Rattle.kinds.specs.declared.Record.{Record}
-use Rattle.kinds.specs.declared.Row.{Row}
-use Rattle.kinds.specs.Rows.{rowOf}
-use Rattle.kinds.specs.Records.{codeOk, bitsOk, handlesOk, countOf, moreOf}
-use Rattle.kinds.proofs.Table.{column-codes}
+use Rattle.plan_kinds.specs.declared.Record.{Record}
+use Rattle.plan_kinds.specs.declared.Row.{Row}
+use Rattle.plan_kinds.specs.Rows.{rowOf}
+use Rattle.plan_kinds.specs.Records.{codeOk, bitsOk, handlesOk, countOf, moreOf}
+use Rattle.plan_kinds.proofs.Table.{column-codes}
 use Rattle.plan.specs.declared.Plan.{Plan}
 use Rattle.plan.specs.Append.{withColumn, withExpr, withOperator, withItem}
 use Rattle.plan.specs.Records.{exprRecord, exprStart, operatorRecord, operatorStart, itemRecord}
@@ -23,7 +23,7 @@ use Rattle.plan_rules.specs.Rules.{recordOk, itemOk, listsOk, columnOk, exprOkO
 use Rattle.plan_rules.proofs.RuleLaws.{expr-kept, operator-kept}
 use Rattle.plan_file.specs.declared.Wanted.{Wanted}
 use Rattle.plan_file.specs.Steps.{kindWanted, lessOne, listOf}
-use Rattle.plan_file.proofs.Ways.{Wants}
+use Rattle.plan_file.proofs.StepCases.{Wants}
 use Rattle.plan_file_laws.specs.ListItems.{firstOf, secondOf, itemKind}
 use Rattle.plan_file_laws.proofs.RowFacts.{item-row, expr-row, ColumnRow, column-row, no-bits, handles-part}
 use Rattle.plan_file_laws.proofs.OpenLists.{Open, some-left, open-shut, open-kind, open-less, open-new}

@@ -9,11 +9,11 @@ use lib.Dec.{eqb}
 use lib.ListN.{getD, drop}
 use lib.Seq.{getD-drop}
 use borrow.Author.Tests.{eqb-true, eqb-false, eq-eqb, ne-eqb, lt-ltb, not-true}
-use Rattle.kinds.specs.declared.Record.{Record}
-use Rattle.kinds.specs.declared.Row.{Row}
-use Rattle.kinds.specs.Rows.{rowOf}
-use Rattle.kinds.specs.Records.{bitsOk, handleOk, handlesOk}
-use Rattle.kinds.proofs.Table.{holds, every-row}
+use Rattle.plan_kinds.specs.declared.Record.{Record}
+use Rattle.plan_kinds.specs.declared.Row.{Row}
+use Rattle.plan_kinds.specs.Rows.{rowOf}
+use Rattle.plan_kinds.specs.Records.{bitsOk, handleOk, handlesOk}
+use Rattle.plan_kinds.proofs.Table.{holds, every-row}
 use Rattle.lists.proofs.RangeLaws.{and-left, and-right, and-both}
 use Rattle.plan_file.specs.Bytes.{bitsFrom, recordFrom}
 use Rattle.plan_file_laws.specs.ByteStrings.{Bytes}

@@ -9,10 +9,10 @@ use lib.ListN.{getD, length, drop, replicate, length-replicate, List·getD-eq-de
 use borrow.Author.Tests.{eqb-true, eqb-false, le-leb, eq-eqb, ne-eqb, not-true}
 use Rattle.lists.specs.Ranges.{anyFrom, countFrom}
 use Rattle.lists.proofs.RangeLaws.{and-left, and-right, count-none}
-use Rattle.kinds.specs.declared.Record.{Record}
-use Rattle.kinds.specs.declared.Row.{Row}
-use Rattle.kinds.specs.Rows.{rowOf}
-use Rattle.kinds.specs.Records.{bitsOk}
+use Rattle.plan_kinds.specs.declared.Record.{Record}
+use Rattle.plan_kinds.specs.declared.Row.{Row}
+use Rattle.plan_kinds.specs.Rows.{rowOf}
+use Rattle.plan_kinds.specs.Records.{bitsOk}
 use Rattle.plan.specs.declared.Plan.{Plan}
 use Rattle.plan.specs.Plans.{emptyPlan}
 use Rattle.plan.specs.Append.{withColumn, withExpr}
@@ -26,7 +26,7 @@ use Rattle.plan_file.specs.declared.State.{State}
 use Rattle.plan_file.specs.Answers.{isWhole}
 use Rattle.plan_file.specs.Bytes.{recordFrom}
 use Rattle.plan_file.specs.Steps.{kindWanted, scannedTwice, stepsOf, startState, readOf}
-use Rattle.plan_file.proofs.Ways.{Wants, Way, a-column, an-expr, an-operator, an-item, Taking, wants-way, steps-keep}
+use Rattle.plan_file.proofs.StepCases.{Wants, Way, a-column, an-expr, an-operator, an-item, Taking, wants-way, steps-keep}
 use Rattle.plan_file.proofs.Finish.{accepted, refused-empty}
 use Rattle.plan_file_laws.specs.ByteStrings.{Bytes}
 use Rattle.plan_file_laws.specs.ListItems.{ScanHas}

@@ -7,7 +7,7 @@ use native.Mathlib.Omega.{arith}
 use lib.ListN.{getD, set, length, replicate}
 use lib.Seq.{getD-set-other, ext-getD}
 use Rattle.lists.proofs.RangeLaws.{below-or-not}
-use Rattle.kinds.specs.declared.Record.{Record}
+use Rattle.plan_kinds.specs.declared.Record.{Record}
 use Rattle.plan.specs.declared.Columns.{Columns}
 use Rattle.plan.specs.declared.Expressions.{Expressions}
 use Rattle.plan.specs.declared.Operators.{Operators}
@@ -21,7 +21,7 @@ use Rattle.plan.proofs.AppendLaws.{column-longer, expr-longer, operator-longer,
 use Rattle.plan_file.specs.declared.Wanted.{Wanted}
 use Rattle.plan_file.specs.declared.State.{State}
 use Rattle.plan_file.specs.Steps.{kindWanted, startState}
-use Rattle.plan_file.proofs.Ways.{Way, a-column, an-expr, an-operator, an-item}
+use Rattle.plan_file.proofs.StepCases.{Way, a-column, an-expr, an-operator, an-item}
 use Rattle.plan_file_laws.proofs.OpenLists.{Open, some-left}
 use Rattle.plan_file_laws.proofs.Phases.{Phase, closed, open-expr, open-operator}
 use Rattle.plan_file_laws.proofs.RulesRead.{Kept, no-mark}

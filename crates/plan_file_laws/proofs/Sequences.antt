@@ -9,18 +9,18 @@ use lib.Dec.{eqb}
 use lib.ListN.{getD, length, drop, length-append, length-drop}
 use lib.Seq.{drop-drop, drop-length}
 use borrow.Author.Tests.{le-leb, lt-leb, eq-eqb, ne-eqb}
-use Rattle.kinds.specs.declared.Record.{Record}
-use Rattle.kinds.specs.declared.Row.{Row}
-use Rattle.kinds.specs.Rows.{rowOf}
-use Rattle.kinds.specs.Records.{codeOk, handlesOk}
+use Rattle.plan_kinds.specs.declared.Record.{Record}
+use Rattle.plan_kinds.specs.declared.Row.{Row}
+use Rattle.plan_kinds.specs.Rows.{rowOf}
+use Rattle.plan_kinds.specs.Records.{codeOk, handlesOk}
 use Rattle.plan.specs.Append.{appendColumn, appendExpr, appendOperator, appendItem}
 use Rattle.plan_file.specs.declared.State.{State}
 use Rattle.plan_file.specs.declared.Reading.the-variants.{Whole}
 use Rattle.plan_file.specs.Answers.{isWhole, isAdded}
 use Rattle.plan_file.specs.Bytes.{wordFrom, bitsFrom, recordFrom}
 use Rattle.plan_file.specs.Steps.{kindWanted, kindOk, scannedTwice, faultOf, appendOf, wantedAfter, scansAfter, takenBy, appendedStep, judgedStep, rowStep, recordStep, isDone, stepOf, stepsOf, startState, answerOf, readOf}
-use Rattle.plan_file.proofs.Turns.{read-early}
-use Rattle.plan_file.proofs.Ways.{Way, a-column, an-expr, an-operator, an-item, Taking, steps-keep}
+use Rattle.plan_file.proofs.StepsTaken.{read-early}
+use Rattle.plan_file.proofs.StepCases.{Way, a-column, an-expr, an-operator, an-item, Taking, steps-keep}
 use Rattle.plan_file.proofs.Finish.{accepted, lastOf, taken-at, true-false}
 use Rattle.plan_file_laws.specs.ByteStrings.{Bytes}
 use Rattle.plan_file_laws.specs.Writing.{putRecord, putRecords, recordsOf, Fits}

@@ -6,8 +6,8 @@ use mathlib.Core.Bool.{Bool, true, false, cond}
 use mathlib.Core.List.{List, [], _∷_, _++_}
 use native.Mathlib.Omega.{arith}
 use native.Mathlib.Numerals.{add-one}
-use Rattle.kinds.specs.declared.Record.{Record}
-use Rattle.kinds.specs.Rows.{rowOf}
+use Rattle.plan_kinds.specs.declared.Record.{Record}
+use Rattle.plan_kinds.specs.Rows.{rowOf}
 use Rattle.plan.specs.declared.Plan.{Plan}
 use Rattle.plan.specs.Plans.{emptyPlan}
 use Rattle.plan.specs.Append.{withExpr, withOperator}
@@ -20,7 +20,7 @@ use Rattle.plan_file.specs.declared.Answer.{Answer}
 use Rattle.plan_file.specs.declared.Reading.the-variants.{Whole}
 use Rattle.plan_file.specs.Answers.{isWhole}
 use Rattle.plan_file.specs.Steps.{kindWanted, startState, readOf}
-use Rattle.plan_file.proofs.Ways.{Wants, Way, a-column, an-expr, an-operator, an-item}
+use Rattle.plan_file.proofs.StepCases.{Wants, Way, a-column, an-expr, an-operator, an-item}
 use Rattle.plan_file.proofs.Finish.{lastOf}
 use Rattle.plan_file_laws.specs.ByteStrings.{Bytes}
 use Rattle.plan_file_laws.specs.Writing.{putRecords, recordsOf, Fits}

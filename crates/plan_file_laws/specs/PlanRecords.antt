@@ -3,8 +3,8 @@ use Prim.Native.Nat.{ℕ, zero, suc, _+_}
 use mathlib.Core.Bool.{Bool, false, cond}
 use mathlib.Core.List.{List, [], _∷_, _++_}
 use lib.Dec.{eqb}
-use Rattle.kinds.specs.declared.Record.{Record}
-use Rattle.kinds.specs.Rows.{rowOf, columns, expressions, operators, items}
+use Rattle.plan_kinds.specs.declared.Record.{Record}
+use Rattle.plan_kinds.specs.Rows.{rowOf, columns, expressions, operators, items}
 use Rattle.plan.specs.declared.Plan.{Plan}
 use Rattle.plan.specs.Records.{columnRecord, exprRecord, exprStart, operatorRecord, operatorStart, itemRecord}
 use Rattle.plan_file_laws.specs.ListItems.{firstOf, secondOf, itemKind}

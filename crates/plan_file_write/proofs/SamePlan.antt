@@ -8,9 +8,9 @@ use borrow.Author.Tests.{ltb-true, eqb-true}
 use lib.Dec.{eqb, ltb}
 use lib.ListN.{getD}
 use Rattle.lists.proofs.RangeLaws.{and-left, and-right}
-use Rattle.kinds.specs.declared.Record.{Record}
-use Rattle.kinds.specs.Rows.{rowOf, expressions}
-use Rattle.kinds.specs.Records.{codeOk, bitsOk}
+use Rattle.plan_kinds.specs.declared.Record.{Record}
+use Rattle.plan_kinds.specs.Rows.{rowOf, expressions}
+use Rattle.plan_kinds.specs.Records.{codeOk, bitsOk}
 use Rattle.plan.specs.declared.Plan.{Plan}
 use Rattle.plan.specs.Records.{columnRecord, exprRecord, exprStart, operatorRecord, operatorStart}
 use Rattle.plan_rules.specs.Rules.{planOk, recordOk, exprOkOf}

@@ -6,12 +6,12 @@ use mathlib.Core.List.{List, [], _∷_, _++_}
 use lib.Dec.{eqb}
 use native.Mathlib.Omega.{arith}
 use borrow.Author.Tests.{lt-ltb, le-ltb, eqb-true}
-use Rattle.kinds.specs.Rows.{rowOf}
-use Rattle.kinds.specs.Records.{countOf}
+use Rattle.plan_kinds.specs.Rows.{rowOf}
+use Rattle.plan_kinds.specs.Records.{countOf}
 use Rattle.plan_file_laws.specs.ListItems.{firstOf, itemKind}
 use Rattle.plan_file_write.specs.Written.{clippedBits, recordBytes}
-use Rattle.kinds.specs.declared.Record.{Record}
-use Rattle.kinds.specs.declared.Row.{Row}
+use Rattle.plan_kinds.specs.declared.Record.{Record}
+use Rattle.plan_kinds.specs.declared.Row.{Row}
 use Rattle.plan_file_laws.specs.Writing.{Fits, put2, putWord, putCode, putBits, putBody, putRecord}
 
 pub word-rest : (sort v : ℕ) (u : List ℕ) → putWord sort v u ≡ putWord sort v [] ++ u

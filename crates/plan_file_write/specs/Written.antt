@@ -5,9 +5,9 @@ use mathlib.Core.List.{List, [], _∷_, _++_}
 use lib.Dec.{eqb}
 use lib.ListN.{getD}
 use Rattle.writing.specs.Text.{lines}
-use Rattle.kinds.specs.declared.Record.{Record}
-use Rattle.kinds.specs.declared.Row.{Row}
-use Rattle.kinds.specs.Rows.{rowOf}
+use Rattle.plan_kinds.specs.declared.Record.{Record}
+use Rattle.plan_kinds.specs.declared.Row.{Row}
+use Rattle.plan_kinds.specs.Rows.{rowOf}
 use Rattle.plan.specs.declared.Plan.{Plan}
 use Rattle.plan.specs.Records.{exprRecordOf, operatorRecordOf, itemRecordOf}
 use Rattle.plan_file_laws.specs.ListItems.{firstOf, secondOf, itemKind}

@@ -1,12 +1,12 @@
 // Writing a plan as a plan file. Each function stores bytes into `out` from the place `at` on and answers the place after them; what does not
 // fit is left out.
-use kinds::Record;
-use kinds::Row;
 use plan::Columns;
 use plan::Expressions;
 use plan::Items;
 use plan::Operators;
 use plan::Plan;
+use plan_kinds::Record;
+use plan_kinds::Row;
 ghost use mathlib.Core.Path.{_≡_};
 ghost use mathlib.Core.List.{[]};
 ghost use Rattle.writing.specs.Text.{Wrote, lines};
@@ -84,7 +84,7 @@ fn put_body(out: &mut [u8], at: usize, r: Row, x: Record) -> usize
 fn put_record(out: &mut [u8], at: usize, x: Record) -> usize
     ensures { λ r. ⌜ Wrote (now (out .entry)) at (now (out .exit)) r (recordBytes x) ⌝ }
 {
-    let row = kinds::row_of(x.kind);
+    let row = plan_kinds::row_of(x.kind);
     let p = writing::byte(out, at, x.kind);
     put_body(out, p, row, x)
 }
@@ -95,8 +95,8 @@ fn put_record(out: &mut [u8], at: usize, x: Record) -> usize
 fn item_kind(x: Record, k: u32) -> u8
     ensures { λ r. ⌜ r ≡ itemKind x k ⌝ }
 {
-    let row = kinds::row_of(x.kind);
-    let first = kinds::count_of(row, x) as u32;
+    let row = plan_kinds::row_of(x.kind);
+    let first = plan_kinds::count_of(row, x) as u32;
     if k < first { row.item } else { 0x40 }
 }
 
@@ -130,8 +130,8 @@ fn put_item<'a>(
 fn put_items<'a>(out: &mut [u8], at: usize, a: &'a [u16], b: &'a [u16], x: Record, st: u16) -> usize
     ensures { λ r. ⌜ Wrote (now (out .entry)) at (now (out .exit)) r (itemsBytes (now (a .entry)) (now (b .entry)) x st) ⌝ }
 {
-    let row = kinds::row_of(x.kind);
-    let n = kinds::count_of(row, x) as u32 + kinds::more_of(row, x) as u32;
+    let row = plan_kinds::row_of(x.kind);
+    let n = plan_kinds::count_of(row, x) as u32 + plan_kinds::more_of(row, x) as u32;
     let mut p = at;
     let mut k: u32 = 0;
     while k < n {

@@ -11,9 +11,9 @@ use lib.ListN.{getD}
 use borrow.Author.Tests.{leb-true, ltb-true, le-leb, eqb-true, ne-eqb}
 use Rattle.lists.specs.Ranges.{allFrom, anyFrom, countFrom}
 use Rattle.lists.proofs.RangeLaws.{below-or-not, and-left, and-right, and-both, all-at, any-same, any-none, count-same, count-none}
-use Rattle.kinds.specs.declared.Record.{Record}
-use Rattle.kinds.specs.Rows.{rowOf, lineOf}
-use Rattle.kinds.specs.Records.{handleOk, handlesOk, countOf, moreOf}
+use Rattle.plan_kinds.specs.declared.Record.{Record}
+use Rattle.plan_kinds.specs.Rows.{rowOf, lineOf}
+use Rattle.plan_kinds.specs.Records.{handleOk, handlesOk, countOf, moreOf}
 use Rattle.plan.specs.declared.Plan.{Plan}
 use Rattle.plan.specs.Append.{withColumn, withExpr, withOperator, withItem}
 use Rattle.plan.specs.Records.{itemRecordOf, exprRecord, exprStart, operatorRecord, operatorStart, itemRecord}

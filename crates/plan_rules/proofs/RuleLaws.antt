@@ -11,10 +11,10 @@ use lib.ListN.{getD}
 use borrow.Author.Tests.{leb-true, ltb-true, le-leb, lt-ltb}
 use Rattle.lists.specs.Ranges.{allFrom, anyFrom, countFrom}
 use Rattle.lists.proofs.RangeLaws.{below-or-not, and-left, and-right, and-both, all-at, all-of, all-mono, any-same, count-same}
-use Rattle.kinds.specs.declared.Record.{Record}
-use Rattle.kinds.specs.declared.Row.{Row}
-use Rattle.kinds.specs.Rows.{rowOf}
-use Rattle.kinds.specs.Records.{codeOk, bitsOk, handleOk, handlesOk, countOf, moreOf}
+use Rattle.plan_kinds.specs.declared.Record.{Record}
+use Rattle.plan_kinds.specs.declared.Row.{Row}
+use Rattle.plan_kinds.specs.Rows.{rowOf}
+use Rattle.plan_kinds.specs.Records.{codeOk, bitsOk, handleOk, handlesOk, countOf, moreOf}
 use Rattle.plan.specs.declared.Plan.{Plan}
 use Rattle.plan.specs.Records.{itemRecordOf, exprRecord, exprStart, operatorRecord, operatorStart, itemRecord}
 use Rattle.plan.specs.Extends.{Extends}

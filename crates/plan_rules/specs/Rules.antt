@@ -6,9 +6,9 @@ use mathlib.Core.List.{List}
 use lib.Dec.{leb, eqb}
 use lib.ListN.{getD}
 use Rattle.lists.specs.Ranges.{allFrom, anyFrom, countFrom}
-use Rattle.kinds.specs.declared.Record.{Record}
-use Rattle.kinds.specs.Rows.{rowOf, expressions, operators}
-use Rattle.kinds.specs.Records.{codeOk, bitsOk, handlesOk, countOf, moreOf}
+use Rattle.plan_kinds.specs.declared.Record.{Record}
+use Rattle.plan_kinds.specs.Rows.{rowOf, expressions, operators}
+use Rattle.plan_kinds.specs.Records.{codeOk, bitsOk, handlesOk, countOf, moreOf}
 use Rattle.plan.specs.declared.Plan.{Plan}
 use Rattle.plan.specs.Records.{exprRecordOf, operatorRecordOf, itemRecordOf}
 

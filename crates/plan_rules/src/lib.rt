@@ -1,7 +1,7 @@
 // Whether a plan keeps the rules. What is passed in from outside is tested here once; the reader's plans always pass.
-use kinds::Record;
-use kinds::Row;
 use plan::Plan;
+use plan_kinds::Record;
+use plan_kinds::Row;
 ghost use mathlib.Core.Path.{_≡_};
 ghost use mathlib.Core.Bool.{_&&_};
 ghost use Prim.Native.Nat.{ℕ, _+_, _≤_};
@@ -14,10 +14,10 @@ ghost use Rattle.plan_rules.specs.Rules.{recordOk, itemOk, listsOk, colu
 fn record_ok(sort: u8, x: Record, nc: u16, ne: u16, np: u16) -> bool
     ensures { λ r. ⌜ r ≡ recordOk sort x nc ne np ⌝ }
 {
-    let row = kinds::row_of(x.kind);
+    let row = plan_kinds::row_of(x.kind);
     if row.sort == sort {
-        return kinds::code_ok(row, x)
-            & (kinds::bits_ok(row, x) & kinds::handles_ok(row, x, nc, ne, np));
+        return plan_kinds::code_ok(row, x)
+            & (plan_kinds::bits_ok(row, x) & plan_kinds::handles_ok(row, x, nc, ne, np));
     }
     false
 }
@@ -26,9 +26,9 @@ fn record_ok(sort: u8, x: Record, nc: u16, ne: u16, np: u16) -> bool
 fn item_ok<'a>(a: &'a [u16], b: &'a [u16], kind: u8, nc: u16, ne: u16, np: u16, j: usize) -> bool
     ensures { λ r. ⌜ r ≡ itemOk (now (a .entry)) (now (b .entry)) kind nc ne np j ⌝ }
 {
-    let row = kinds::row_of(kind);
+    let row = plan_kinds::row_of(kind);
     let x = plan::item_record(a, b, j);
-    kinds::handles_ok(row, x, nc, ne, np)
+    plan_kinds::handles_ok(row, x, nc, ne, np)
 }
 
 // So have the n items from `from` on.
@@ -69,10 +69,10 @@ fn lists_ok<'a>(
 ) -> bool
     ensures { λ r. ⌜ r ≡ listsOk (now (a .entry)) (now (b .entry)) used x start nc ne np ⌝ }
 {
-    let row = kinds::row_of(x.kind);
+    let row = plan_kinds::row_of(x.kind);
     let st = start as usize;
-    let first = kinds::count_of(row, x) as usize;
-    let more = kinds::more_of(row, x) as usize;
+    let first = plan_kinds::count_of(row, x) as usize;
+    let more = plan_kinds::more_of(row, x) as usize;
     if st + (first + more) <= used as usize {
         return items_ok(a, b, row.item, nc, ne, np, st, first)
             & items_ok(a, b, 0x40, nc, ne, np, st + first, more);
@@ -122,7 +122,7 @@ fn expr_ok<'a>(
 {
     let x = plan::expr_record(kind, code, a, b, bits, i as usize);
     let st = lists::at16(start, i as usize);
-    record_ok(kinds::EXPRESSIONS, x, nc, i, np) & lists_ok(ia, ib, used, x, st, nc, i + 1, np)
+    record_ok(plan_kinds::EXPRESSIONS, x, nc, i, np) & lists_ok(ia, ib, used, x, st, nc, i + 1, np)
 }
 
 // So do the first n.
@@ -173,7 +173,7 @@ fn operator_ok<'a>(
 {
     let x = plan::operator_record(kind, code, a, b, c, d, i as usize);
     let st = lists::at16(start, i as usize);
-    record_ok(kinds::OPERATORS, x, nc, ne, i) & lists_ok(ia, ib, used, x, st, nc, ne, i)
+    record_ok(plan_kinds::OPERATORS, x, nc, ne, i) & lists_ok(ia, ib, used, x, st, nc, ne, i)
 }
 
 // So do the first n.

@@ -4,8 +4,8 @@ use Rattle.plan.specs.declared.Plan.{Plan}
 use Rattle.rows.specs.Compare.{truthOf}
 use Rattle.rows.specs.declared.Evaluation.{Evaluation}
 use Rattle.rows.specs.declared.Evaluation.the-variants as E
-use Rattle.simplifying.specs.declared.Rewrite.{Rewrite}
-use Rattle.simplifying.specs.declared.Rewrite.the-variants as W
+use Rattle.simplify_spec.specs.declared.Rewrite.{Rewrite}
+use Rattle.simplify_spec.specs.declared.Rewrite.the-variants as W
 
 -- the last operator, and 0, which no plan without operators has
 abbrev pub lastOf : Plan → ℕ

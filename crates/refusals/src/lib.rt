@@ -1,17 +1,17 @@
 // The answers of reading, deriving, applying, simplifying and evaluating in 01's numbers: the number of the refusal, 0 for none, and the number
 // that goes with it.
-use deriving::DeriveOutcome;
+use apply_spec::Outcome;
+use derive_spec::DeriveOutcome;
 use plan::Plan;
 use plan_file::Reading;
-use predicates::Outcome;
 use rows::Evaluation;
-use simplifying::Rewrite;
+use simplify_spec::Rewrite;
 ghost use mathlib.Core.Path.{_≡_};
 ghost use Rattle.plan_file.specs.Answers as Files;
 ghost use Rattle.rows.specs.Evaluate as Evaluating;
-ghost use Rattle.predicates.specs.Facts as Applying;
-ghost use Rattle.deriving.specs.Operators as Deriving;
-ghost use Rattle.simplifying.specs.OneOperator as Simplifying;
+ghost use Rattle.apply_spec.specs.Facts as Applying;
+ghost use Rattle.derive_spec.specs.Operators as Deriving;
+ghost use Rattle.simplify_spec.specs.OneOperator as Simplifying;
 ghost use Rattle.refusals.specs.Numbers.{lastOf, standingOf, truthFound};
 
 pub fn reading_number(r: Reading) -> u8

@@ -5,4 +5,4 @@ pub mod ValueLaws
 pub mod TypingLaws
 pub mod AnswerLaws
 pub mod CompareLaws
-pub mod Cases
+pub mod SqlExamples

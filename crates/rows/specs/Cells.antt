@@ -5,9 +5,9 @@ use Prim.Native.Nat.{ℕ}
 use lib.Dec.{leb}
 use lib.ListN.{getD}
 use Rattle.lists.specs.Ranges.{allFrom}
-use Rattle.kinds.specs.Rows.{rowOf}
-use Rattle.kinds.specs.Records.{codeOk, bitsOk}
-use Rattle.kinds.specs.declared.Record.{Record}
+use Rattle.plan_kinds.specs.Rows.{rowOf}
+use Rattle.plan_kinds.specs.Records.{codeOk, bitsOk}
+use Rattle.plan_kinds.specs.declared.Record.{Record}
 use Rattle.scalar.specs.Kinds.{kindOf, isNull, kindOfCode, sameKind}
 use Rattle.scalar.specs.Coded.{scalarOf}
 use Rattle.scalar.specs.declared.ScalarValue.{ScalarValue}

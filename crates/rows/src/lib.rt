@@ -1,11 +1,11 @@
 // Rows and truth: the value of an expression on a row, by SQL's three truth values.
 use comparison::BinaryOp;
-use kinds::Record;
 use plan::Expr;
 use plan::Plan;
 use plan_data::ExprData;
 use plan_data::NaryOp;
 use plan_data::UnaryOp;
+use plan_kinds::Record;
 use scalar::Kind;
 use scalar::ScalarValue;
 ghost use mathlib.Core.Path.{_≡_};
@@ -466,7 +466,7 @@ fn typed_at<'a>(
 fn cell_ok(k: u8, case: u8, code: u8, bits: u64) -> bool
     ensures { λ r. ⌜ r ≡ cellOk k case code bits ⌝ }
 {
-    let row = kinds::row_of(case);
+    let row = plan_kinds::row_of(case);
     let x = Record {
         kind: case,
         code,
@@ -479,7 +479,7 @@ fn cell_ok(k: u8, case: u8, code: u8, bits: u64) -> bool
     let v = scalar::scalar_of(case, code, bits);
     let fits = scalar::is_null(v) | scalar::same_kind(scalar::kind_of(v), scalar::kind_of_code(k));
     let listed = (0x10 <= case)
-        & ((case <= 0x15) & (kinds::code_ok(row, x) & kinds::bits_ok(row, x)));
+        & ((case <= 0x15) & (plan_kinds::code_ok(row, x) & plan_kinds::bits_ok(row, x)));
     listed & fits
 }
 

@@ -14,7 +14,7 @@ use Rattle.scalar.specs.Kinds.{kindOfCode, sameKind}
 use Rattle.scalar.specs.declared.Kind.{Kind}
 use Rattle.scalar.specs.declared.Kind.the-variants as K
 use Rattle.scalar.specs.declared.ScalarValue.{ScalarValue}
-use Rattle.kinds.specs.declared.Record.{Record}
+use Rattle.plan_kinds.specs.declared.Record.{Record}
 use Rattle.plan.specs.declared.Plan.{Plan}
 use Rattle.plan.specs.Extends.{Extends, Sized}
 use Rattle.plan_rules.proofs.RuleLaws.{Rules}

@@ -10,9 +10,9 @@ use lib.ListN.{getD}
 use borrow.Author.Tests.{eqb-true, ltb-true, leb-true}
 use Rattle.lists.specs.Ranges.{allFrom}
 use Rattle.lists.proofs.RangeLaws.{and-left, and-right, all-at}
-use Rattle.kinds.specs.declared.Record.{Record}
-use Rattle.kinds.specs.Rows.{rowOf, lineOf}
-use Rattle.kinds.specs.Records.{codeOk, bitsOk, handleOk, handlesOk, countOf, moreOf}
+use Rattle.plan_kinds.specs.declared.Record.{Record}
+use Rattle.plan_kinds.specs.Rows.{rowOf, lineOf}
+use Rattle.plan_kinds.specs.Records.{codeOk, bitsOk, handleOk, handlesOk, countOf, moreOf}
 use Rattle.scalar.specs.Coded.{scalarOf}
 use Rattle.comparison.specs.Operators.{binaryOpOf}
 use Rattle.plan.specs.declared.Plan.{Plan}

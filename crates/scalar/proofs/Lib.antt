@@ -7,5 +7,5 @@ pub mod Apart
 pub mod ScalarLaws
 pub mod Turned
 pub mod CodedLaws
-pub mod Owned
-pub mod Cases
+pub mod ScalarTyped
+pub mod ConversionEdges

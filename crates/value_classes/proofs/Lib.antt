@@ -2,4 +2,4 @@ pub mod RootLaws
 pub mod MemberLaws
 pub mod Unions
 pub mod Chains
-pub mod Cases
+pub mod UnionExamples

@@ -1,3 +1,3 @@
 pub mod Bools
 pub mod RangeLaws
-pub mod Cases
+pub mod RangeExamples

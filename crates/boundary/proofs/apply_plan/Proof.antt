@@ -8,7 +8,7 @@ use Rattle.boundary.proofs.apply_plan.Lts as lts
 use Rattle.boundary.proofs.in_turn.Reads as in-turn-reads
 use Rattle.boundary.proofs.refused_deriving.Reads as refused-deriving-reads
 use Rattle.boundary.proofs.turn_reply.Reads as turn-reply-reads
-use Rattle.derive_facts.proofs.derive_logical_facts.Reads as derive-logical-facts-reads
+use Rattle.derive_logical_facts.proofs.derive_logical_facts.Reads as derive-logical-facts-reads
 use Rattle.refusals.proofs.derive_number.Reads as derive-number-reads
 
 -- src/lib.rt:115:9

@@ -6,8 +6,8 @@ use Rattle.boundary.proofs.derive_plan.Tie as tie
 use Rattle.boundary.proofs.derive_plan.Reads as reads
 use Rattle.boundary.proofs.derive_plan.Lts as lts
 use Rattle.boundary.proofs.refused_deriving.Reads as refused-deriving-reads
-use Rattle.derive_facts.proofs.derive_logical_facts.Reads as derive-logical-facts-reads
-use Rattle.identities.proofs.identities_of.Reads as identities-of-reads
+use Rattle.derive_logical_facts.proofs.derive_logical_facts.Reads as derive-logical-facts-reads
+use Rattle.plan_identities.proofs.identities_of.Reads as identities-of-reads
 use Rattle.listing.proofs.listing.Reads as listing-reads
 use Rattle.refusals.proofs.derive_number.Reads as derive-number-reads
 

@@ -6,7 +6,7 @@ use Rattle.boundary.proofs.turn_reply.Tie as tie
 use Rattle.boundary.proofs.turn_reply.Reads as reads
 use Rattle.boundary.proofs.turn_reply.Lts as lts
 use Rattle.boundary.proofs.head.Reads as head-reads
-use Rattle.identities.proofs.identities_of.Reads as identities-of-reads
+use Rattle.plan_identities.proofs.identities_of.Reads as identities-of-reads
 use Rattle.listing.proofs.listing.Reads as listing-reads
 use Rattle.refusals.proofs.outcome_number.Reads as outcome-number-reads
 

@@ -16,8 +16,8 @@ use Rattle.constraint_merge.proofs.join_settled.Reads as reads
 use Rattle.constraint_merge.proofs.join_settled.Lts as lts
 use Rattle.constraint_set.proofs.place_of.Reads as place-of-reads
 use Rattle.constraint_merge.proofs.root_pair.Reads as root-pair-reads
-use Rattle.constraints.proofs.Entry.empty.Reads as Entry-empty-reads
-use Rattle.constraints.proofs.Holder.empty.Reads as Holder-empty-reads
+use Rattle.constraint_spec.proofs.Entry.empty.Reads as Entry-empty-reads
+use Rattle.constraint_spec.proofs.Holder.empty.Reads as Holder-empty-reads
 
 abbrev Inv-loop : tie.InvT-loop
 Inv-loop r start many members no-literal no-entry q₀ m₀ left₀ q m left = (chained members r left m q ≡ chained members r many start q₀) × Settled q

@@ -1,7 +1,7 @@
 use borrow.Author.Needs.{needs}
 use Rattle.constraint_set.proofs.Loops.{steps-next}
 use Rattle.constraint_merge.proofs.Merging.{null-laid, null-left}
-use Rattle.constraints.specs.Sets.{stepsTo, mergeNonNull, mergeNonNulls}
+use Rattle.constraint_spec.specs.Sets.{stepsTo, mergeNonNull, mergeNonNulls}
 use mathlib.Core.Logic.{⊎-elim}
 use native.Mathlib.Omega.{arith}
 use Prim.Native.Nat.{_≤_, _-_}

@@ -1,6 +1,6 @@
 use borrow.Author.Needs.{needs}
 use Rattle.constraint_merge.specs.Residuals.{residualsKept}
-use Rattle.constraints.specs.Sets.{withResiduals, stepsTo, mergeResidual, mergeResiduals, roomTo}
+use Rattle.constraint_spec.specs.Sets.{withResiduals, stepsTo, mergeResidual, mergeResiduals, roomTo}
 use native.Mathlib.Omega.{arith}
 use mathlib.Core.Logic.{⊎-elim}
 use mathlib.Core.Bool.{not}

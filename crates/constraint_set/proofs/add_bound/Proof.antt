@@ -1,5 +1,5 @@
 use Rattle.constraint_set.proofs.Loops.{bound-added, entry-added}
-use Rattle.constraints.specs.Sets.{addBound}
+use Rattle.constraint_spec.specs.Sets.{addBound}
 use borrow.Author.Tests.{le-ltb}
 use Rattle.value_classes.proofs.RootLaws.{root-below}
 use lib.ListN.{length}

@@ -1,5 +1,5 @@
 use Rattle.constraint_set.proofs.Loops.{literal-added}
-use Rattle.constraints.specs.Sets.{addLiteral}
+use Rattle.constraint_spec.specs.Sets.{addLiteral}
 use borrow.Author.Tests.{lt-ltb, le-ltb}
 use Rattle.value_classes.proofs.RootLaws.{root-below}
 use native.Mathlib.Omega.{arith}

@@ -1,4 +1,4 @@
-use Rattle.constraints.specs.Sets.{putNonNull, addNonNull}
+use Rattle.constraint_spec.specs.Sets.{putNonNull, addNonNull}
 use borrow.Author.Tests.{lt-ltb, le-ltb}
 use Rattle.value_classes.proofs.RootLaws.{root-below}
 use lib.ListN.{length}

@@ -1,4 +1,4 @@
-use Rattle.constraints.proofs.Operations.{range-none, range-some}
+use Rattle.constraint_spec.proofs.Operations.{range-none, range-some}
 use mathlib.Core.Path.{sym, _∙_}
 use borrow.Author.Needs.{needs}
 use Rattle.constraint_set.proofs.add_range.Statement.{statement}

@@ -1,6 +1,6 @@
 use borrow.Author.Needs.{needs}
 use Rattle.constraint_set.proofs.Loops.{any-again, any-end}
-use Rattle.constraints.specs.Sets.{crossedAt, crossCheck}
+use Rattle.constraint_spec.specs.Sets.{crossedAt, crossCheck}
 use Rattle.lists.specs.Ranges.{anyFrom}
 use mathlib.Core.Bool.{_||_}
 use native.Mathlib.Omega.{arith}

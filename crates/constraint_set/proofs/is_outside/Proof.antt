@@ -1,5 +1,5 @@
 use Rattle.scalar.specs.declared.Number.{Number}
-use Rattle.constraints.specs.Sets.{outside}
+use Rattle.constraint_spec.specs.Sets.{outside}
 use mathlib.Core.Path.{sym, ap}
 use borrow.Author.Needs.{needs}
 use Rattle.constraint_set.proofs.is_outside.Statement.{statement}

@@ -1,6 +1,6 @@
 use borrow.Author.Needs.{needs}
 use Rattle.constraint_set.proofs.Loops.{literalsAfter, literal-moved, literal-idle, literals-done}
-use Rattle.constraints.specs.Sets.{withLiterals, stepsTo}
+use Rattle.constraint_spec.specs.Sets.{withLiterals, stepsTo}
 use Rattle.value_classes.proofs.RootLaws.{root-below}
 use lib.ListN.{length}
 use mathlib.Core.Logic.{⊎-elim}

@@ -1,6 +1,6 @@
 use borrow.Author.Needs.{needs}
 use Rattle.constraint_set.proofs.Loops.{nullsAfter, null-moved, null-idle, nulls-done}
-use Rattle.constraints.specs.Sets.{withNonNulls, stepsTo}
+use Rattle.constraint_spec.specs.Sets.{withNonNulls, stepsTo}
 use Rattle.value_classes.proofs.RootLaws.{root-below}
 use lib.ListN.{length}
 use mathlib.Core.Logic.{⊎-elim}

@@ -1,6 +1,6 @@
 use borrow.Author.Needs.{needs}
 use Rattle.constraint_set.proofs.Loops.{rangesAfter, range-moved, range-idle, ranges-done}
-use Rattle.constraints.specs.Sets.{withRanges, stepsTo}
+use Rattle.constraint_spec.specs.Sets.{withRanges, stepsTo}
 use Rattle.value_classes.proofs.RootLaws.{root-below}
 use lib.ListN.{length}
 use mathlib.Core.Logic.{⊎-elim}

@@ -1,4 +1,4 @@
-use Rattle.constraints.specs.Sets.{normalized}
+use Rattle.constraint_spec.specs.Sets.{normalized}
 use borrow.Author.Needs.{needs}
 use Rattle.constraint_set.proofs.normalize.Statement.{statement}
 use Rattle.constraint_set.proofs.normalize.Tie as tie

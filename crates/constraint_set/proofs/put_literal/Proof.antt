@@ -1,4 +1,4 @@
-use Rattle.constraints.specs.Sets.{putNonNull}
+use Rattle.constraint_spec.specs.Sets.{putNonNull}
 use Rattle.constraint_set.proofs.Loops.{nullWritten, literal-put}
 use borrow.Author.Needs.{needs}
 use Rattle.constraint_set.proofs.put_literal.Statement.{statement}

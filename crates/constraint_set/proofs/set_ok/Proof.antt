@@ -1,4 +1,4 @@
-use Rattle.constraints.specs.Sets.{setOk}
+use Rattle.constraint_spec.specs.Sets.{setOk}
 use borrow.Author.Needs.{needs}
 use Rattle.constraint_set.proofs.set_ok.Statement.{statement}
 use Rattle.constraint_set.proofs.set_ok.Tie as tie

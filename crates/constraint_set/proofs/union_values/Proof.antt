@@ -1,4 +1,4 @@
-use Rattle.constraints.specs.Sets.{unionValues}
+use Rattle.constraint_spec.specs.Sets.{unionValues}
 use borrow.Author.Needs.{needs}
 use Rattle.constraint_set.proofs.union_values.Statement.{statement}
 use Rattle.constraint_set.proofs.union_values.Tie as tie

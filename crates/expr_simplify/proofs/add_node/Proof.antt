@@ -1,4 +1,4 @@
-use Rattle.expr_simplify.proofs.Ways.{node-way}
+use Rattle.expr_simplify.proofs.ShapeAnswers.{node-way}
 use Rattle.expr_simplify.specs.Passage.{tablesOf}
 use denote.Ref.{now}
 use borrow.Author.Needs.{needs}

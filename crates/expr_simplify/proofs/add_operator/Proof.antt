@@ -1,6 +1,6 @@
-use Rattle.expr_simplify.proofs.OperatorWays.{operator-off, operator-on, items-fit}
+use Rattle.expr_simplify.proofs.OperatorAnswers.{operator-off, operator-on, items-fit}
 use Rattle.plan_data.specs.declared.OperatorData.{OperatorData}
-use Rattle.simplifying.specs.OneOperator.{rebuiltOf}
+use Rattle.simplify_spec.specs.OneOperator.{rebuiltOf}
 use Rattle.plan_data.specs.Nodes.{operatorData, recordOfOperator}
 use lib.ListN.{getD}
 use Prim.Native.Nat.{ℕ, _-_}

@@ -1,4 +1,4 @@
-use Rattle.expr_simplify.proofs.Ways.{off, add-on, add-off}
+use Rattle.expr_simplify.proofs.ShapeAnswers.{off, add-on, add-off}
 use denote.Ref.{now}
 use mathlib.Core.Path.{_∙_}
 use borrow.Author.Needs.{needs}

@@ -1,4 +1,4 @@
-use Rattle.expr_simplify.proofs.Ways.{off, stay, bottom-off, bottom-absorbed, bottom-dirty, bottom-clean}
+use Rattle.expr_simplify.proofs.ShapeAnswers.{off, stay, bottom-off, bottom-absorbed, bottom-dirty, bottom-clean}
 use Rattle.expr_simplify.specs.Passage.{tablesOf, outOf}
 use denote.Ref.{now}
 use mathlib.Core.Path.{ap, _∙_}

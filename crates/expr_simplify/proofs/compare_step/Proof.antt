@@ -1,4 +1,4 @@
-use Rattle.expr_simplify.proofs.Ways.{off, stay, compare-off, compare-stays, compare-new}
+use Rattle.expr_simplify.proofs.ShapeAnswers.{off, stay, compare-off, compare-stays, compare-new}
 use Rattle.expr_simplify.specs.Passage.{resultOf}
 use denote.Ref.{now}
 use mathlib.Core.Path.{_∙_}

@@ -1,6 +1,6 @@
-use Rattle.expr_simplify.proofs.OperatorWays.{each-more, each-done}
+use Rattle.expr_simplify.proofs.OperatorAnswers.{each-more, each-done}
 use Rattle.expr_simplify.specs.Passage.{itemsOf}
-use Rattle.simplifying.specs.OneOperator.{heldAt, eachTo}
+use Rattle.simplify_spec.specs.OneOperator.{heldAt, eachTo}
 use Prim.Native.Nat.{_-_, _≤_}
 use mathlib.Core.Path.{_≡_, refl}
 use native.Mathlib.Omega.{arith}

@@ -1,4 +1,4 @@
-use Rattle.expr_simplify.proofs.OperatorWays.{each-one}
+use Rattle.expr_simplify.proofs.OperatorAnswers.{each-one}
 use Prim.Native.Nat.{_-_}
 use borrow.Author.Needs.{needs}
 use Rattle.expr_simplify.proofs.each_step.Statement.{statement}

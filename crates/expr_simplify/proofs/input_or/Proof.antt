@@ -1,6 +1,6 @@
-use Rattle.expr_simplify.proofs.OperatorWays.{input-through, input-other}
-use Rattle.simplifying.specs.OneExpression.{shapeIn}
-use Rattle.simplifying.specs.Shapes.{isLiteral}
+use Rattle.expr_simplify.proofs.OperatorAnswers.{input-through, input-other}
+use Rattle.simplify_spec.specs.OneExpression.{shapeIn}
+use Rattle.simplify_spec.specs.Shapes.{isLiteral}
 use Rattle.plan_data.specs.Nodes.{operatorData}
 use lib.ListN.{getD}
 use Prim.Native.Nat.{ℕ, _-_}

@@ -1,4 +1,4 @@
-use Rattle.simplifying.specs.Shapes.{isLiteral}
+use Rattle.simplify_spec.specs.Shapes.{isLiteral}
 use mathlib.Core.Path.{sym, ap, _∙_}
 use borrow.Author.Needs.{needs}
 use Rattle.expr_simplify.proofs.is_literal.Statement.{statement}

@@ -1,4 +1,4 @@
-use Rattle.simplifying.specs.OneOperator.{itemCount}
+use Rattle.simplify_spec.specs.OneOperator.{itemCount}
 use Prim.Native.Nat.{_-_}
 use mathlib.Core.Path.{sym, ap}
 use native.Mathlib.Omega.{arith}

@@ -1,4 +1,4 @@
-use Rattle.expr_simplify.proofs.Ways.{nary-and, nary-or}
+use Rattle.expr_simplify.proofs.ShapeAnswers.{nary-and, nary-or}
 use Rattle.expr_simplify.proofs.nary_shape.Statement.{statement}
 use Rattle.expr_simplify.proofs.nary_shape.Tie as tie
 

@@ -1,4 +1,4 @@
-use Rattle.expr_simplify.proofs.Ways.{stay, other-same, other-new}
+use Rattle.expr_simplify.proofs.ShapeAnswers.{stay, other-same, other-new}
 use Rattle.expr_simplify.specs.Passage.{tablesOf}
 use denote.Ref.{now}
 use mathlib.Core.Path.{_∙_}

@@ -1,6 +1,6 @@
-use Rattle.expr_simplify.proofs.Ways.{off, there, not-off, not-way}
+use Rattle.expr_simplify.proofs.ShapeAnswers.{off, there, not-off, not-way}
 use Rattle.expr_simplify.specs.Passage.{resultOf}
-use Rattle.simplifying.specs.declared.Shape.the-variants.{Boolean, Not}
+use Rattle.simplify_spec.specs.declared.Shape.the-variants.{Boolean, Not}
 use denote.Ref.{now}
 use mathlib.Core.Path.{_∙_}
 use borrow.Author.Tests.{not-true, not-false}

@@ -1,4 +1,4 @@
-use Rattle.expr_simplify.proofs.Ways.{back-on, back-off}
+use Rattle.expr_simplify.proofs.ShapeAnswers.{back-on, back-off}
 use denote.Ref.{now}
 use Prim.Native.Nat.{_+_}
 use borrow.Author.Needs.{needs}

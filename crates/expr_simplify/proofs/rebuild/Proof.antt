@@ -1,4 +1,4 @@
-use Rattle.expr_simplify.proofs.Ways.{there, rebuild-none, rebuild-one, rebuild-more}
+use Rattle.expr_simplify.proofs.ShapeAnswers.{there, rebuild-none, rebuild-one, rebuild-more}
 use Rattle.expr_simplify.specs.Passage.{tablesOf, outOf}
 use denote.Ref.{now}
 use mathlib.Core.Path.{ap, _∙_}

@@ -1,4 +1,4 @@
-use Rattle.expr_simplify.proofs.Ways.{off, reserve-off, reserve-on}
+use Rattle.expr_simplify.proofs.ShapeAnswers.{off, reserve-off, reserve-on}
 use Rattle.expr_simplify.specs.Passage.{tablesOf, resultOf}
 use denote.Ref.{now}
 use borrow.Author.Needs.{needs}

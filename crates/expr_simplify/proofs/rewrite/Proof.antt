@@ -1,4 +1,4 @@
-use Rattle.expr_simplify.proofs.OperatorWays.{rewrite-room, rewrite-keep, rewrite-changed, each-held}
+use Rattle.expr_simplify.proofs.OperatorAnswers.{rewrite-room, rewrite-keep, rewrite-changed, each-held}
 use Rattle.plan_data.specs.Nodes.{operatorData}
 use Prim.Native.Nat.{_-_}
 use borrow.Author.Tests.{not-true, not-false}

@@ -1,6 +1,6 @@
-use Rattle.simplifying.specs.Shapes.{shapeOf}
+use Rattle.simplify_spec.specs.Shapes.{shapeOf}
 use Rattle.plan_data.specs.Nodes.{exprData}
-use Rattle.kinds.specs.declared.Record.{Record}
+use Rattle.plan_kinds.specs.declared.Record.{Record}
 use Prim.Native.Nat.{ℕ}
 use mathlib.Core.Path.{ap₂, _∙_}
 use borrow.Author.Needs.{needs}

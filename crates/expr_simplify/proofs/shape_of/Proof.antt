@@ -1,5 +1,5 @@
-use Rattle.expr_simplify.proofs.Ways.{shape-boolean, shape-unary, shape-compare, shape-nary, shape-other}
-use Rattle.simplifying.specs.declared.Shape.the-variants.{Compare}
+use Rattle.expr_simplify.proofs.ShapeAnswers.{shape-boolean, shape-unary, shape-compare, shape-nary, shape-other}
+use Rattle.simplify_spec.specs.declared.Shape.the-variants.{Compare}
 use Rattle.comparison.specs.declared.BinaryOp.{BinaryOp}
 use mathlib.Core.Path.{ap, _∙_}
 use borrow.Author.Needs.{needs}

@@ -1,4 +1,4 @@
-use Rattle.expr_simplify.proofs.Ways.{unary-not, unary-other}
+use Rattle.expr_simplify.proofs.ShapeAnswers.{unary-not, unary-other}
 use Rattle.expr_simplify.proofs.unary_shape.Statement.{statement}
 use Rattle.expr_simplify.proofs.unary_shape.Tie as tie
 

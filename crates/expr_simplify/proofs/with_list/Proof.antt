@@ -1,6 +1,6 @@
-use Rattle.expr_simplify.proofs.OperatorWays.{listAt, list-none, list-more, list-done}
+use Rattle.expr_simplify.proofs.OperatorAnswers.{listAt, list-none, list-more, list-done}
 use Rattle.expr_simplify.specs.Passage.{itemsOf}
-use Rattle.simplifying.specs.OneOperator.{itemFirst, itemSecond}
+use Rattle.simplify_spec.specs.OneOperator.{itemFirst, itemSecond}
 use lib.ListN.{getD}
 use Prim.Native.Nat.{ℕ, _-_, _≤_}
 use mathlib.Core.Path.{_≡_}

@@ -5,8 +5,8 @@ use Rattle.facts_text.proofs.plan_text.Statement.{statement}
 use Rattle.facts_text.proofs.plan_text.Tie as tie
 use Rattle.facts_text.proofs.plan_text.Reads as reads
 use Rattle.facts_text.proofs.plan_text.Lts as lts
-use Rattle.derive_facts.proofs.derive_logical_facts.Reads as derive-logical-facts-reads
-use Rattle.identities.proofs.identities_of.Reads as identities-of-reads
+use Rattle.derive_logical_facts.proofs.derive_logical_facts.Reads as derive-logical-facts-reads
+use Rattle.plan_identities.proofs.identities_of.Reads as identities-of-reads
 use Rattle.listing.proofs.listing.Reads as listing-reads
 use Rattle.listing.proofs.refused.Reads as refused-reads
 use Rattle.refusals.proofs.derive_number.Reads as derive-number-reads

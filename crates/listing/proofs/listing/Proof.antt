@@ -1,6 +1,6 @@
 use Rattle.listing.specs.Listing.{listingText}
 use Rattle.listing.proofs.Lengths.{listing-length}
-use Rattle.listing.proofs.Owned.{facts-typed}
+use Rattle.listing.proofs.FactsTyped.{facts-typed}
 use Rattle.writing.proofs.Wrotes.{wrote-then}
 use borrow.Author.Needs.{needs}
 use Rattle.listing.proofs.listing.Statement.{statement}

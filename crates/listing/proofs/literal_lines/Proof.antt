@@ -7,10 +7,10 @@ use lib.ListN.{length, getD}
 use Rattle.writing.specs.Text.{Wrote, lines}
 use Rattle.listing.proofs.Loops.{line-none, line-more, line-end}
 use Rattle.listing.specs.Listing.{literalLines}
-use Rattle.identities.specs.declared.Identities.{Identities}
+use Rattle.plan_identities.specs.declared.Identities.{Identities}
 use Rattle.listing_lines.specs.Lines.{literalLine}
-use Rattle.constraints.specs.declared.Holder.{Holder}
-use Rattle.constraints.specs.Sets.{none}
+use Rattle.constraint_spec.specs.declared.Holder.{Holder}
+use Rattle.constraint_spec.specs.Sets.{none}
 use Rattle.listing.proofs.literal_lines.Statement.{statement}
 use Rattle.listing.proofs.literal_lines.Tie as tie
 

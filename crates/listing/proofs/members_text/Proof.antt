@@ -7,7 +7,7 @@ use lib.ListN.{length, getD}
 use Rattle.writing.specs.Text.{Wrote, lines}
 use Rattle.listing.proofs.Loops.{line-none, line-more, line-end}
 use Rattle.listing.specs.Listing.{membersText}
-use Rattle.identities.specs.declared.Identities.{Identities}
+use Rattle.plan_identities.specs.declared.Identities.{Identities}
 use Rattle.listing_lines.specs.Lines.{memberText}
 use Rattle.listing.proofs.members_text.Statement.{statement}
 use Rattle.listing.proofs.members_text.Tie as tie

@@ -7,10 +7,10 @@ use lib.ListN.{length, getD}
 use Rattle.writing.specs.Text.{Wrote, lines}
 use Rattle.listing.proofs.Loops.{line-none, line-more, line-end}
 use Rattle.listing.specs.Listing.{rangeLines}
-use Rattle.identities.specs.declared.Identities.{Identities}
+use Rattle.plan_identities.specs.declared.Identities.{Identities}
 use Rattle.listing_lines.specs.Lines.{rangeLine}
-use Rattle.constraints.specs.declared.Entry.{Entry}
-use Rattle.constraints.specs.Sets.{blank}
+use Rattle.constraint_spec.specs.declared.Entry.{Entry}
+use Rattle.constraint_spec.specs.Sets.{blank}
 use Rattle.listing.proofs.range_lines.Statement.{statement}
 use Rattle.listing.proofs.range_lines.Tie as tie
 

@@ -1,6 +1,6 @@
 use Rattle.listing.proofs.Classes.{table-wrote}
 use Rattle.listing.specs.Listing.{setText}
-use Rattle.constraints.specs.Sets.{canonicalAt}
+use Rattle.constraint_spec.specs.Sets.{canonicalAt}
 use Rattle.writing.proofs.Wrotes.{wrote-then}
 use borrow.Author.Needs.{needs}
 use Rattle.listing.proofs.set_text.Statement.{statement}

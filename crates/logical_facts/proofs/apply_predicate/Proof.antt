@@ -1,7 +1,7 @@
 use mathlib.Core.Path.{sym, ap, _∙_}
 use borrow.Author.Tests.{not-true, not-false}
-use Rattle.predicates.specs.Entries.{answered, predicateApplied}
-use Rattle.logical_facts.proofs.WaysOut.{answered-given, apply-fail-1, apply-fail-2, apply-fail-3, apply-pass}
+use Rattle.apply_spec.specs.Entries.{answered, predicateApplied}
+use Rattle.logical_facts.proofs.EntryAnswers.{answered-given, apply-fail-1, apply-fail-2, apply-fail-3, apply-pass}
 use borrow.Author.Needs.{needs}
 use Rattle.logical_facts.proofs.apply_predicate.Statement.{statement}
 use Rattle.logical_facts.proofs.apply_predicate.Tie as tie

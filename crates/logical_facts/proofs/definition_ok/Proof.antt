@@ -1,4 +1,4 @@
-use Rattle.predicates.specs.Facts.{definitionOk}
+use Rattle.apply_spec.specs.Facts.{definitionOk}
 use borrow.Author.Needs.{needs}
 use Rattle.logical_facts.proofs.definition_ok.Statement.{statement}
 use Rattle.logical_facts.proofs.definition_ok.Tie as tie

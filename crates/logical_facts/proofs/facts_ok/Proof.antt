@@ -1,6 +1,6 @@
 use mathlib.Core.Path.{sym, _∙_}
 use borrow.Author.Tests.{not-true, not-false}
-use Rattle.logical_facts.proofs.WaysOut.{facts-fail-1, facts-fail-2, facts-fail-3, facts-pass}
+use Rattle.logical_facts.proofs.EntryAnswers.{facts-fail-1, facts-fail-2, facts-fail-3, facts-pass}
 use borrow.Author.Needs.{needs}
 use Rattle.logical_facts.proofs.facts_ok.Statement.{statement}
 use Rattle.logical_facts.proofs.facts_ok.Tie as tie

@@ -1,4 +1,4 @@
-use Rattle.logical_facts.proofs.WaysOut.{merged-parts}
+use Rattle.logical_facts.proofs.EntryAnswers.{merged-parts}
 use borrow.Author.Needs.{needs}
 use Rattle.logical_facts.proofs.inputs_merged.Statement.{statement}
 use Rattle.logical_facts.proofs.inputs_merged.Tie as tie

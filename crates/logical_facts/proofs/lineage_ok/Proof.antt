@@ -1,5 +1,5 @@
 use borrow.Author.Tests.{ne-eqb}
-use Rattle.predicates.specs.Facts.{lineageOk}
+use Rattle.apply_spec.specs.Facts.{lineageOk}
 use borrow.Author.Needs.{needs}
 use Rattle.logical_facts.proofs.lineage_ok.Statement.{statement}
 use Rattle.logical_facts.proofs.lineage_ok.Tie as tie

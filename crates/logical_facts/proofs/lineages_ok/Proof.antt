@@ -1,4 +1,4 @@
-use Rattle.predicates.specs.Facts.{lineageOk}
+use Rattle.apply_spec.specs.Facts.{lineageOk}
 use borrow.Author.Tests.{not-true, not-false}
 use Rattle.lists.proofs.RangeLaws.{all-done, all-fails, all-passes}
 use Rattle.lists.specs.Ranges.{allFrom}

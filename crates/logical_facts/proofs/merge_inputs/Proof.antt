@@ -1,6 +1,6 @@
 use mathlib.Core.Path.{sym, _∙_}
 use borrow.Author.Tests.{not-true, not-false}
-use Rattle.logical_facts.proofs.WaysOut.{merge-fail-1, merge-fail-2, merge-fail-3, merge-pass}
+use Rattle.logical_facts.proofs.EntryAnswers.{merge-fail-1, merge-fail-2, merge-fail-3, merge-pass}
 use borrow.Author.Needs.{needs}
 use Rattle.logical_facts.proofs.merge_inputs.Statement.{statement}
 use Rattle.logical_facts.proofs.merge_inputs.Tie as tie

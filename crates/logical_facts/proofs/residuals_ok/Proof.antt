@@ -1,7 +1,7 @@
 use Prim.Native.Nat.{ℕ}
 use lib.Dec.{ltb}
 use borrow.Author.Tests.{le-ltb, lt-ltb}
-use Rattle.predicates.specs.Facts.{residualOk}
+use Rattle.apply_spec.specs.Facts.{residualOk}
 use Rattle.lists.proofs.RangeLaws.{all-done, all-fails, all-passes}
 use Rattle.lists.specs.Ranges.{allFrom}
 use denote.Ref.{now}

@@ -1,4 +1,4 @@
-use Rattle.plan_file.proofs.Laws.{some-more}
+use Rattle.plan_file.proofs.RecordTests.{some-more}
 use Rattle.plan_file.specs.Steps.{lessOne}
 use borrow.Author.Tests.{le-ltb, lt-ltb}
 use borrow.Author.Needs.{needs}

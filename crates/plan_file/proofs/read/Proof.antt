@@ -4,7 +4,7 @@ use lib.ListN.{length}
 use native.Mathlib.Omega.{arith}
 use borrow.Author.Needs.{needs}
 use Rattle.plan_file.specs.Steps.{stepsOf}
-use Rattle.plan_file.proofs.Turns.{steps-start, steps-more, read-early, read-whole}
+use Rattle.plan_file.proofs.StepsTaken.{steps-start, steps-more, read-early, read-whole}
 use Rattle.plan_file.proofs.read.Statement.{statement}
 use Rattle.plan_file.proofs.read.Tie as tie
 

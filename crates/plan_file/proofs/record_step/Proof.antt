@@ -1,6 +1,6 @@
 use borrow.Author.Tests.{not-true, not-false}
 use mathlib.Core.Path.{sym, _∙_}
-use Rattle.plan_file.proofs.Turns.{step-refused, step-full, step-taken, takes}
+use Rattle.plan_file.proofs.StepsTaken.{step-refused, step-full, step-taken, takes}
 use borrow.Author.Needs.{needs}
 use Rattle.plan_file.proofs.record_step.Statement.{statement}
 use Rattle.plan_file.proofs.record_step.Tie as tie

@@ -1,5 +1,5 @@
 use native.Mathlib.Omega.{arith}
-use Rattle.plan_file.proofs.Laws.{no-scan, past-scan, one-scan}
+use Rattle.plan_file.proofs.RecordTests.{no-scan, past-scan, one-scan}
 use borrow.Author.Needs.{needs}
 use Rattle.plan_file.proofs.scans_after.Statement.{statement}
 use Rattle.plan_file.proofs.scans_after.Tie as tie

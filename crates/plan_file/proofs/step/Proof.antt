@@ -1,5 +1,5 @@
 use borrow.Author.Tests.{le-leb}
-use Rattle.plan_file.proofs.Turns.{rest-of, step-on}
+use Rattle.plan_file.proofs.StepsTaken.{rest-of, step-on}
 use Rattle.plan_file.specs.Steps.{stepOf}
 use borrow.Author.Needs.{needs}
 use Rattle.plan_file.proofs.step.Statement.{statement}

@@ -1,4 +1,4 @@
-use Rattle.plan_file.proofs.Laws.{wanted-item}
+use Rattle.plan_file.proofs.RecordTests.{wanted-item}
 use borrow.Author.Tests.{eq-eqb, ne-eqb}
 use Rattle.plan_file.specs.Steps.{wantedAfter}
 use borrow.Author.Needs.{needs}

@@ -4,8 +4,8 @@ use Rattle.plan_file_write.proofs.item_kind.Statement.{statement}
 use Rattle.plan_file_write.proofs.item_kind.Tie as tie
 use Rattle.plan_file_write.proofs.item_kind.Reads as reads
 use Rattle.plan_file_write.proofs.item_kind.Lts as lts
-use Rattle.kinds.proofs.count_of.Reads as count-of-reads
-use Rattle.kinds.proofs.row_of.Reads as row-of-reads
+use Rattle.plan_kinds.proofs.count_of.Reads as count-of-reads
+use Rattle.plan_kinds.proofs.row_of.Reads as row-of-reads
 
 -- src/lib.rt:98:9
 row-of-requires : tie.Need-row-of-requires

@@ -1,7 +1,7 @@
 use Rattle.plan_file_laws.specs.ListItems.{firstOf, secondOf}
-use Rattle.kinds.specs.Rows.{rowOf}
-use Rattle.kinds.specs.Records.{countOf, moreOf}
-use Rattle.kinds.specs.declared.Row.{Row}
+use Rattle.plan_kinds.specs.Rows.{rowOf}
+use Rattle.plan_kinds.specs.Records.{countOf, moreOf}
+use Rattle.plan_kinds.specs.declared.Row.{Row}
 use borrow.Author.Needs.{needs}
 use Rattle.plan_file_write.specs.Written.{recordBytes, itemIn, itemsBytes}
 use native.Mathlib.Omega.{arith}
@@ -14,9 +14,9 @@ use Rattle.plan_file_write.proofs.put_items.Statement.{statement}
 use Rattle.plan_file_write.proofs.put_items.Tie as tie
 use Rattle.plan_file_write.proofs.put_items.Reads as reads
 use Rattle.plan_file_write.proofs.put_items.Lts as lts
-use Rattle.kinds.proofs.count_of.Reads as count-of-reads
-use Rattle.kinds.proofs.more_of.Reads as more-of-reads
-use Rattle.kinds.proofs.row_of.Reads as row-of-reads
+use Rattle.plan_kinds.proofs.count_of.Reads as count-of-reads
+use Rattle.plan_kinds.proofs.more_of.Reads as more-of-reads
+use Rattle.plan_kinds.proofs.row_of.Reads as row-of-reads
 use Rattle.plan_file_write.proofs.put_item.Reads as put-item-reads
 
 abbrev Inv-loop : tie.InvT-loop

@@ -1,4 +1,4 @@
-use Rattle.kinds.specs.Records.{handlesOk}
+use Rattle.plan_kinds.specs.Records.{handlesOk}
 use mathlib.Core.Path.{_∙_}
 use Rattle.plan_rules.specs.Rules.{itemOk}
 use borrow.Author.Needs.{needs}

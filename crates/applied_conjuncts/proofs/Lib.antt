@@ -1,5 +1,0 @@
-pub mod Wides
-pub mod Owned
-pub mod Joins
-pub mod Applying
-pub mod Alone

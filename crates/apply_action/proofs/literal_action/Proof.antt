@@ -1,0 +1,30 @@
+use borrow.Author.Tests.{lt-ltb, le-ltb}
+use Rattle.apply_action.specs.Actions.{literalAction}
+use borrow.Author.Needs.{needs}
+use Rattle.apply_action.proofs.literal_action.Statement.{statement}
+use Rattle.apply_action.proofs.literal_action.Tie as tie
+use Rattle.apply_action.proofs.literal_action.Reads as reads
+use Rattle.apply_action.proofs.literal_action.Lts as lts
+use Rattle.scalar.proofs.is_null.Reads as is-null-reads
+
+-- src/lib.rt:140:9
+returns : tie.Need-returns
+unfolding literalAction
+returns c = rw (le-ltb _ _ (c .if1 .taken))
+
+-- src/lib.rt:142:8
+is-null-requires : tie.Need-is-null-requires
+is-null-requires c κs = search needs
+
+-- src/lib.rt:143:9
+returns-2 : tie.Need-returns-2
+unfolding literalAction
+returns-2 c = rw (lt-ltb _ _ (c .before .before .if1 .left), ← c .before .is-null .ensures, c .if2 .taken)
+
+-- src/lib.rt:136:1
+returns-3 : tie.Need-returns-3
+unfolding literalAction
+returns-3 c = rw (lt-ltb _ _ (c .before .before .if1 .left), ← c .before .is-null .ensures, c .if2 .left)
+
+pub literal-action-spec : {M : Type 1} → statement M
+literal-action-spec = tie.close (tie.spec returns is-null-requires returns-2 returns-3)

@@ -1,0 +1,16 @@
+use borrow.Author.Needs.{needs}
+use Rattle.apply_action.proofs.not_null.Statement.{statement}
+use Rattle.apply_action.proofs.not_null.Tie as tie
+use Rattle.apply_action.proofs.not_null.Reads as reads
+use Rattle.apply_action.proofs.not_null.Lts as lts
+
+-- src/lib.rt:342:1
+returns : tie.Need-returns
+returns c = rw (c .if1 .taken)
+
+-- src/lib.rt:342:1
+returns-2 : tie.Need-returns-2
+returns-2 c = search needs
+
+pub not-null-spec : {M : Type 1} → statement M
+not-null-spec = tie.close (tie.spec returns returns-2)

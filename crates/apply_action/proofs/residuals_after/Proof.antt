@@ -1,0 +1,21 @@
+use borrow.Author.Needs.{needs}
+use Rattle.apply_action.proofs.residuals_after.Statement.{statement}
+use Rattle.apply_action.proofs.residuals_after.Tie as tie
+use Rattle.apply_action.proofs.residuals_after.Reads as reads
+use Rattle.apply_action.proofs.residuals_after.Lts as lts
+use Rattle.constraint_set.proofs.push_handle.Reads as push-handle-reads
+
+-- src/lib.rt:422:9
+push-handle-requires : tie.Need-push-handle-requires
+push-handle-requires c κs = search needs
+
+-- src/lib.rt:422:9
+returns : tie.Need-returns
+returns c = rw (c .before .if1 .taken) (c .push-handle .ensures)
+
+-- src/lib.rt:418:1
+returns-2 : tie.Need-returns-2
+returns-2 c = rw (c .if1 .left)
+
+pub residuals-after-spec : {M : Type 1} → statement M
+residuals-after-spec = tie.close (tie.spec push-handle-requires returns returns-2)

@@ -1,0 +1,46 @@
+use borrow.Author.Needs.{needs}
+use Rattle.apply_action.proofs.right_action.Statement.{statement}
+use Rattle.apply_action.proofs.right_action.Tie as tie
+use Rattle.apply_action.proofs.right_action.Reads as reads
+use Rattle.apply_action.proofs.right_action.Lts as lts
+use Rattle.apply_action.proofs.reversed_action.Reads as reversed-action-reads
+
+-- src/lib.rt:194:24
+enum-known-r : tie.Need-enum-known-r
+enum-known-r c = search needs
+
+-- src/lib.rt:194:34
+reversed-action-requires : tie.Need-reversed-action-requires
+reversed-action-requires c κs = search needs
+
+-- src/lib.rt:195:30
+enum-told : tie.Need-enum-told
+enum-told c = search needs
+
+-- src/lib.rt:196:25
+enum-told-2 : tie.Need-enum-told-2
+enum-told-2 c = search needs
+
+-- src/lib.rt:190:1
+returns : tie.Need-returns
+returns c = rw (c .before .before .r .given .1) (c .reversed-action .ensures)
+
+-- src/lib.rt:190:1
+returns-2 : tie.Need-returns-2
+returns-2 c = search needs
+
+-- src/lib.rt:190:1
+returns-3 : tie.Need-returns-3
+returns-3 c = search needs
+
+pub right-action-spec : {M : Type 1} → statement M
+right-action-spec =
+    tie.close
+    (tie.spec
+    enum-known-r
+    reversed-action-requires
+    enum-told
+    enum-told-2
+    returns
+    returns-2
+    returns-3)

@@ -1,0 +1,47 @@
+use Rattle.apply_action.specs.Cells.{boundCell}
+use borrow.Author.Needs.{needs}
+use Rattle.apply_action.proofs.with_bound.Statement.{statement}
+use Rattle.apply_action.proofs.with_bound.Tie as tie
+use Rattle.apply_action.proofs.with_bound.Reads as reads
+use Rattle.apply_action.proofs.with_bound.Lts as lts
+use Rattle.constraint_set.proofs.bounds_by.Reads as bounds-by-reads
+use Rattle.constraint_set.proofs.entry_of.Reads as entry-of-reads
+use Rattle.constraint_set.proofs.is_crossed.Reads as is-crossed-reads
+use Rattle.constraint_set.proofs.tightened.Reads as tightened-reads
+use Rattle.value_range.proofs.ValueRange.is_empty.Reads as is-empty-reads
+
+-- src/lib.rt:374:9
+bounds-by-requires : tie.Need-bounds-by-requires
+bounds-by-requires c κs = search needs
+
+-- src/lib.rt:375:9
+tightened-requires : tie.Need-tightened-requires
+tightened-requires c κs = search needs
+
+-- src/lib.rt:376:9
+is-empty-requires : tie.Need-is-empty-requires
+is-empty-requires c κs = search needs
+
+-- src/lib.rt:377:9
+entry-of-requires : tie.Need-entry-of-requires
+entry-of-requires c κs = search needs
+
+-- src/lib.rt:378:9
+is-crossed-requires : tie.Need-is-crossed-requires
+is-crossed-requires c κs = search needs
+
+-- src/lib.rt:369:1
+returns : tie.Need-returns
+unfolding boundCell
+returns c = rw (c .is-crossed .ensures, c .before .entry-of .ensures, c .before .before .is-empty .ensures, c .before .before .before .tightened .ensures, c .before .before .before .before .bounds-by .ensures)
+
+pub with-bound-spec : {M : Type 1} → statement M
+with-bound-spec =
+    tie.close
+    (tie.spec
+    bounds-by-requires
+    tightened-requires
+    is-empty-requires
+    entry-of-requires
+    is-crossed-requires
+    returns)

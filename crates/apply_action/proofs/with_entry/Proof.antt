@@ -1,0 +1,24 @@
+use Rattle.apply_action.specs.Cells.{entryCell}
+use borrow.Author.Needs.{needs}
+use Rattle.apply_action.proofs.with_entry.Statement.{statement}
+use Rattle.apply_action.proofs.with_entry.Tie as tie
+use Rattle.apply_action.proofs.with_entry.Reads as reads
+use Rattle.apply_action.proofs.with_entry.Lts as lts
+use Rattle.constraint_set.proofs.entry_of.Reads as entry-of-reads
+use Rattle.constraint_set.proofs.range_in.Reads as range-in-reads
+
+-- src/lib.rt:393:9
+range-in-requires : tie.Need-range-in-requires
+range-in-requires c κs = search needs
+
+-- src/lib.rt:394:9
+entry-of-requires : tie.Need-entry-of-requires
+entry-of-requires c κs = search needs
+
+-- src/lib.rt:388:1
+returns : tie.Need-returns
+unfolding entryCell
+returns c = rw (c .entry-of .ensures, c .before .range-in .ensures)
+
+pub with-entry-spec : {M : Type 1} → statement M
+with-entry-spec = tie.close (tie.spec range-in-requires entry-of-requires returns)

@@ -1,0 +1,30 @@
+use Rattle.apply_action.specs.Cells.{literalCell}
+use borrow.Author.Needs.{needs}
+use Rattle.apply_action.proofs.with_literal.Statement.{statement}
+use Rattle.apply_action.proofs.with_literal.Tie as tie
+use Rattle.apply_action.proofs.with_literal.Reads as reads
+use Rattle.apply_action.proofs.with_literal.Lts as lts
+use Rattle.constraint_set.proofs.is_crossed.Reads as is-crossed-reads
+use Rattle.constraint_set.proofs.literal_clashes.Reads as literal-clashes-reads
+use Rattle.constraint_set.proofs.literal_kept.Reads as literal-kept-reads
+
+-- src/lib.rt:357:9
+literal-clashes-requires : tie.Need-literal-clashes-requires
+literal-clashes-requires c κs = search needs
+
+-- src/lib.rt:358:9
+literal-kept-requires : tie.Need-literal-kept-requires
+literal-kept-requires c κs = search needs
+
+-- src/lib.rt:359:9
+is-crossed-requires : tie.Need-is-crossed-requires
+is-crossed-requires c κs = search needs
+
+-- src/lib.rt:352:1
+returns : tie.Need-returns
+unfolding literalCell
+returns c = rw (c .is-crossed .ensures, c .before .literal-kept .ensures, c .before .before .literal-clashes .ensures)
+
+pub with-literal-spec : {M : Type 1} → statement M
+with-literal-spec =
+    tie.close (tie.spec literal-clashes-requires literal-kept-requires is-crossed-requires returns)

@@ -1,0 +1,5 @@
+pub mod Wides
+pub mod SetWide
+pub mod Joins
+pub mod Applying
+pub mod Alone

@@ -1,0 +1,113 @@
+use borrow.Author.Needs.{needs}
+use Rattle.apply_conjuncts.proofs.Joins.{roots-written}
+use Rattle.apply_conjuncts.proofs.join_roots.Statement.{statement}
+use Rattle.apply_conjuncts.proofs.join_roots.Tie as tie
+
+element-copy-out-n1 : tie.Need-element-copy-out-n1
+element-copy-out-n1 c = search needs
+
+element-copy-out-n2 : tie.Need-element-copy-out-n2
+element-copy-out-n2 c = search needs
+
+mul-h1 : tie.Need-mul-h1
+mul-h1 c = search needs
+
+element-copy-out-h1 : tie.Need-element-copy-out-h1
+element-copy-out-h1 c = search needs
+
+mul-h2 : tie.Need-mul-h2
+mul-h2 c = search needs
+
+element-copy-out-h2 : tie.Need-element-copy-out-h2
+element-copy-out-h2 c = search needs
+
+mul-e1 : tie.Need-mul-e1
+mul-e1 c = search needs
+
+element-copy-out-e1 : tie.Need-element-copy-out-e1
+element-copy-out-e1 c = search needs
+
+mul-e2 : tie.Need-mul-e2
+mul-e2 c = search needs
+
+element-copy-out-e2 : tie.Need-element-copy-out-e2
+element-copy-out-e2 c = search needs
+
+place-of-requires : tie.Need-place-of-requires
+place-of-requires c κs = search needs
+
+empty-requires : tie.Need-empty-requires
+empty-requires c κs = search needs
+
+empty-requires-2 : tie.Need-empty-requires-2
+empty-requires-2 c κs = search needs
+
+cast-classes : tie.Need-cast-classes
+cast-classes c = search needs
+
+element-write-classes : tie.Need-element-write-classes
+element-write-classes c = search needs
+
+element-write-q : tie.Need-element-write-q
+element-write-q c = search needs
+
+element-write-q-2 : tie.Need-element-write-q-2
+element-write-q-2 c = search needs
+
+mul-h : tie.Need-mul-h
+mul-h c = search needs
+
+element-set-from-h : tie.Need-element-set-from-h
+element-set-from-h c = search needs
+
+mul-no-literal : tie.Need-mul-no-literal
+mul-no-literal c = search needs
+
+element-set-from-no-literal : tie.Need-element-set-from-no-literal
+element-set-from-no-literal c = search needs
+
+mul-e : tie.Need-mul-e
+mul-e c = search needs
+
+element-set-from-e : tie.Need-element-set-from-e
+element-set-from-e c = search needs
+
+mul-no-entry : tie.Need-mul-no-entry
+mul-no-entry c = search needs
+
+element-set-from-no-entry : tie.Need-element-set-from-no-entry
+element-set-from-no-entry c = search needs
+
+returns : tie.Need-returns
+returns c = roots-written (c .before .before .before .before .before .before .before .before .before .before .before .before .before .args .t1) (c .before .before .before .before .before .before .before .before .before .before .before .before .before .args .a) (c .before .before .before .before .before .before .before .before .before .before .before .before .before .args .b) (c .before .before .before .before .before .before .place-of .result) (c .before .before .before .empty .result) (c .before .before .empty2 .result) (c .before .before .before .before .before .before .place-of .ensures) (c .before .before .before .empty .ensures) (c .before .before .empty2 .ensures)
+
+pub join-roots-spec : {M : Type 1} → statement M
+join-roots-spec =
+    tie.close
+    (tie.spec
+    element-copy-out-n1
+    element-copy-out-n2
+    mul-h1
+    element-copy-out-h1
+    mul-h2
+    element-copy-out-h2
+    mul-e1
+    element-copy-out-e1
+    mul-e2
+    element-copy-out-e2
+    place-of-requires
+    empty-requires
+    empty-requires-2
+    cast-classes
+    element-write-classes
+    element-write-q
+    element-write-q-2
+    mul-h
+    element-set-from-h
+    mul-no-literal
+    element-set-from-no-literal
+    mul-e
+    element-set-from-e
+    mul-no-entry
+    element-set-from-no-entry
+    returns)

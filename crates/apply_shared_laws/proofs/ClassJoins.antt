@@ -1,0 +1,190 @@
+-- Two classes of an ready set that become one leave it ready and keep what was there. Assumes nothing.
+use Prim.Native.Nat.{ℕ, _<_, min, max}
+use mathlib.Core.Path.{_≡_, refl, sym, ap, _∙_, subst}
+use mathlib.Core.Bool.{true, false, false≢true}
+use mathlib.Core.List.{List}
+use mathlib.Core.Logic.{inl}
+use native.Mathlib.Decide.{decLt, ℕ-discrete}
+use native.Mathlib.Omega.{arith}
+use lib.ListN.{length, getD, set, length-set}
+use lib.Seq.{getD-set-same, getD-set-other}
+use Rattle.value_classes.specs.Parents.{rootOf, joined}
+use Rattle.value_classes.proofs.RootLaws.{Falls, falls, root-below, root-idempotent, joined-exact}
+use Rattle.constraint_spec.specs.Sets.{none, noEntry, blank, parentsOf, nonNulls, literals, nonNullAt, literalAt, entryAt, canonicalAt, withClasses, normalized, unionValues}
+use Rattle.constraint_spec.specs.declared.ConstraintSet.{ConstraintSet}
+use Rattle.constraint_spec.proofs.Operations.{union-one, union-two}
+use Rattle.constraint_set.specs.Settled.{Settled, nullOn, movedTo, placeAt, unitedRoots}
+use Rattle.constraint_set.proofs.Passes.{goesTo, goes-b, goes-other, or-before}
+use Rattle.constraint_set.proofs.Settling.{root-goes, joined-normalized, united-settled}
+use Rattle.constraint_normal.specs.Ready.{Bounded, Ready}
+use Rattle.apply_action.specs.Cells.{cellOf}
+use Rattle.apply_action.specs.declared.Cell.{Cell}
+use Rattle.apply_shared_laws.proofs.Growing.{Grows, grows-flag, joinedCell, grows-left, grows-right, bounded-joined}
+use Rattle.apply_shared_laws.proofs.Keeping.{Keeps, keeps-self}
+
+-- ---- what stood at b stands at a
+module _ {A : Type 0} (l : List A) (a b : ℕ) (now none d : A) (less : a < b) (high : b < 128) (long : length l ≡ 128) where
+  pub moved-a : getD (movedTo l a b now none) a d ≡ now
+  moved-a = getD-set-other (set l a now) b a none d (omega arith) ∙ getD-set-same l a now d (omega arith)
+
+  moved-b : getD (movedTo l a b now none) b d ≡ none
+  moved-b = getD-set-same (set l a now) b none d (omega (arith, length-set l a now))
+
+  pub moved-other : (k : ℕ) → (k ≡ a → ⊥) → (k ≡ b → ⊥) → getD (movedTo l a b now none) k d ≡ getD l k d
+  moved-other k n m = getD-set-other (set l a now) b k none d m ∙ getD-set-other l a k now d n
+
+-- ---- two representatives joined
+module _ (s : ConstraintSet) (rd : Ready s) (a b : ℕ) (less : a < b) (high : b < 128) (own-a : canonicalAt s a ≡ a) (own-b : canonicalAt s b ≡ b) where
+  g : Settled s
+  g = rd .settled
+
+  abbrev t : ConstraintSet
+  t = unitedRoots s a b
+
+  abbrev p : List ℕ
+  p = parentsOf s
+
+  down : Falls p
+  down = falls p (g .ok)
+
+  many : length p ≡ 128
+  many = g .many
+
+  joined-is : joined p a b ≡ set p b a
+  unfolding joined
+  joined-is =
+      let m : max a b ≡ b = omega arith in
+      let n : min a b ≡ a = omega arith in
+      rw (own-a, own-b, m, n)
+
+  -- the class of b goes to a
+  pub root-moves : (k : ℕ) → canonicalAt t k ≡ goesTo a b (canonicalAt s k)
+  unfolding unitedRoots
+  root-moves k =
+      subst (λ (q : List ℕ). rootOf q k ≡ rootOf q (rootOf p k)) joined-is
+      (joined-exact p down a b (omega (arith, many)) (omega (arith, many)) k (rootOf p k) .1 (inl (sym (root-idempotent p down k))))
+      ∙ root-goes p down a b less (omega (arith, many)) own-a (rootOf p k) (root-idempotent p down k)
+
+  flag-stays : s .contradictory ≡ true → t .contradictory ≡ true
+  unfolding unitedRoots
+  flag-stays e = or-before (s .contradictory) _ e
+
+  cell-a : cellOf t a ≡ joinedCell (cellOf s a) (cellOf s b)
+  unfolding unitedRoots joinedCell
+  cell-a = λ i. record {
+    «non_null» = moved-a (nonNulls s) a b (nullOn (nonNullAt s a) (nonNullAt s b)) false false less high (g .nulls .long) i;
+    literal = moved-a (literals s) a b (placeAt s a b .literal) none none less high (g .equal .long) i;
+    entry = moved-a (s .ranges) a b (placeAt s a b .entry) noEntry blank less high (g .within .long) i;
+    contradictory = t .contradictory;
+  }
+
+  cell-other : (k : ℕ) → (k ≡ a → ⊥) → (k ≡ b → ⊥) → cellOf t k ≡ record { «non_null» = nonNullAt s k; literal = literalAt s k; entry = entryAt s k; contradictory = t .contradictory }
+  unfolding unitedRoots
+  cell-other k n m = λ i. record {
+    «non_null» = moved-other (nonNulls s) a b (nullOn (nonNullAt s a) (nonNullAt s b)) false false less high (g .nulls .long) k n m i;
+    literal = moved-other (literals s) a b (placeAt s a b .literal) none none less high (g .equal .long) k n m i;
+    entry = moved-other (s .ranges) a b (placeAt s a b .entry) noEntry blank less high (g .within .long) k n m i;
+    contradictory = t .contradictory;
+  }
+
+  -- b is empty then
+  b-entry : entryAt t b ≡ noEntry
+  unfolding unitedRoots
+  b-entry = moved-b (s .ranges) a b (placeAt s a b .entry) noEntry blank less high (g .within .long)
+
+  a-low : a < 128
+  a-low = omega arith
+
+  united-bounded : (k : ℕ) → k < 128 → Bounded (entryAt t k)
+  united-bounded k h = elim (ℕ-discrete k a) [
+    | yes e ↦ subst (λ (z : ℕ). Bounded (entryAt t z)) (sym e) (subst (λ (c : Cell). Bounded (c .entry)) (sym cell-a) (bounded-joined (cellOf s a) (cellOf s b) (rd .bounds a a-low) (rd .bounds b high)))
+    | no n ↦ elim (ℕ-discrete k b) [
+      | yes e ↦ subst (λ (z : ℕ). Bounded (entryAt t z)) (sym e) (subst Bounded (sym b-entry) (λ z. absurd (false≢true z)))
+      | no m ↦ subst (λ (c : Cell). Bounded (c .entry)) (sym (cell-other k n m)) (rd .bounds k h)
+    ]
+  ]
+
+  pub united-ready : Ready t
+  united-ready = record { settled = united-settled s g a b less high own-a; bounds = united-bounded; room = unfold unitedRoots in rd .room }
+
+  -- what stood at k stands where k goes
+  place : (k : ℕ) → Grows (cellOf s k) (cellOf t (goesTo a b k))
+  place k = elim (ℕ-discrete k b) [
+    | yes e ↦ subst (λ (z : ℕ). Grows (cellOf s z) (cellOf t (goesTo a b z))) (sym e)
+        (subst (λ (z : ℕ). Grows (cellOf s b) (cellOf t z)) (sym (goes-b a b))
+        (subst (Grows (cellOf s b)) (sym cell-a) (grows-right (cellOf s a) (cellOf s b) (λ z. z) (rd .bounds a a-low) (rd .bounds b high))))
+    | no m ↦ subst (λ (z : ℕ). Grows (cellOf s k) (cellOf t z)) (sym (goes-other a b k m)) (elim (ℕ-discrete k a) [
+      | yes e ↦ subst (λ (z : ℕ). Grows (cellOf s z) (cellOf t z)) (sym e) (subst (Grows (cellOf s a)) (sym cell-a) (grows-left (cellOf s a) (cellOf s b)))
+      | no n ↦ subst (Grows (cellOf s k)) (sym (cell-other k n m)) (grows-flag (cellOf s k) (nonNullAt s k) (t .contradictory) (λ e. e) flag-stays)
+    ])
+  ]
+
+  pub united-keeps : Keeps s t
+  united-keeps = record {
+    classes = λ i j e. root-moves i ∙ ap (goesTo a b) e ∙ sym (root-moves j);
+    cells = λ i h. subst (λ (z : ℕ). Grows (cellOf s (canonicalAt s i)) (cellOf t z)) (sym (root-moves i)) (place (canonicalAt s i));
+    handled = unfold unitedRoots in λ h e. e;
+  }
+
+  pub together : (i j : ℕ) → canonicalAt s i ≡ a → canonicalAt s j ≡ b → canonicalAt t i ≡ canonicalAt t j
+  together i j ei ej =
+      root-moves i ∙ ap (goesTo a b) ei ∙ goes-other a b a (omega arith) ∙ sym (goes-b a b) ∙ ap (goesTo a b) (sym ej) ∙ sym (root-moves j)
+
+-- ---- two identities joined
+module _ (s : ConstraintSet) (rd : Ready s) (i j : ℕ) (hi : i < 128) (hj : j < 128) where
+  gs : Settled s
+  gs = rd .settled
+
+  abbrev x : ℕ
+  x = canonicalAt s i
+
+  abbrev y : ℕ
+  y = canonicalAt s j
+
+  pub x-low : x < 128
+  x-low = root-below (parentsOf s) 128 i x (gs .many) refl hi
+
+  pub y-low : y < 128
+  y-low = root-below (parentsOf s) 128 j y (gs .many) refl hj
+
+  pub own : (k : ℕ) → canonicalAt s (canonicalAt s k) ≡ canonicalAt s k
+  own k = root-idempotent (parentsOf s) (falls (parentsOf s) (gs .ok)) k
+
+  united-is : (a b : ℕ) → a < b → b < 128 → canonicalAt s a ≡ a → joined (parentsOf s) i j ≡ set (parentsOf s) b a → (x ≡ y → ⊥) → unitedRoots s a b ≡ unionValues s i j
+  united-is a b less high o e d =
+      sym (union-two s i j hi hj d ∙ ap (λ (q : List ℕ). normalized (withClasses s (record { parents = q }))) e ∙ joined-normalized s gs a b less high o)
+
+  pub left-lower : x < y → unitedRoots s x y ≡ unionValues s i j
+  unfolding joined
+  left-lower h =
+      let m : max x y ≡ y = omega arith in
+      let n : min x y ≡ x = omega arith in
+      united-is x y h y-low (own i) (rw (m, n)) (λ z. omega arith)
+
+  pub right-lower : y < x → unitedRoots s y x ≡ unionValues s i j
+  unfolding joined
+  right-lower h =
+      let m : max x y ≡ x = omega arith in
+      let n : min x y ≡ y = omega arith in
+      united-is y x h x-low (own j) (rw (m, n)) (λ z. omega arith)
+
+  -- what holds of the set where the two are in one class, and of it with their two representatives joined, holds of it after a union
+  pub union-so : (P : ConstraintSet → Type 0) → (x ≡ y → P s) → (x < y → P (unitedRoots s x y)) → (y < x → P (unitedRoots s y x)) → P (unionValues s i j)
+  union-so P same left right = elim (decLt x y) [
+    | yes h ↦ subst P (left-lower h) (left h)
+    | no n ↦ elim (decLt y x) [
+      | yes h ↦ subst P (right-lower h) (right h)
+      | no m ↦ (let e : x ≡ y = omega arith in subst P (sym (union-one s i j hi hj e)) (same e))
+    ]
+  ]
+
+  pub union-ready : Ready (unionValues s i j)
+  union-ready = union-so Ready (λ e. rd) (λ h. united-ready s rd x y h y-low (own i) (own j)) (λ h. united-ready s rd y x h x-low (own j) (own i))
+
+  pub union-keeps : Keeps s (unionValues s i j)
+  union-keeps = union-so (Keeps s) (λ e. keeps-self s) (λ h. united-keeps s rd x y h y-low (own i) (own j)) (λ h. united-keeps s rd y x h x-low (own j) (own i))
+
+  pub union-together : canonicalAt (unionValues s i j) i ≡ canonicalAt (unionValues s i j) j
+  union-together =
+      union-so (λ (t : ConstraintSet). canonicalAt t i ≡ canonicalAt t j) (λ e. e) (λ h. together s rd x y h y-low (own i) (own j) i j refl refl)
+      (λ h. sym (together s rd y x h x-low (own j) (own i) j i refl refl))

@@ -1,0 +1,15 @@
+pub mod PredicateForms
+pub mod Members
+pub mod Readings
+pub mod Conjunctions
+pub mod Comparisons
+pub mod Applying
+pub mod PlanNodes
+pub mod Predicates
+pub mod Answers
+pub mod Plain
+pub mod Merging
+pub mod ExactnessExamples
+pub mod Evaluations
+pub mod Between
+pub mod Refusals

@@ -1,6 +1,0 @@
-pub mod Guards
-pub mod Tables
-pub mod Entries
-pub mod Rests
-pub mod Stepping
-pub mod Turns

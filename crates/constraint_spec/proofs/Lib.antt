@@ -1,0 +1,17 @@
+pub mod Pairs
+pub mod ValueLaws
+pub mod Places
+pub mod Goods
+pub mod Puts
+pub mod Steps
+pub mod Likes
+pub mod Beside
+pub mod Normal
+pub mod Operations
+pub mod Merge
+pub mod Empty
+pub mod RoomLaws
+pub mod Rules
+pub mod Bounding
+pub mod Limits
+pub mod SetExamples

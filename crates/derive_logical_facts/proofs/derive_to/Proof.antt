@@ -1,0 +1,107 @@
+use borrow.Author.Needs.{needs}
+use native.Mathlib.Omega.{arith}
+use Prim.Native.Nat.{_+_, _-_, _≤_}
+use Rattle.derive_logical_facts.proofs.Holding.{Holds, holds-none, holds-turn, holds-end}
+use Rattle.derive_logical_facts.proofs.derive_to.Statement.{statement}
+use Rattle.derive_logical_facts.proofs.derive_to.Tie as tie
+
+abbrev Inv-loop : tie.InvT-loop
+Inv-loop p h operators ids table₀ k₀ table k = (k ≤ h + 1) × Holds p k table
+
+abbrev μ-loop : tie.MeasureT-loop
+μ-loop p h operators ids table₀ k₀ table k = h + 1 - k
+
+identities-of-requires : tie.Need-identities-of-requires Inv-loop μ-loop
+identities-of-requires c κs = search needs
+
+refuse-requires : tie.Need-refuse-requires Inv-loop μ-loop
+refuse-requires c κs = search needs
+
+loop-holds : tie.Need-loop-holds Inv-loop μ-loop
+loop-holds c = (omega arith, holds-none (c .before .before .before .args .p) _ (c .refuse .ensures))
+
+operator-at-requires : tie.Need-operator-at-requires Inv-loop μ-loop
+operator-at-requires c κs = search needs
+
+outer-of-requires : tie.Need-outer-of-requires Inv-loop μ-loop
+outer-of-requires c κs = search needs
+
+earlier-requires : tie.Need-earlier-requires Inv-loop μ-loop
+earlier-requires c κs = search needs
+
+inner-of-requires : tie.Need-inner-of-requires Inv-loop μ-loop
+inner-of-requires c κs = search needs
+
+earlier-requires-2 : tie.Need-earlier-requires-2 Inv-loop μ-loop
+earlier-requires-2 c κs = search needs
+
+mul-l : tie.Need-mul-l Inv-loop μ-loop
+mul-l c = omega (arith, c .before .before .earlier .ensures, c .before .before .before .before .before .loop-test .taken, c .before .before .before .before .before .before .before .before .before .before .pre)
+
+array-copy-out-l : tie.Need-array-copy-out-l Inv-loop μ-loop
+array-copy-out-l c = omega (arith, c .before .before .earlier .ensures, c .before .before .before .before .before .loop-test .taken, c .before .before .before .before .before .before .before .before .before .before .pre)
+
+mul-r : tie.Need-mul-r Inv-loop μ-loop
+mul-r c = omega (arith, c .before .earlier2 .ensures, c .before .before .before .before .before .before .loop-test .taken, c .before .before .before .before .before .before .before .before .before .before .before .pre)
+
+array-copy-out-r : tie.Need-array-copy-out-r Inv-loop μ-loop
+array-copy-out-r c = omega (arith, c .before .earlier2 .ensures, c .before .before .before .before .before .before .loop-test .taken, c .before .before .before .before .before .before .before .before .before .before .before .pre)
+
+step-requires : tie.Need-step-requires Inv-loop μ-loop
+step-requires c κs = search needs
+
+cast-i : tie.Need-cast-i Inv-loop μ-loop
+cast-i c = search needs
+
+mul-table : tie.Need-mul-table Inv-loop μ-loop
+mul-table c = omega (arith, c .before .before .before .before .before .before .before .before .loop-test .taken, c .before .before .before .before .before .before .before .before .before .before .before .before .before .pre)
+
+array-set-from-table : tie.Need-array-set-from-table Inv-loop μ-loop
+array-set-from-table c = omega (arith, c .before .before .before .before .before .before .before .before .loop-test .taken, c .before .before .before .before .before .before .before .before .before .before .before .before .before .pre)
+
+add-k : tie.Need-add-k Inv-loop μ-loop
+add-k c = omega (arith, c .before .before .before .before .before .before .before .before .loop-test .taken, c .before .before .before .before .before .before .before .before .before .before .before .before .before .pre)
+
+loop-less : tie.Need-loop-less Inv-loop μ-loop
+loop-less c = omega (arith, c .before .before .before .before .before .before .before .before .loop-test .taken, c .before .before .before .before .before .before .before .before .before .before .before .before .before .pre)
+
+loop-again : tie.Need-loop-again Inv-loop μ-loop
+loop-again c = (omega (arith, c .before .before .before .before .before .before .before .before .loop-test .taken), holds-turn (c .before .before .before .before .before .before .before .before .before .before .before .before .before .args .p) (c .before .before .before .before .before .before .before .before .before .loop .k) (c .before .before .before .before .before .before .before .before .before .loop .table) (omega (arith, c .before .before .before .before .before .before .before .before .loop-test .taken, c .before .before .before .before .before .before .before .before .before .before .before .before .before .pre)) (c .before .before .before .before .before .before .before .before .before .loop .inv .1) _ _ _ _ _ _ _ (c .before .before .before .before .before .before .before .before .before .before .before .identities-of .ensures) (c .before .before .before .before .before .before .before .operator-at .ensures) (c .before .before .before .before .before .before .outer-of .ensures) (c .before .before .before .before .inner-of .ensures) (c .before .before .before .before .before .earlier .ensures) (c .before .before .before .earlier2 .ensures) (c .step .ensures))
+
+mul-d : tie.Need-mul-d Inv-loop μ-loop
+mul-d c = omega (arith, c .before .before .before .before .before .pre)
+
+array-copy-out-d : tie.Need-array-copy-out-d Inv-loop μ-loop
+array-copy-out-d c = omega (arith, c .before .before .before .before .before .pre)
+
+returns : tie.Need-returns Inv-loop μ-loop
+returns c = holds-end (c .before .before .before .before .before .before .args .p) _ _ _ (c .before .before .before .before .before .before .pre) (omega (arith, c .before .loop-test .left)) (c .before .before .loop .inv .1)
+
+pub derive-to-spec : {M : Type 1} → statement M
+derive-to-spec =
+    tie.close
+    (tie.spec
+    Inv-loop
+    μ-loop
+    identities-of-requires
+    refuse-requires
+    loop-holds
+    operator-at-requires
+    outer-of-requires
+    earlier-requires
+    inner-of-requires
+    earlier-requires-2
+    mul-l
+    array-copy-out-l
+    mul-r
+    array-copy-out-r
+    step-requires
+    cast-i
+    mul-table
+    array-set-from-table
+    add-k
+    loop-less
+    loop-again
+    mul-d
+    array-copy-out-d
+    returns)

@@ -1,0 +1,35 @@
+use mathlib.Core.Path.{_≡_, refl, sym, ap, _∙_}
+use borrow.Author.Tests.{not-true, not-false}
+use Rattle.derive_operator.proofs.OperatorAnswers.{given-does, given-stays}
+use borrow.Author.Needs.{needs}
+use Rattle.derive_operator.proofs.join.Statement.{statement}
+use Rattle.derive_operator.proofs.join.Tie as tie
+
+is-accepted-requires : tie.Need-is-accepted-requires
+is-accepted-requires c κs = search needs
+
+returns : tie.Need-returns
+returns c = given-stays _ _ _ (c .before .is-accepted .ensures) (not-true _ (c .if1 .taken))
+
+is-accepted-requires-2 : tie.Need-is-accepted-requires-2
+is-accepted-requires-2 c κs = search needs
+
+returns-2 : tie.Need-returns-2
+returns-2 c = given-does _ _ _ (c .before .before .before .is-accepted .ensures) _ (not-false _ (c .before .before .if1 .left)) (given-stays _ _ _ (c .before .is-accepted2 .ensures) (not-true _ (c .if2 .taken)))
+
+join-inputs-requires : tie.Need-join-inputs-requires
+join-inputs-requires c κs = search needs
+
+returns-3 : tie.Need-returns-3
+returns-3 c = given-does _ _ _ (c .before .before .before .before .before .before .is-accepted .ensures) _ (not-false _ (c .before .before .before .before .before .if1 .left)) (given-does _ _ _ (c .before .before .before .before .is-accepted2 .ensures) _ (not-false _ (c .before .before .before .if2 .left)) (c .join-inputs .ensures))
+
+pub join-spec : {M : Type 1} → statement M
+join-spec =
+    tie.close
+    (tie.spec
+    is-accepted-requires
+    returns
+    is-accepted-requires-2
+    returns-2
+    join-inputs-requires
+    returns-3)

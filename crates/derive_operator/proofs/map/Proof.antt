@@ -1,0 +1,37 @@
+use Rattle.plan_data.specs.Nodes.{nodeAt}
+use mathlib.Core.Path.{_≡_, refl, sym, ap, _∙_}
+use Rattle.derive_operator.proofs.OperatorAnswers.{accept-same, given-does, given-stays}
+use Rattle.derive_spec.specs.Columns.{mapped}
+use Rattle.derive_spec.specs.declared.ColumnFacts.{ColumnFacts}
+use borrow.Author.Needs.{needs}
+use Rattle.derive_operator.proofs.map.Statement.{statement}
+use Rattle.derive_operator.proofs.map.Tie as tie
+
+is-accepted-requires : tie.Need-is-accepted-requires
+is-accepted-requires c κs = search needs
+
+columns-in-requires : tie.Need-columns-in-requires
+columns-in-requires c κs = search needs
+
+map-columns-requires : tie.Need-map-columns-requires
+map-columns-requires c κs = search needs
+
+accept-with-requires : tie.Need-accept-with-requires
+accept-with-requires c κs = search needs
+
+returns : tie.Need-returns
+returns c = given-does _ _ _ (c .before .before .before .before .before .before .before .before .before .before .before .before .before .before .before .before .before .before .before .before .before .before .before .before .before .before .is-accepted .ensures) _ (c .before .before .before .before .before .before .before .before .before .before .before .before .before .before .before .before .before .before .before .before .before .before .before .before .before .if1 .taken) (accept-same _ _ _ _ _ (c .accept-with .ensures) (c .before .before .map-columns .ensures ∙ ap (λ (g : ColumnFacts). mapped (c .before .before .before .before .before .before .before .before .before .before .before .before .before .before .before .before .before .before .before .before .before .before .before .before .before .before .before .args .ids) (nodeAt (c .before .before .before .before .before .before .before .before .before .before .before .before .before .before .before .before .before .before .before .before .before .before .before .before .before .before .before .args .p)) (c .before .before .before .before .before .before .before .before .before .before .before .before .before .before .before .before .before .before .before .before .before .before .before .before .before .before .before .args .p .items .a) (c .before .before .before .before .before .before .before .before .before .before .before .before .before .before .before .before .before .before .before .before .before .before .before .before .before .before .before .args .p .items .b) (c .before .before .before .before .before .before .before .before .before .before .before .before .before .before .before .before .before .before .before .before .before .before .before .before .before .before .before .args .computations) g) (c .before .before .before .before .before .before .before .before .before .before .before .before .before .before .before .before .before .before .before .before .before .columns-in .ensures)) refl)
+
+returns-2 : tie.Need-returns-2
+returns-2 c = given-stays _ _ _ (c .before .is-accepted .ensures) (c .if1 .left)
+
+pub map-spec : {M : Type 1} → statement M
+map-spec =
+    tie.close
+    (tie.spec
+    is-accepted-requires
+    columns-in-requires
+    map-columns-requires
+    accept-with-requires
+    returns
+    returns-2)

@@ -1,0 +1,11 @@
+pub mod Answers
+pub mod Keeping
+pub mod DerivingExamples
+pub mod Emptied
+pub mod Before
+pub mod Rooms
+pub mod Refusing
+pub mod SetRules
+pub mod ColumnRules
+pub mod OperatorRanges
+pub mod FactsRules

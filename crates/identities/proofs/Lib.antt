@@ -1,6 +1,0 @@
-pub mod PlaceLaws
-pub mod Ways
-pub mod OrderLaws
-pub mod RankLaws
-pub mod NumberLaws
-pub mod Cases

@@ -1,0 +1,66 @@
+use borrow.Author.Needs.{needs}
+use Prim.Native.Nat.{_-_, _≤_}
+use mathlib.Core.Path.{_≡_, refl, ap, _∙_}
+use native.Mathlib.Omega.{arith}
+use denote.Ref.{now}
+use Rattle.plan_identities.specs.Places.{filled}
+use Rattle.plan_identities.specs.Identities.{tableIn}
+use Rattle.plan_identities.proofs.PlaceLaws.{filled-more}
+use Rattle.plan_identities.proofs.tables.Statement.{statement}
+use Rattle.plan_identities.proofs.tables.Tie as tie
+
+abbrev Inv-loop : tie.InvT-loop
+Inv-loop kind a b start items np n t₀ c₀ t c = (c ≤ n) × (t ≡ filled (tableIn kind a b start items np) c)
+
+abbrev μ-loop : tie.MeasureT-loop
+μ-loop kind a b start items np n t₀ c₀ t c = n - c
+
+loop-holds : tie.Need-loop-holds Inv-loop μ-loop
+unfolding filled
+loop-holds c = (omega arith, refl)
+
+table-of-requires : tie.Need-table-of-requires Inv-loop μ-loop
+table-of-requires c κs = search needs
+
+cast-i : tie.Need-cast-i Inv-loop μ-loop
+cast-i c = search needs
+
+mul-t : tie.Need-mul-t Inv-loop μ-loop
+mul-t c = search needs
+
+array-write-t : tie.Need-array-write-t Inv-loop μ-loop
+array-write-t c = search needs
+
+add-c : tie.Need-add-c Inv-loop μ-loop
+add-c c = search needs
+
+loop-less : tie.Need-loop-less Inv-loop μ-loop
+loop-less c = search needs
+
+loop-again : tie.Need-loop-again Inv-loop μ-loop
+loop-again c =
+    let a = c .before .before .before .before .before .before .before .before .args in
+    let f = tableIn (now (a .kind)) (now (a .a)) (now (a .b)) (now (a .start)) (now (a .items)) (a .np) in
+    (omega arith, filled-more f (c .before .before .loop .t) (c .before .before .loop .c) (c .table-of .result) (c .table-of .ensures) (c .before .before .loop .inv .1))
+
+returns : tie.Need-returns Inv-loop μ-loop
+returns c =
+    let a = c .before .before .before .before .before .before .before .args in
+    let f = tableIn (now (a .kind)) (now (a .a)) (now (a .b)) (now (a .start)) (now (a .items)) (a .np) in
+    let e : c .before .loop .c ≡ a .n = omega arith in c .before .loop .inv .1 ∙ ap (filled f) e
+
+pub tables-spec : {M : Type 1} → statement M
+tables-spec =
+    tie.close
+    (tie.spec
+    Inv-loop
+    μ-loop
+    loop-holds
+    table-of-requires
+    cast-i
+    mul-t
+    array-write-t
+    add-c
+    loop-less
+    loop-again
+    returns)

@@ -1,0 +1,13 @@
+pub mod StepLaws
+pub mod ShapeLaws
+pub mod Alikes
+pub mod Growth
+pub mod Adding
+pub mod Keeping
+pub mod Operating
+pub mod Keeps
+pub mod Theorems
+pub mod HeldLaws
+pub mod OperatorTheorems
+pub mod PassedRows
+pub mod CaseEleven

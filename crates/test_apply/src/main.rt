@@ -1,0 +1,335 @@
+// Applies predicates to facts and merges facts, as standard input describes, step by step. A step is 20 bytes: what to do, a kind, a code, a column,
+// then 16-bit numbers a, b and the start of a list, two bytes of nothing, and 64 bits; numbers have their high byte first. There are two facts, the
+// left and the right. Steps: 0 a new plan and new facts, 1 a column, 2 an expression, 3 a list item, 4 a times an And of the last expression and b,
+// 5 the left lineage of a column, 6 apply expression a to the left, 7 list the left, 8 exchange left and right, 9 merge the right into the left,
+// with its constraints where the code is 1. An application and a merge write the refusal's number, 0 for none.
+use apply_spec::FactsAnswer;
+use apply_spec::LogicalFacts;
+use apply_spec::Outcome;
+use constraint_spec::ConstraintSet;
+use constraint_spec::Entry;
+use constraint_spec::Holder;
+use plan::Expr;
+use plan::Plan;
+use plan_kinds::Record;
+use scalar::ScalarValue;
+use value_range::Bound;
+ghost use Prim.Native.Nat.{_<_};
+
+const STEPS: u32 = 4000000;
+
+struct State {
+    plan: Plan,
+    left: LogicalFacts,
+    right: LogicalFacts,
+}
+
+fn byte(s: &[u8], i: usize) -> u8 {
+    lists::at8(s, i)
+}
+
+fn word(high: u8, low: u8) -> u16 {
+    high as u16 * 256 + low as u16
+}
+
+fn long(high: u16, low: u16) -> u64
+    ensures { λ r. ⌜ r < 4294967296 ⌝ }
+{
+    high as u64 * 65536 + low as u64
+}
+
+fn bits(s: &[u8]) -> u64 {
+    let high = long(
+        word(byte(s, 12), byte(s, 13)),
+        word(byte(s, 14), byte(s, 15)),
+    );
+    let low = long(
+        word(byte(s, 16), byte(s, 17)),
+        word(byte(s, 18), byte(s, 19)),
+    );
+    high * 4294967296 + low
+}
+
+fn first(s: &[u8]) -> u16 {
+    word(byte(s, 4), byte(s, 5))
+}
+
+fn second(s: &[u8]) -> u16 {
+    word(byte(s, 6), byte(s, 7))
+}
+
+fn record(s: &[u8]) -> Record {
+    Record {
+        kind: byte(s, 1),
+        code: byte(s, 2),
+        a: first(s),
+        b: second(s),
+        c: 0,
+        d: 0,
+        bits: bits(s),
+    }
+}
+
+fn plain(kind: u8, a: u16) -> Record {
+    Record {
+        kind,
+        code: 0,
+        a,
+        b: 0,
+        c: 0,
+        d: 0,
+        bits: 0,
+    }
+}
+
+fn one_less(n: u16) -> u16 {
+    if n == 0 { 0 } else { n - 1 }
+}
+
+// An And of the last expression and e.
+fn with_and(p: Plan, e: u16) -> Plan {
+    let x = p.expressions;
+    let t = p.items;
+    let last = one_less(x.count);
+    let q = p.append_item(plain(0, last));
+    let r = q.plan.append_item(plain(0, e));
+    let s = r.plan.append_expr(plain(0x23, 2), t.count);
+    s.plan
+}
+
+fn nested(p: Plan, n: u16, e: u16) -> Plan {
+    let mut q = p;
+    for _ in 0..n {
+        q = with_and(q, e);
+    }
+    q
+}
+
+fn planned(p: Plan, s: &[u8]) -> Plan {
+    let x = record(s);
+    let what = byte(s, 0);
+    if what == 1 {
+        let r = p.append_column(x);
+        return r.plan;
+    }
+    if what == 2 {
+        let r = p.append_expr(x, word(byte(s, 8), byte(s, 9)));
+        return r.plan;
+    }
+    if what == 3 {
+        let r = p.append_item(x);
+        return r.plan;
+    }
+    if what == 4 {
+        return nested(p, first(s), second(s));
+    }
+    p
+}
+
+// ---- what is written
+
+fn say(n: u64) {
+    io::write_all(1, b" ");
+    io::print_decimal(1, n);
+}
+
+fn end_line() {
+    io::write_all(1, b"\n");
+}
+
+fn flag(b: bool) -> u64 {
+    if b { 1 } else { 0 }
+}
+
+// The bits, and 1 exclusive or 2 inclusive; 0 and 0 for none.
+fn bound(b: Bound) {
+    if b.present {
+        say(scalar::bits_of(ScalarValue::Float64(b.value)));
+        say(if b.inclusive { 2 } else { 1 });
+    } else {
+        say(0);
+        say(0);
+    }
+}
+
+fn list_literal(i: usize, h: Holder) {
+    if h.present {
+        let v = h.value;
+        io::write_all(1, b"literal");
+        say(i as u64);
+        say(scalar::case_of(v) as u64);
+        say(scalar::code_of(v) as u64);
+        say(scalar::bits_of(v));
+        end_line();
+    }
+}
+
+fn list_range(i: usize, e: Entry) {
+    if e.present {
+        let range = e.range;
+        let lower = range.lower;
+        let upper = range.upper;
+        io::write_all(1, b"range");
+        say(i as u64);
+        bound(lower);
+        bound(upper);
+        end_line();
+    }
+}
+
+fn list_member(i: usize, r: usize) {
+    if r != i {
+        io::write_all(1, b"member");
+        say(i as u64);
+        say(r as u64);
+        end_line();
+    }
+}
+
+fn list_non_null(i: usize, known: bool) {
+    if known {
+        io::write_all(1, b"nonnull");
+        say(i as u64);
+        end_line();
+    }
+}
+
+fn list_identities(s: ConstraintSet) {
+    let mut i: usize = 0;
+    while i < 128 {
+        let h = s.literal_equalities[i];
+        let e = s.ranges[i];
+        list_member(i, constraint_set::canonical(s, i));
+        list_non_null(i, s.non_null_values[i]);
+        list_literal(i, h);
+        list_range(i, e);
+        i += 1;
+    }
+}
+
+fn list_residuals(list: [u16; 64], count: usize) {
+    let mut k: usize = 0;
+    while k < count {
+        io::write_all(1, b"residual");
+        say(lists::at16(&list, k) as u64);
+        end_line();
+        k += 1;
+    }
+}
+
+fn list_lineage(c: usize, v: u8) {
+    if v != 0 {
+        io::write_all(1, b"column");
+        say(c as u64);
+        say(v as u64 - 1);
+        end_line();
+    }
+}
+
+fn list_columns(lineage: [u8; 64]) {
+    let mut c: usize = 0;
+    while c < 64 {
+        list_lineage(c, lineage[c]);
+        c += 1;
+    }
+}
+
+fn list(f: LogicalFacts) {
+    let s = f.constraints;
+    let lineage = f.lineage;
+    let residuals = s.residual_predicates;
+    io::write_all(1, b"facts");
+    say(flag(s.contradictory));
+    end_line();
+    list_columns(lineage);
+    list_identities(s);
+    list_residuals(residuals, s.residuals);
+}
+
+fn number(o: Outcome) -> u64 {
+    match o {
+        Outcome::Accepted => 0,
+        Outcome::Residuals => 7,
+        Outcome::NoSuch => 8,
+    }
+}
+
+fn written(a: FactsAnswer) -> LogicalFacts {
+    let o = a.outcome;
+    io::write_all(1, b"refused");
+    say(number(o));
+    end_line();
+    a.facts
+}
+
+// ---- steps
+
+fn with_lineage(f: LogicalFacts, s: &[u8]) -> LogicalFacts {
+    let c = byte(s, 3) as usize;
+    let mut g = f;
+    if c < 64 {
+        g.lineage[c] = byte(s, 5);
+    }
+    g
+}
+
+// What a step makes of the left facts.
+fn changed(p: Plan, f: LogicalFacts, g: LogicalFacts, s: &[u8]) -> LogicalFacts {
+    let what = byte(s, 0);
+    if what == 5 {
+        return with_lineage(f, s);
+    }
+    if what == 6 {
+        return written(logical_facts::apply_predicate(p, f, Expr(first(s))));
+    }
+    if what == 7 {
+        list(f);
+        return f;
+    }
+    if what == 9 {
+        return written(logical_facts::merge_inputs(p, f, g, byte(s, 2) == 1));
+    }
+    f
+}
+
+fn step(s: State, buf: &[u8]) -> State {
+    let p = s.plan;
+    let f = s.left;
+    let g = s.right;
+    let what = byte(buf, 0);
+    if what == 0 {
+        return State {
+            plan: Plan::empty(),
+            left: LogicalFacts::empty(),
+            right: LogicalFacts::empty(),
+        };
+    }
+    if what == 8 {
+        return State {
+            plan: p,
+            left: g,
+            right: f,
+        };
+    }
+    State {
+        plan: planned(p, buf),
+        left: changed(p, f, g, buf),
+        right: g,
+    }
+}
+
+fn main() {
+    let mut buf = [0u8; 20];
+    let mut s = State {
+        plan: Plan::empty(),
+        left: LogicalFacts::empty(),
+        right: LogicalFacts::empty(),
+    };
+    for _ in 0..STEPS {
+        let n = io::read_full(0, &mut buf);
+        if n < 20 {
+            break;
+        }
+        s = step(s, &buf);
+    }
+}
