@@ -19,16 +19,19 @@ use Rattle.value_classes.proofs.Unions.{left-out, right-out}
 use Rattle.comparison.specs.Operators.{ordinary, bounding}
 use Rattle.comparison.specs.declared.BinaryOp.{BinaryOp}
 use Rattle.comparison.specs.declared.BinaryOp.the-variants.{Eq, NotEq, Lt, LtEq, Gt, GtEq, IsNotDistinctFrom}
-use Rattle.constraint_spec.specs.Sets.{canonicalAt, withFlag, putNonNull, putRange, layRange, crossCheck, boundsBy, unionValues, addNonNull, addLiteral, addBound, rangedBy, addRange, addResidual, done}
+use Rattle.constraint_spec.specs.Sets.{canonicalAt, withFlag, putNonNull, putRange, layRange, crossCheck, boundsBy, unionValues, addNonNull}
+use Rattle.constraint_spec.specs.Sets.{addLiteral, addBound, rangedBy, addRange, addResidual, done}
 use Rattle.constraint_spec.specs.declared.ConstraintSet.{ConstraintSet}
 use Rattle.constraint_spec.specs.declared.Applied.{Applied}
 use Rattle.constraint_spec.proofs.Operations.{union-one}
 use Rattle.plan_data.specs.declared.ExprData.{ExprData}
 use Rattle.plan_data.specs.declared.ExprData.the-variants as E
-use Rattle.apply_spec.specs.Apply.{seenOf, isNullLiteral, pairApplied, rangeApplied, boundApplied, boundReversed, operandsApplied, comparisonApplied, literalApplied, nodeApplied, conjunctApplied}
+use Rattle.apply_spec.specs.Apply.{seenOf, isNullLiteral, pairApplied, rangeApplied, boundApplied, boundReversed, operandsApplied, comparisonApplied}
+use Rattle.apply_spec.specs.Apply.{literalApplied, nodeApplied, conjunctApplied}
 use Rattle.apply_spec.specs.declared.Seen.{Seen}
 use Rattle.apply_spec.specs.declared.Seen.the-variants.{Identity, Constant, Unseen}
-use Rattle.apply_action.specs.Actions.{acted, sameAction, pairAction, boundedBy, rangeAction, literalAction, boundAction, reversedAction, operandsAction, comparisonAction, constantAction, nodeAction, actionOf, Proper}
+use Rattle.apply_action.specs.Actions.{acted, sameAction, pairAction, boundedBy, rangeAction, literalAction, boundAction, reversedAction}
+use Rattle.apply_action.specs.Actions.{operandsAction, comparisonAction, constantAction, nodeAction, actionOf, Proper}
 use Rattle.apply_action.specs.declared.Action.{Action}
 use Rattle.apply_action.specs.declared.Action.the-variants.{Nothing, Contradiction, Residual, Same, Literal, Bound, Entry}
 
@@ -54,9 +57,11 @@ module _ (s : ConstraintSet) (h : ℕ) where
   unfolding sameAction
   same-acts i j both = go (ltb i 128) (ltb j 128) refl refl
     where
-      go : (a b : Bool) → ltb i 128 ≡ a → ltb j 128 ≡ b → acted (cond a (cond b (Same i j both) (Same i i both)) Nothing) s h ≡ done (joined both i (unionValues s i j))
+      go : (a b : Bool) → ltb i 128 ≡ a → ltb j 128 ≡ b → acted (cond a (cond b (Same i j both) (Same i i both)) Nothing) s h ≡ done
+          (joined both i (unionValues s i j))
       go true true p q = refl
-      go true false p q = ap (λ (t : ConstraintSet). done (joined both i t)) (union-one s i i (ltb-true i 128 p) (ltb-true i 128 p) refl ∙ sym (out-right i j p q))
+      go true false p q = ap (λ (t : ConstraintSet). done (joined both i t))
+          (union-one s i i (ltb-true i 128 p) (ltb-true i 128 p) refl ∙ sym (out-right i j p q))
       go false b p q = ap done (sym (null-out both i (unionValues s i j) p ∙ out i j p))
 
   pair-acts : (op : BinaryOp) (i j : ℕ) → acted (pairAction op i j) s h ≡ pairApplied s h op i j
@@ -93,7 +98,8 @@ module _ (s : ConstraintSet) (h : ℕ) where
   range-acts op i (M.Of x) = go (bounding op) (ltb i 128) refl refl
     where
       go : (a b : Bool) → bounding op ≡ a → ltb i 128 ≡ b
-          → acted (cond a (cond b (Bound i op x) Nothing) (cond b (Entry i) Residual)) s h ≡ cond a (done (addBound s i op x)) (addResidual (addBound s i op x) h)
+          → acted (cond a (cond b (Bound i op x) Nothing) (cond b (Entry i) Residual)) s h ≡ cond a (done (addBound s i op x))
+          (addResidual (addBound s i op x) h)
       go true true p q = refl
       go true false p q = ap done (sym (bound-out op i x q))
       go false true p q = ap (λ (t : ConstraintSet). addResidual t h) (entry-in op i x q p)

@@ -20,7 +20,10 @@ use Rattle.value_range.specs.Ranges.{unboundedRange, emptyRange}
 use Rattle.value_range.specs.declared.ValueRange.{ValueRange}
 use Rattle.comparison.specs.Operators.{bounding}
 use Rattle.comparison.specs.declared.BinaryOp.{BinaryOp}
-use Rattle.constraint_spec.specs.Sets.{none, blank, held, entryOf, nonNulls, literals, handles, nonNullAt, literalAt, entryAt, withFlag, withResiduals, flagIf, clashes, rangeIn, tightenBy, outside, crossed, crossedAt, crossCheck, canonicalAt, putNonNull, putLiteral, putRange, layRange, boundsBy, unionValues, addNonNull, addLiteral, addBound, addResidual, done}
+use Rattle.constraint_spec.specs.Sets.{none, blank, held, entryOf, nonNulls, literals, handles, nonNullAt, literalAt, entryAt, withFlag}
+use Rattle.constraint_spec.specs.Sets.{withResiduals, flagIf, clashes, rangeIn, tightenBy, outside, crossed, crossedAt, crossCheck, canonicalAt}
+use Rattle.constraint_spec.specs.Sets.{putNonNull, putLiteral, putRange, layRange, boundsBy, unionValues, addNonNull, addLiteral, addBound}
+use Rattle.constraint_spec.specs.Sets.{addResidual, done}
 use Rattle.constraint_spec.specs.declared.Holder.{Holder}
 use Rattle.constraint_spec.specs.declared.Entry as En
 use Rattle.constraint_spec.specs.declared.ConstraintSet.{ConstraintSet}
@@ -72,7 +75,8 @@ acted-is (Bound i op x) q h = refl
 acted-is (Entry i) q h = refl
 
 -- only two identities of different classes are joined
-pub joined-apart : (act : Action) (q : ConstraintSet) → (canonicalAt q (firstOf act) ≡ canonicalAt q (secondOf act) → ⊥) → unionValues q (firstOf act) (secondOf act) ≡ joinedBy act q
+pub joined-apart : (act : Action) (q : ConstraintSet) → (canonicalAt q (firstOf act) ≡ canonicalAt q (secondOf act) → ⊥) → unionValues q (firstOf act)
+    (secondOf act) ≡ joinedBy act q
 joined-apart Nothing q d = absurd (d refl)
 joined-apart Contradiction q d = absurd (d refl)
 joined-apart Residual q d = absurd (d refl)
@@ -126,7 +130,16 @@ module _ (u : ConstraintSet) (r : ℕ) where
   -- the set with other lists and another flag
   abbrev rest : List Bool → List Holder → List En.Entry → Bool → ConstraintSet
   rest n l e f =
-      record { «equivalence_classes» = u .«equivalence_classes»; «non_null_values» = n; «literal_equalities» = l; ranges = e; «residual_predicates» = handles u; residuals = u .residuals; contradictory = f }
+      record {
+        «equivalence_classes» = u .«equivalence_classes»;
+        «non_null_values» = n;
+        «literal_equalities» = l;
+        ranges = e;
+        «residual_predicates» = handles
+            u;
+        residuals = u .residuals;
+        contradictory = f;
+      }
 
   pub cell-same : withCell u r (cellOf u r) ≡ u
   unfolding withCell
@@ -156,7 +169,8 @@ module _ (u : ConstraintSet) (r : ℕ) where
 
       cell-literal : withCell u r (literalCell (cellOf u r) v) ≡ flagIf (crossedAt literalIn r) literalIn
       unfolding withCell literalCell putLiteral putNonNull
-      cell-literal = λ i. rest (set (nonNulls u) r true) (set (literals u) r (cond (clashes (literalAt u r) v) (literalAt u r) (held v))) (same-range i) ((u .contradictory || clashes (literalAt u r) v) || sym literal-crossed i)
+      cell-literal = λ i. rest (set (nonNulls u) r true) (set (literals u) r (cond (clashes (literalAt u r) v) (literalAt u r) (held v))) (same-range i)
+          ((u .contradictory || clashes (literalAt u r) v) || sym literal-crossed i)
 
       literal-other : (k : ℕ) → (k ≡ r → ⊥) → crossedAt literalIn k ≡ crossedAt u k
       unfolding putLiteral putNonNull
@@ -177,7 +191,8 @@ module _ (u : ConstraintSet) (r : ℕ) where
 
       cell-bound : withCell u r (boundCell (cellOf u r) op x) ≡ flagIf (crossedAt boundIn r) boundIn
       unfolding withCell boundCell putRange layRange putNonNull
-      cell-bound = λ i. rest (set (nonNulls u) r true) (same-literal i) (set (u .ranges) r (entryOf (tightenBy (rangeIn (entryAt u r)) (boundsBy op x)))) ((u .contradictory || emptyRange (tightenBy (rangeIn (entryAt u r)) (boundsBy op x))) || sym bound-crossed i)
+      cell-bound = λ i. rest (set (nonNulls u) r true) (same-literal i) (set (u .ranges) r (entryOf (tightenBy (rangeIn (entryAt u r)) (boundsBy op x))))
+          ((u .contradictory || emptyRange (tightenBy (rangeIn (entryAt u r)) (boundsBy op x))) || sym bound-crossed i)
 
       bound-other : (k : ℕ) → (k ≡ r → ⊥) → crossedAt boundIn k ≡ crossedAt u k
       unfolding putRange layRange putNonNull
@@ -189,7 +204,8 @@ module _ (u : ConstraintSet) (r : ℕ) where
 
     -- the check after it, of the one place or of all
     checked-so : (checked : Bool) (t v : ConstraintSet) → (checked ≡ true → Checked u) → v ≡ flagIf (crossedAt t r) t
-        → ((k : ℕ) → (k ≡ r → ⊥) → crossedAt t k ≡ crossedAt u k) → (u .contradictory ≡ true → t .contradictory ≡ true) → cond (not checked && true) (crossCheck v) v ≡ crossCheck t
+        → ((k : ℕ) → (k ≡ r → ⊥) → crossedAt t k ≡ crossedAt u k) → (u .contradictory ≡ true → t .contradictory ≡ true) → cond (not checked && true)
+        (crossCheck v) v ≡ crossCheck t
     checked-so true t v c e o s = e ∙ sym (one-place-only u t (c refl) r low o s)
     checked-so false t v c e o s = ap crossCheck e ∙ check-again t r low
 
@@ -205,25 +221,30 @@ module _ (checked : Bool) (u : ConstraintSet) (long : Long u) (c : checked ≡ t
   unfolding addLiteral
   literal-in i r v h n e = rw (lt-ltb i 128 h, n, e)
 
-  bound-in : (i r : ℕ) (op : BinaryOp) (x : Float) → i < 128 → bounding op ≡ true → r ≡ canonicalAt u i → crossCheck (putRange (putNonNull u r) r (boundsBy op x)) ≡ addBound u i op x
+  bound-in : (i r : ℕ) (op : BinaryOp) (x : Float) → i < 128 → bounding op ≡ true → r ≡ canonicalAt u i → crossCheck
+      (putRange (putNonNull u r) r (boundsBy op x)) ≡ addBound u i op x
   unfolding addBound
   bound-in i r op x h b e = rw (lt-ltb i 128 h, b, e)
 
-  null-in : (both : Bool) (i r : ℕ) → i < 128 → r ≡ canonicalAt u i → withCell u r (cond both (nonNullCell (cellOf u r)) (cellOf u r)) ≡ cond both (addNonNull u i) u
+  null-in : (both : Bool) (i r : ℕ) → i < 128 → r ≡ canonicalAt u i → withCell u r (cond both (nonNullCell (cellOf u r)) (cellOf u r)) ≡ cond both
+      (addNonNull u i) u
   unfolding addNonNull
   null-in true i r h e = rw (lt-ltb i 128 h) (cell-null u r ∙ ap (putNonNull u) e)
   null-in false i r h e = cell-same u r
 
-  pub written-is : (act : Action) (r : ℕ) → Proper act → r < 128 → r ≡ canonicalAt u (firstOf act) → written checked act (withCell u r (cellAfter (cellOf u r) act)) ≡ recordedIn act u
+  pub written-is : (act : Action) (r : ℕ) → Proper act → r < 128 → r ≡ canonicalAt u (firstOf act) → written checked act
+      (withCell u r (cellAfter (cellOf u r) act)) ≡ recordedIn act u
   written-is Nothing r p low e = unchanged _ ∙ cell-same u r
   written-is Contradiction r p low e = unchanged _ ∙ cell-flagged u r
   written-is Residual r p low e = unchanged _ ∙ cell-same u r
   written-is (Same i j both) r p low e = unchanged _ ∙ null-in both i r (p .0) e
   written-is (Literal i v) r p low e =
-      checked-so u r low long checked (putLiteral (putNonNull u r) r v) _ c (cell-literal u r low long v) (literal-other u r low long v) (literal-stays u r low long v)
+      checked-so u r low long checked (putLiteral (putNonNull u r) r v) _ c (cell-literal u r low long v) (literal-other u r low long v)
+      (literal-stays u r low long v)
       ∙ literal-in i r v (p .0) (p .1) e
   written-is (Bound i op x) r p low e =
-      checked-so u r low long checked (putRange (putNonNull u r) r (boundsBy op x)) _ c (cell-bound u r low long op x) (bound-other u r low long op x) (bound-stays u r low long op x)
+      checked-so u r low long checked (putRange (putNonNull u r) r (boundsBy op x)) _ c (cell-bound u r low long op x) (bound-other u r low long op x)
+      (bound-stays u r low long op x)
       ∙ bound-in i r op x (p .0) (p .1) e
   written-is (Entry i) r p low e = unchanged _ ∙ cell-entry u r ∙ ap (λ (k : ℕ). layRange (putNonNull u k) k unboundedRange) e
 
@@ -237,7 +258,8 @@ and-none true = refl
 and-none false = refl
 
 -- an entry without bounds is crossed by nothing
-entry-crossed : (h : Holder) (present : Bool) (t : ValueRange) → crossed h (entryOf (cond present t unboundedRange)) ≡ crossed h (record { present = present; range = t })
+entry-crossed : (h : Holder) (present : Bool) (t : ValueRange) → crossed h (entryOf (cond present t unboundedRange)) ≡ crossed h
+    (record { present = present; range = t })
 entry-crossed h true t = refl
 entry-crossed h false t = ap (λ (b : Bool). h .present && b) (none-outside (scalarToF64 (h .value)))
 
@@ -288,7 +310,8 @@ module _ (act : Action) (p : Proper act) (h : ℕ) (checked : Bool) (q u w : Con
           ≡ cond (isResidual act) (addResidual (recordedIn act (joinedBy act q)) h) (done (recordedIn act (joinedBy act q)))
       go true e = rw e (residual-added w h k (ek ∙ rw e) ∙ ap (λ (t : ConstraintSet). addResidual t h) (w-is ∙ ap (recordedIn act) eu))
       go false e = rw e
-          (ap (λ (x : Kept). record { constraints = withResiduals w (x .list) (x .count); refused = x .refused }) (ek ∙ rw e) ∙ ap done (w-is ∙ ap (recordedIn act) eu))
+          (ap (λ (x : Kept). record { constraints = withResiduals w (x .list) (x .count); refused = x .refused }) (ek ∙ rw e) ∙ ap done
+          (w-is ∙ ap (recordedIn act) eu))
 
   pub turned-checked : (checked || isChecking act) ≡ true → Checked (withResiduals w (k .list) (k .count))
   turned-checked e = subst Checked (sym w-is) (recorded-checked u long checked act p (omega (arith, er)) c e)

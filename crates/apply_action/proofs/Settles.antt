@@ -12,7 +12,8 @@ use lib.Seq.{getD-set-same, getD-set-other}
 use Rattle.value_range.specs.Ranges.{unboundedRange}
 use Rattle.value_range.specs.declared.ValueRange.{ValueRange}
 use Rattle.value_classes.proofs.RootLaws.{falls, root-idempotent}
-use Rattle.constraint_spec.specs.Sets.{none, held, noEntry, blank, entryOf, parentsOf, nonNulls, literals, literalAt, entryAt, canonicalAt, withResiduals, rangeIn, boundsBy}
+use Rattle.constraint_spec.specs.Sets.{none, held, noEntry, blank, entryOf, parentsOf, nonNulls, literals, literalAt, entryAt, canonicalAt}
+use Rattle.constraint_spec.specs.Sets.{withResiduals, rangeIn, boundsBy}
 use Rattle.constraint_spec.specs.declared.Entry as En
 use Rattle.constraint_spec.specs.declared.ConstraintSet.{ConstraintSet}
 use Rattle.constraint_set.specs.Checked.{Checked}
@@ -27,7 +28,8 @@ use Rattle.apply_action.specs.declared.Cell.{Cell}
 use Rattle.apply_action.proofs.CellLaws.{Long, recordedIn, written, written-is, recorded-checked}
 
 -- ---- a content put at a representative, in the form in which a pass puts it at an empty place
-stands-set : {A : Type 0} (n : A) (put : A → A → A) (root : ℕ → ℕ) (d : A) (l : List A) → Stands n put root d l → (r : ℕ) → r < 128 → root r ≡ r → (x : A) → put n x ≡ x → Stands n put root d (set l r x)
+stands-set : {A : Type 0} (n : A) (put : A → A → A) (root : ℕ → ℕ) (d : A) (l : List A) → Stands n put root d l → (r : ℕ) → r < 128 → root r ≡ r → (x : A)
+    → put n x ≡ x → Stands n put root d (set l r x)
 stands-set {A = A} n put root d l st r low own x e = record {
   long = length-set l r x ∙ st .long;
   away = λ i h m. getD-set-other l r i x d (λ q. m (subst (λ (k : ℕ). root k ≡ k) (sym q) own)) ∙ st .away i h m;
@@ -84,7 +86,8 @@ module _ (u : ConstraintSet) (g : Settled u) (r : ℕ) (low : r < 128) where
   fit-after (Bound i op x) = record {
     literal-so = g .equal .same r low;
     entry-so = range-again (entryAt u r) (entryOf (boundsBy op x)) (g .within .same r low);
-    empty-told = λ e. told (u .contradictory) (rangeBad (entryAt u r) (entryOf (boundsBy op x))) _ (rangeBad noEntry (entryAt u r)) (g .quiet r low) (range-tells (entryAt u r) (entryOf (boundsBy op x)) (g .within .same r low) e);
+    empty-told = λ e. told (u .contradictory) (rangeBad (entryAt u r) (entryOf (boundsBy op x))) _ (rangeBad noEntry (entryAt u r)) (g .quiet r low)
+        (range-tells (entryAt u r) (entryOf (boundsBy op x)) (g .within .same r low) e);
     stays = λ e. or-before _ _ (or-before _ _ e);
   }
   fit-after (Entry i) = record {
@@ -104,7 +107,10 @@ module _ (u : ConstraintSet) (g : Settled u) (r : ℕ) (low : r < 128) where
     equal = stands-set none literalOn (canonicalAt u) none (literals u) (g .equal) r low own (c .literal) (f .literal-so);
     within = stands-set noEntry rangeOn (canonicalAt u) blank (u .ranges) (g .within) r low own (c .entry) (f .entry-so);
     quiet = λ i h. elim (ℕ-discrete i r) [
-      | yes q ↦ (λ e. f .empty-told (subst (λ (y : En.Entry). rangeBad noEntry y ≡ true) (ap (λ (k : ℕ). getD (set (u .ranges) r (c .entry)) k blank) q ∙ getD-set-same (u .ranges) r (c .entry) blank (omega (arith, g .within .long))) e))
+      | yes q ↦
+          (λ e. f .empty-told
+          (subst (λ (y : En.Entry). rangeBad noEntry y ≡ true) (ap (λ (k : ℕ). getD (set (u .ranges) r (c .entry)) k blank) q ∙ getD-set-same (u .ranges) r
+          (c .entry) blank (omega (arith, g .within .long))) e))
       | no m ↦ (λ e. f .stays (g .quiet i h (subst (λ (y : En.Entry). rangeBad noEntry y ≡ true) (getD-set-other (u .ranges) r i (c .entry) blank m) e)))
     ];
     checked = ok;
@@ -128,7 +134,8 @@ module _ (u : ConstraintSet) (g : Settled u) (act : Action) (p : Proper act) (r 
       (subst Checked (sym is) (recorded-checked u long true act p (omega (arith, er)) (λ e. g .checked) refl)))
 
   -- and so does the turn of the loop, with its residual
-  pub turned-settled : (checked : Bool) (w : ConstraintSet) (l : List ℕ) (n : ℕ) → w ≡ written checked act (withCell u r (cellAfter (cellOf u r) act)) → Settled (withResiduals w l n)
+  pub turned-settled : (checked : Bool) (w : ConstraintSet) (l : List ℕ) (n : ℕ) → w ≡ written checked act (withCell u r (cellAfter (cellOf u r) act))
+      → Settled (withResiduals w l n)
   turned-settled checked w l n ew = kept (subst Settled (sym (ew ∙ written-is checked u long (λ e. g .checked) act r p low er)) recorded-settled)
     where
       kept : Settled w → Settled (withResiduals w l n)

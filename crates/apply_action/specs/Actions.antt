@@ -1,4 +1,5 @@
--- What a conjunct asks of a constraint set, without the set: `conjunctApplied` in two halves, so that reading a conjunct out of a plan carries no set. Assumes nothing.
+-- What a conjunct asks of a constraint set, without the set: `conjunctApplied` in two halves, so that reading a conjunct out of a plan carries no
+-- set. Assumes nothing.
 use Prim.Native.Nat.{ℕ, _<_}
 use mathlib.Core.Path.{_≡_}
 use mathlib.Core.Bool.{Bool, true, false, cond, _&&_, _||_}

@@ -7,7 +7,8 @@ use Rattle.scalar.specs.declared.ScalarValue.{ScalarValue}
 use Rattle.value_range.specs.Ranges.{unboundedRange, emptyRange}
 use Rattle.value_range.specs.declared.ValueRange.{ValueRange}
 use Rattle.comparison.specs.declared.BinaryOp.{BinaryOp}
-use Rattle.constraint_spec.specs.Sets.{held, entryOf, nonNulls, literals, handles, nonNullAt, literalAt, entryAt, clashes, rangeIn, tightenBy, crossed, boundsBy}
+use Rattle.constraint_spec.specs.Sets.{held, entryOf, nonNulls, literals, handles, nonNullAt, literalAt, entryAt, clashes, rangeIn, tightenBy}
+use Rattle.constraint_spec.specs.Sets.{crossed, boundsBy}
 use Rattle.constraint_spec.specs.declared.ConstraintSet.{ConstraintSet}
 use Rattle.apply_action.specs.declared.Action.{Action}
 use Rattle.apply_action.specs.declared.Action.the-variants.{Nothing, Contradiction, Residual, Same, Literal, Bound, Entry}
@@ -51,7 +52,13 @@ literalCell c v =
 -- a range, as putRange has it, the literal held against it
 abbrev pub rangedCell : Cell → ValueRange → Cell
 rangedCell c t =
-    record { «non_null» = true; literal = c .literal; entry = entryOf t; contradictory = (c .contradictory || emptyRange t) || crossed (c .literal) (entryOf t) }
+    record {
+      «non_null» = true;
+      literal = c .literal;
+      entry = entryOf t;
+      contradictory = (c .contradictory || emptyRange t) || crossed (c .literal)
+          (entryOf t);
+    }
 
 unfoldable pub boundCell : Cell → BinaryOp → Float → Cell
 boundCell c op x = rangedCell c (tightenBy (rangeIn (c .entry)) (boundsBy op x))

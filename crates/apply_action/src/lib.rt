@@ -14,7 +14,9 @@ ghost use mathlib.Core.Bool.{false, cond};
 ghost use Rattle.constraint_set.specs.Kept.{keptBy};
 ghost use Rattle.plan_data.specs.Nodes.{nodeOf};
 ghost use Rattle.apply_spec.specs.Apply.{seenOf, isNullLiteral};
-ghost use Rattle.apply_action.specs.Actions.{sameAction, pairAction, boundedBy, rangeAction, literalAction, boundAction, reversedAction, operandsAction, comparisonAction, constantAction, actionOf, firstOf, secondOf, isChecking, isResidual};
+ghost use Rattle.apply_action.specs.Actions.{sameAction, pairAction, boundedBy, rangeAction, literalAction, boundAction, reversedAction};
+ghost use Rattle.apply_action.specs.Actions.{operandsAction, comparisonAction, constantAction, actionOf, firstOf, secondOf, isChecking};
+ghost use Rattle.apply_action.specs.Actions.{isResidual};
 ghost use Rattle.apply_action.specs.Cells.{nonNullCell, flaggedCell, literalCell, boundCell, entryCell, cellAfter};
 
 // What a conjunct asks: nothing, the flag, to be kept as a residual, two identities in one class (not NULL where the flag says so), a literal,
@@ -249,7 +251,9 @@ pub fn action_of<'a>(
     lineage: &'a [u8],
     h: u16,
 ) -> Action
-    ensures { λ r. ⌜ r ≡ actionOf (now (lineage .entry)) (nodeOf (now (kind .entry)) (now (code .entry)) (now (a .entry)) (now (b .entry)) (now (bits .entry)) (now (start .entry))) h ⌝ }
+    ensures { λ r.
+        ⌜ r ≡ actionOf (now (lineage .entry)) (nodeOf (now (kind .entry)) (now (code .entry)) (now (a .entry)) (now (b .entry)) (now (bits .entry))
+        (now (start .entry))) h ⌝ }
 {
     let node = plan_data::node_at(kind, code, a, b, bits, start, h as usize);
     match node {

@@ -40,12 +40,13 @@ abbrev pub appliedOf : ConstraintSet → Bool → Applied
 appliedOf q refused = record { constraints = q; refused = refused }
 
 -- what the loop knows after k of the handles hs
-pub record Turning (apply : ConstraintSet → ℕ → Applied) (hs : List ℕ) (s q : ConstraintSet) (roots : Roots) (settled checked refused : Bool) (k : ℕ) : Type 0 where
-  pub wide : Wide q
-  pub rooted : roots ≡ rootsOf (q .«equivalence_classes»)
-  pub settles : settled ≡ true → Settled q
-  pub told : checked ≡ true → Checked q
-  pub to-come : allApplied apply hs (done s) ≡ allApplied apply (drop k hs) (appliedOf q refused)
+pub record Turning (apply : ConstraintSet → ℕ → Applied) (hs : List ℕ) (s q : ConstraintSet) (roots : Roots) (settled checked refused : Bool) (k : ℕ) : Type 0
+  where
+    pub wide : Wide q
+    pub rooted : roots ≡ rootsOf (q .«equivalence_classes»)
+    pub settles : settled ≡ true → Settled q
+    pub told : checked ≡ true → Checked q
+    pub to-come : allApplied apply hs (done s) ≡ allApplied apply (drop k hs) (appliedOf q refused)
 
 module _ (apply : ConstraintSet → ℕ → Applied) where
   -- a refusal stays
@@ -106,7 +107,8 @@ module _ (act : Action) (p : Proper act) (q : ConstraintSet) (roots : Roots) (e 
   unfolding normalized
   normal-checked s = just-checked _
 
-  pub when-apart : (getD (roots .of) i 0 ≡ getD (roots .of) j 0 → ⊥) → (t u : ConstraintSet) (r v : Roots) (ok settled checked : Bool) → t ≡ unionValues q i j → r ≡ rootsOf (t .«equivalence_classes»)
+  pub when-apart : (getD (roots .of) i 0 ≡ getD (roots .of) j 0 → ⊥) → (t u : ConstraintSet) (r v : Roots) (ok settled checked : Bool) → t ≡ unionValues q i j
+      → r ≡ rootsOf (t .«equivalence_classes»)
       → ok ≡ parentsOk (parentsOf t) → u ≡ t → v ≡ r → settled ≡ ok → JoinedIn act q u v settled checked
   when-apart d t u r v ok settled checked et er eo eu ev es =
       let apart : canonicalAt q (firstOf act) ≡ canonicalAt q (secondOf act) → ⊥ = λ z. d (at-first ∙ z ∙ sym at-second) in
@@ -121,7 +123,8 @@ module _ (act : Action) (p : Proper act) (q : ConstraintSet) (roots : Roots) (e 
         told = λ c. subst Checked (sym (so ∙ union-two q (firstOf act) (secondOf act) (first-low act p) (second-low act p) apart)) (normal-checked _);
       }
 
-  pub when-together : getD (roots .of) i 0 ≡ getD (roots .of) j 0 → (settled still checked was : Bool) (u : ConstraintSet) (v : Roots) → (still ≡ true → Settled q) → (was ≡ true → Checked q)
+  pub when-together : getD (roots .of) i 0 ≡ getD (roots .of) j 0 → (settled still checked was : Bool) (u : ConstraintSet) (v : Roots)
+      → (still ≡ true → Settled q) → (was ≡ true → Checked q)
       → u ≡ q → v ≡ roots → settled ≡ still → checked ≡ was → JoinedIn act q u v settled checked
   when-together d settled still checked was u v settles told eu ev es ec =
       record {
@@ -137,18 +140,28 @@ pub record CheckedIn (act : Action) (before : Bool) (v w : ConstraintSet) (check
   pub is : w ≡ written before act v
   pub so : checked ≡ (before || isChecking act)
 
-pub when-checked : (act : Action) (before x : Bool) (v w t : ConstraintSet) (checked : Bool) → x ≡ isChecking act → (not before && x) ≡ true → t ≡ crossCheck v → w ≡ t → checked ≡ true
+pub when-checked : (act : Action) (before x : Bool) (v w t : ConstraintSet) (checked : Bool) → x ≡ isChecking act → (not before && x) ≡ true → t ≡ crossCheck
+    v → w ≡ t → checked ≡ true
     → CheckedIn act before v w checked
 when-checked act before x v w t checked ex test et ew ec =
-    record { is = ew ∙ et ∙ sym (ap (λ (b : Bool). cond b (crossCheck v) v) (ap (λ (b : Bool). not before && b) (sym ex) ∙ test)); so = ec ∙ both before x test ∙ ap (λ (b : Bool). before || b) ex }
+    record {
+      is = ew ∙ et ∙ sym (ap (λ (b : Bool). cond b (crossCheck v) v) (ap (λ (b : Bool). not before && b) (sym ex) ∙ test));
+      so = ec ∙ both before x
+          test ∙ ap (λ (b : Bool). before || b) ex;
+    }
   where
     both : (a b : Bool) → (not a && b) ≡ true → true ≡ (a || b)
     both true b e = refl
     both false b e = sym e
 
-pub when-not : (act : Action) (before x : Bool) (v w : ConstraintSet) (checked : Bool) → x ≡ isChecking act → (not before && x) ≡ false → w ≡ v → checked ≡ before → CheckedIn act before v w checked
+pub when-not : (act : Action) (before x : Bool) (v w : ConstraintSet) (checked : Bool) → x ≡ isChecking act → (not before && x) ≡ false → w ≡ v → checked
+    ≡ before → CheckedIn act before v w checked
 when-not act before x v w checked ex test ew ec =
-    record { is = ew ∙ sym (ap (λ (b : Bool). cond b (crossCheck v) v) (ap (λ (b : Bool). not before && b) (sym ex) ∙ test)); so = ec ∙ both before x test ∙ ap (λ (b : Bool). before || b) ex }
+    record {
+      is = ew ∙ sym (ap (λ (b : Bool). cond b (crossCheck v) v) (ap (λ (b : Bool). not before && b) (sym ex) ∙ test));
+      so = ec ∙ both before x test
+          ∙ ap (λ (b : Bool). before || b) ex;
+    }
   where
     both : (a b : Bool) → (not a && b) ≡ false → a ≡ (a || b)
     both true b e = refl
@@ -161,9 +174,12 @@ module _ (lineage : List ℕ) (node : ℕ → ExprData) (hs : List ℕ) (s q : C
   act-proper : Proper act
   act-proper = subst Proper (sym ea) (proper lineage node h)
 
-  module _ (u w : ConstraintSet) (roots1 : Roots) (settled1 checked1 checked2 : Bool) (r : ℕ) (new : Cell) (kept : Kept) (j : JoinedIn act q u roots1 settled1 checked1)
-      (i : ℕ) (ei : i ≡ firstOf act) (er : r ≡ getD (roots1 .of) i 0) (en : new ≡ cellAfter (cellOf u r) act) (ck : CheckedIn act checked1 (withCell u r new) w checked2)
-      (x : Bool) (ex : x ≡ isResidual act) (ex-kept : kept ≡ cond x (keptBy (handles w) (w .residuals) h) (record { list = handles w; count = w .residuals; refused = false })) where
+  module _ (u w : ConstraintSet) (roots1 : Roots) (settled1 checked1 checked2 : Bool) (r : ℕ) (new : Cell) (kept : Kept)
+      (j : JoinedIn act q u roots1 settled1 checked1)
+      (i : ℕ) (ei : i ≡ firstOf act) (er : r ≡ getD (roots1 .of) i 0) (en : new ≡ cellAfter (cellOf u r) act)
+      (ck : CheckedIn act checked1 (withCell u r new) w checked2)
+      (x : Bool) (ex : x ≡ isResidual act)
+      (ex-kept : kept ≡ cond x (keptBy (handles w) (w .residuals) h) (record { list = handles w; count = w .residuals; refused = false })) where
     ek : kept ≡ cond (isResidual act) (keptBy (handles w) (w .residuals) h) (record { list = handles w; count = w .residuals; refused = false })
     ek = ex-kept ∙ ap (λ (b : Bool). cond b (keptBy (handles w) (w .residuals) h) (record { list = handles w; count = w .residuals; refused = false })) ex
 
@@ -196,12 +212,14 @@ module _ (lineage : List ℕ) (node : ℕ → ExprData) (hs : List ℕ) (s q : C
     turn-again =
         record {
           wide = subst Wide (sym (ck .is)) (cell-wide u (j .wide) r new (not checked1 && isChecking act));
-          rooted = j .rooted ∙ ap rootsOf (sym (ap (λ (x : ConstraintSet). x .«equivalence_classes») (ck .is) ∙ same-classes (not checked1 && isChecking act) new));
+          rooted = j .rooted ∙ ap rootsOf
+              (sym (ap (λ (x : ConstraintSet). x .«equivalence_classes») (ck .is) ∙ same-classes (not checked1 && isChecking act) new));
           settles = λ e. turned-settled u (j .settles e) act act-proper r r-low r-is checked1 w (kept .list) (kept .count) w-is;
           told = λ e. turned-checked act act-proper h checked1 q u w r kept (j .wide .1) (j .told) (j .is) r-is r-low w-is ek (sym (ck .so) ∙ e);
           to-come =
               inv .to-come
-              ∙ one-more (conjunctApplied lineage node) hs k q refused (appliedOf after (kept .refused)) (omega (arith, ltb-true k n (and-left _ _ go))) (not-true refused (and-right (ltb k n) _ go)) one
+              ∙ one-more (conjunctApplied lineage node) hs k q refused (appliedOf after (kept .refused)) (omega (arith, ltb-true k n (and-left _ _ go)))
+              (not-true refused (and-right (ltb k n) _ go)) one
               ∙ ap (λ (m : ℕ). allApplied (conjunctApplied lineage node) (drop m hs) (appliedOf after (kept .refused))) (sym (add-one k));
         }
 

@@ -40,9 +40,11 @@ module _ (s : ConstraintSet) (i j : ℕ) (hi : i < 128) (hj : j < 128) where
     own : (k z : ℕ) → z ≡ canonicalAt s k → canonicalAt s z ≡ z
     own k z e = subst (λ (n : ℕ). canonicalAt s n ≡ n) (sym e) (root-idempotent (parentsOf s) (falls (parentsOf s) (g .ok)) k)
 
-    united-is : (a b : ℕ) → a < b → b < 128 → canonicalAt s a ≡ a → joined (parentsOf s) i j ≡ set (parentsOf s) b a → (x ≡ y → ⊥) → unitedRoots s a b ≡ unionValues s i j
+    united-is : (a b : ℕ) → a < b → b < 128 → canonicalAt s a ≡ a → joined (parentsOf s) i j ≡ set (parentsOf s) b a → (x ≡ y → ⊥) → unitedRoots s a b
+        ≡ unionValues s i j
     united-is a b less high o e d =
-        sym (union-two s i j hi hj (λ z. d (ex ∙ z ∙ sym ey)) ∙ ap (λ (p : List ℕ). normalized (withClasses s (record { parents = p }))) e ∙ joined-normalized s g a b less high o)
+        sym (union-two s i j hi hj (λ z. d (ex ∙ z ∙ sym ey)) ∙ ap (λ (p : List ℕ). normalized (withClasses s (record { parents = p }))) e ∙ joined-normalized
+        s g a b less high o)
 
     pub left-lower : (t : ConstraintSet) → x < y → t ≡ unitedRoots s x y → t ≡ unionValues s i j
     unfolding joined
@@ -75,7 +77,8 @@ module _ (s : ConstraintSet) (i j : ℕ) (hi : i < 128) (hj : j < 128) where
   same-parents = beside-parents after (normalized after) (beside-normalized after after (beside-self after))
 
   -- of two classes, if the parents are then in order
-  pub union-settles : (canonicalAt s i ≡ canonicalAt s j → ⊥) → length (parentsOf s) ≡ 128 → parentsOk (parentsOf (unionValues s i j)) ≡ true → Settled (unionValues s i j)
+  pub union-settles : (canonicalAt s i ≡ canonicalAt s j → ⊥) → length (parentsOf s) ≡ 128 → parentsOk (parentsOf (unionValues s i j)) ≡ true → Settled
+      (unionValues s i j)
   union-settles d long ok =
       let e : unionValues s i j ≡ normalized after = union-two s i j hi hj d in
       subst Settled (sym e) (normalized-settled after (joined-length (parentsOf s) i j ∙ long) (ap parentsOk (sym (ap parentsOf e ∙ same-parents)) ∙ ok))

@@ -8,7 +8,9 @@ use lib.ListN.{length, replicate, length-set, length-replicate}
 use Rattle.scalar.specs.declared.ScalarValue.{ScalarValue}
 use Rattle.value_range.specs.declared.ValueRange.{ValueRange}
 use Rattle.value_classes.specs.Parents.{joined}
-use Rattle.constraint_spec.specs.Sets.{none, noEntry, parentsOf, literals, nonNullAt, literalAt, entryAt, canonicalAt, withNonNulls, withLiterals, withRanges, putNonNull, putLiteral, putRange, layRange, crossCheck, moveNonNull, moveLiteral, moveRange, nonNullsMoved, literalsMoved, rangesMoved, normalized, unionValues}
+use Rattle.constraint_spec.specs.Sets.{none, noEntry, parentsOf, literals, nonNullAt, literalAt, entryAt, canonicalAt, withNonNulls, withLiterals}
+use Rattle.constraint_spec.specs.Sets.{withRanges, putNonNull, putLiteral, putRange, layRange, crossCheck, moveNonNull, moveLiteral, moveRange}
+use Rattle.constraint_spec.specs.Sets.{nonNullsMoved, literalsMoved, rangesMoved, normalized, unionValues}
 use Rattle.constraint_spec.specs.declared.Holder.{Holder}
 use Rattle.constraint_spec.specs.declared.Entry.{Entry}
 use Rattle.constraint_spec.specs.declared.ConstraintSet.{ConstraintSet}
@@ -41,20 +43,23 @@ module _ (s : ConstraintSet) (l : Long s) where
   nulls-long : Long (nonNullsMoved s)
   unfolding nonNullsMoved
   nulls-long =
-      steps-good Long (moveNonNull s) 128 (λ i h u e. pick-has Long (nonNullAt s i) (putNonNull u (canonicalAt s i)) u (λ c. null-long u e (canonicalAt s i)) e) 128 (omega arith) (withNonNulls s (replicate 128 false)) l
+      steps-good Long (moveNonNull s) 128 (λ i h u e. pick-has Long (nonNullAt s i) (putNonNull u (canonicalAt s i)) u (λ c. null-long u e (canonicalAt s i))
+      e) 128 (omega arith) (withNonNulls s (replicate 128 false)) l
 
   literals-long : Long (literalsMoved s)
   unfolding literalsMoved
   literals-long =
       steps-good Long (moveLiteral s) 128
-      (λ i h u e. pick-has Long (literalAt s i .present) (putLiteral u (canonicalAt s i) (literalAt s i .value)) u (λ c. literal-long u e (canonicalAt s i) (literalAt s i .value)) e)
+      (λ i h u e. pick-has Long (literalAt s i .present) (putLiteral u (canonicalAt s i) (literalAt s i .value)) u
+      (λ c. literal-long u e (canonicalAt s i) (literalAt s i .value)) e)
       128 (omega arith) (withLiterals s (replicate 128 none)) (length-replicate {A = Holder} 128 none, l .1)
 
   ranges-long : Long (rangesMoved s)
   unfolding rangesMoved
   ranges-long =
       steps-good Long (moveRange s) 128
-      (λ i h u e. pick-has Long (entryAt s i .present) (putRange u (canonicalAt s i) (entryAt s i .range)) u (λ c. range-long u e (canonicalAt s i) (entryAt s i .range)) e)
+      (λ i h u e. pick-has Long (entryAt s i .present) (putRange u (canonicalAt s i) (entryAt s i .range)) u
+      (λ c. range-long u e (canonicalAt s i) (entryAt s i .range)) e)
       128 (omega arith) (withRanges s (replicate 128 noEntry)) (l .0, length-replicate {A = Entry} 128 noEntry)
 
 normal-long : (s : ConstraintSet) → Long s → Long (normalized s)

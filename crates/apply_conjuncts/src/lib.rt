@@ -93,7 +93,9 @@ pub fn apply_one<'a>(
     s: ConstraintSet,
     h: u16,
 ) -> Applied
-    ensures { λ r. ⌜ r ≡ conjunctApplied (now (lineage .entry)) (nodeOf (now (kind .entry)) (now (code .entry)) (now (a .entry)) (now (b .entry)) (now (bits .entry)) (now (start .entry))) s h ⌝ }
+    ensures { λ r.
+        ⌜ r ≡ conjunctApplied (now (lineage .entry)) (nodeOf (now (kind .entry)) (now (code .entry)) (now (a .entry)) (now (b .entry)) (now (bits .entry))
+        (now (start .entry))) s h ⌝ }
 {
     let action = apply_action::action_of(kind, code, a, b, bits, start, lineage, h);
     let i = apply_action::first_of(action);
@@ -156,7 +158,10 @@ fn apply_found<'a>(
     count: usize,
 ) -> Applied
     requires { ⌜ count ≤ 2048 ⌝ }
-    ensures { λ r. ⌜ r ≡ allApplied (conjunctApplied (now (lineage .entry)) (nodeOf (now (kind .entry)) (now (code .entry)) (now (a .entry)) (now (b .entry)) (now (bits .entry)) (now (start .entry)))) (take count handles) (done s) ⌝ }
+    ensures { λ r.
+        ⌜ r ≡ allApplied
+        (conjunctApplied (now (lineage .entry)) (nodeOf (now (kind .entry)) (now (code .entry)) (now (a .entry)) (now (b .entry)) (now (bits .entry))
+        (now (start .entry)))) (take count handles) (done s) ⌝ }
 {
     let mut q = s;
     let classes = s.equivalence_classes;
@@ -216,7 +221,8 @@ fn apply_found<'a>(
     }
 }
 
-// The same for any number: all handles where it is above their number. A table and a check of all places cost three passes over the identities, which three conjuncts or more share;
+// The same for any number: all handles where it is above their number. A table and a check of all places cost three passes over the identities, which
+// three conjuncts or more share;
 // one or two have at most one each without a table.
 pub fn apply_handles<'a>(
     kind: &'a [u8],
@@ -230,7 +236,10 @@ pub fn apply_handles<'a>(
     handles: [u16; 2048],
     count: usize,
 ) -> Applied
-    ensures { λ r. ⌜ r ≡ allApplied (conjunctApplied (now (lineage .entry)) (nodeOf (now (kind .entry)) (now (code .entry)) (now (a .entry)) (now (b .entry)) (now (bits .entry)) (now (start .entry)))) (take count handles) (done s) ⌝ }
+    ensures { λ r.
+        ⌜ r ≡ allApplied
+        (conjunctApplied (now (lineage .entry)) (nodeOf (now (kind .entry)) (now (code .entry)) (now (a .entry)) (now (b .entry)) (now (bits .entry))
+        (now (start .entry)))) (take count handles) (done s) ⌝ }
 {
     if 2048 < count {
         return apply_found(kind, code, a, b, bits, start, lineage, s, handles, 2048);

@@ -74,7 +74,8 @@ pub at-most : {kind code a start items : List ℕ} {w v : Walk} {handles : List 
 at-most had = omega (arith, had .one-each, had .few)
 
 -- the walk is done, or 1,024 turns are: something was done either way
-module _ {kind code a start items : List ℕ} {w v : Walk} {handles : List ℕ} {n j : ℕ} (long : length items ≡ 2048) (had : Collected kind code a start items w v handles n j) where
+module _ {kind code a start items : List ℕ} {w v : Walk} {handles : List ℕ} {n j : ℕ} (long : length items ≡ 2048)
+    (had : Collected kind code a start items w v handles n j) where
   pub less-left : (ltb 0 (v .depth) && ltb j 1024) ≡ false → 0 < w .depth → stepsLeft kind code a start items v < stepsLeft kind code a start items w
   less-left ended some = go (ltb 0 (v .depth)) (ltb j 1024) refl refl ended
     where

@@ -46,7 +46,8 @@ module _ (kind code a b bits start items lineage : List ℕ) (e : ℕ) (s : Cons
   walked w = same-handed (restOf node items w)
 
   -- those that were found, where nothing is left of the walk
-  pub found-all : (w v : Walk) (hs : List ℕ) → length items ≡ 2048 → restOf node items w ≡ conjunctsOf node items e → restOf node items w ≡ hs ++ restOf node items v → v .depth ≡ 0
+  pub found-all : (w v : Walk) (hs : List ℕ) → length items ≡ 2048 → restOf node items w ≡ conjunctsOf node items e → restOf node items w ≡ hs ++ restOf node
+      items v → v .depth ≡ 0
       → (r : Applied) → r ≡ after hs → Handed r
   found-all w v hs long all some none =
       same-handed hs (sym (some ∙ ap (λ (l : List ℕ). hs ++ l) (nothing-left kind code a b bits start items long v none) ∙ append-nil hs) ∙ all)

@@ -38,8 +38,13 @@ fn next_conjuncts<'a>(
     requires { ⌜ Good w ⌝ }
     ensures { λ r. ⌜ Good (r .walk) ⌝ }
     ensures { λ r. ⌜ r .count ≤ 1024 ⌝ }
-    ensures { λ r. ⌜ ((b bits : List ℕ) → restOf (nodeOf (now (kind .entry)) (now (code .entry)) (now (a .entry)) b bits (now (start .entry))) (now (items .entry)) w ≡ take (r .count) (r .handles) ++ restOf (nodeOf (now (kind .entry)) (now (code .entry)) (now (a .entry)) b bits (now (start .entry))) (now (items .entry)) (r .walk)) ⌝ }
-    ensures { λ r. ⌜ (0 < w .depth → stepsLeft (now (kind .entry)) (now (code .entry)) (now (a .entry)) (now (start .entry)) (now (items .entry)) (r .walk) < stepsLeft (now (kind .entry)) (now (code .entry)) (now (a .entry)) (now (start .entry)) (now (items .entry)) w) ⌝ }
+    ensures { λ r.
+        ⌜ ((b bits : List ℕ) → restOf (nodeOf (now (kind .entry)) (now (code .entry)) (now (a .entry)) b bits (now (start .entry))) (now (items .entry)) w
+        ≡ take (r .count) (r .handles) ++ restOf (nodeOf (now (kind .entry)) (now (code .entry)) (now (a .entry)) b bits (now (start .entry)))
+        (now (items .entry)) (r .walk)) ⌝ }
+    ensures { λ r.
+        ⌜ (0 < w .depth → stepsLeft (now (kind .entry)) (now (code .entry)) (now (a .entry)) (now (start .entry)) (now (items .entry)) (r .walk) < stepsLeft
+        (now (kind .entry)) (now (code .entry)) (now (a .entry)) (now (start .entry)) (now (items .entry)) w) ⌝ }
 {
     let mut walk = w;
     let mut handles = [0u16; 2048];
@@ -99,7 +104,12 @@ fn apply_walk<'a>(
 ) -> Applied
     requires { ⌜ length (now items) ≡ 2048 ⌝ }
     requires { ⌜ Good w ⌝ }
-    ensures { λ r. ⌜ r ≡ allApplied (conjunctApplied (now (lineage .entry)) (nodeOf (now (kind .entry)) (now (code .entry)) (now (a .entry)) (now (b .entry)) (now (bits .entry)) (now (start .entry)))) (restOf (nodeOf (now (kind .entry)) (now (code .entry)) (now (a .entry)) (now (b .entry)) (now (bits .entry)) (now (start .entry))) (now (items .entry)) w) (done s) ⌝ }
+    ensures { λ r.
+        ⌜ r ≡ allApplied
+        (conjunctApplied (now (lineage .entry)) (nodeOf (now (kind .entry)) (now (code .entry)) (now (a .entry)) (now (b .entry)) (now (bits .entry))
+        (now (start .entry))))
+        (restOf (nodeOf (now (kind .entry)) (now (code .entry)) (now (a .entry)) (now (b .entry)) (now (bits .entry)) (now (start .entry)))
+        (now (items .entry)) w) (done s) ⌝ }
 {
     let mut walk = w;
     let mut applied = Applied {
@@ -159,8 +169,15 @@ fn apply_many<'a>(
     e: u16,
 ) -> Applied
     requires { ⌜ Good w ⌝ }
-    requires { ⌜ restOf (nodeOf (now kind) (now code) (now a) (now b) (now bits) (now start)) (now items) w ≡ conjunctsOf (nodeOf (now kind) (now code) (now a) (now b) (now bits) (now start)) (now items) e ⌝ }
-    ensures { λ r. ⌜ orGiven s r ≡ orGiven s (allApplied (conjunctApplied (now (lineage .entry)) (nodeOf (now (kind .entry)) (now (code .entry)) (now (a .entry)) (now (b .entry)) (now (bits .entry)) (now (start .entry)))) (conjunctsOf (nodeOf (now (kind .entry)) (now (code .entry)) (now (a .entry)) (now (b .entry)) (now (bits .entry)) (now (start .entry))) (now (items .entry)) e) (done s)) ⌝ }
+    requires { ⌜ restOf (nodeOf (now kind) (now code) (now a) (now b) (now bits) (now start)) (now items) w ≡ conjunctsOf
+        (nodeOf (now kind) (now code) (now a) (now b) (now bits) (now start)) (now items) e ⌝ }
+    ensures { λ r.
+        ⌜ orGiven s r ≡ orGiven s
+        (allApplied
+        (conjunctApplied (now (lineage .entry)) (nodeOf (now (kind .entry)) (now (code .entry)) (now (a .entry)) (now (b .entry)) (now (bits .entry))
+        (now (start .entry))))
+        (conjunctsOf (nodeOf (now (kind .entry)) (now (code .entry)) (now (a .entry)) (now (b .entry)) (now (bits .entry)) (now (start .entry)))
+        (now (items .entry)) e) (done s)) ⌝ }
 {
     if constraint_normal::is_ready(s) {
         let t = apply_shared::thinned_conjuncts(kind, code, a, start, items, e);
@@ -197,7 +214,13 @@ fn apply_and<'a>(
     e: u16,
 ) -> Applied
     requires { ⌜ isAnd (now kind) (now code) e ≡ true ⌝ }
-    ensures { λ r. ⌜ orGiven s r ≡ orGiven s (allApplied (conjunctApplied (now (lineage .entry)) (nodeOf (now (kind .entry)) (now (code .entry)) (now (a .entry)) (now (b .entry)) (now (bits .entry)) (now (start .entry)))) (conjunctsOf (nodeOf (now (kind .entry)) (now (code .entry)) (now (a .entry)) (now (b .entry)) (now (bits .entry)) (now (start .entry))) (now (items .entry)) e) (done s)) ⌝ }
+    ensures { λ r.
+        ⌜ orGiven s r ≡ orGiven s
+        (allApplied
+        (conjunctApplied (now (lineage .entry)) (nodeOf (now (kind .entry)) (now (code .entry)) (now (a .entry)) (now (b .entry)) (now (bits .entry))
+        (now (start .entry))))
+        (conjunctsOf (nodeOf (now (kind .entry)) (now (code .entry)) (now (a .entry)) (now (b .entry)) (now (bits .entry)) (now (start .entry)))
+        (now (items .entry)) e) (done s)) ⌝ }
 {
     let w = apply_walk::enter(a, start, Walk::empty(), e);
     let found = next_conjuncts(kind, code, a, start, items, w);
@@ -234,7 +257,13 @@ pub fn apply_to<'a>(
     s: ConstraintSet,
     e: u16,
 ) -> Applied
-    ensures { λ r. ⌜ r ≡ orGiven s (allApplied (conjunctApplied (now (lineage .entry)) (nodeOf (now (kind .entry)) (now (code .entry)) (now (a .entry)) (now (b .entry)) (now (bits .entry)) (now (start .entry)))) (conjunctsOf (nodeOf (now (kind .entry)) (now (code .entry)) (now (a .entry)) (now (b .entry)) (now (bits .entry)) (now (start .entry))) (now (items .entry)) e) (done s)) ⌝ }
+    ensures { λ r.
+        ⌜ r ≡ orGiven s
+        (allApplied
+        (conjunctApplied (now (lineage .entry)) (nodeOf (now (kind .entry)) (now (code .entry)) (now (a .entry)) (now (b .entry)) (now (bits .entry))
+        (now (start .entry))))
+        (conjunctsOf (nodeOf (now (kind .entry)) (now (code .entry)) (now (a .entry)) (now (b .entry)) (now (bits .entry)) (now (start .entry)))
+        (now (items .entry)) e) (done s)) ⌝ }
 {
     if apply_walk::is_and(kind, code, e) {
         let all = apply_and(kind, code, a, b, bits, start, items, lineage, s, e);

@@ -36,7 +36,8 @@ chain-same there there2 own run own2 run2 f zero p q more c = tt
 chain-same there there2 own run own2 run2 f (suc k) p q more c =
     rw (p k (omega arith), q k (omega arith)) (
       (λ h i.
-          within-three there (run k) more (there2 ++ (run k ++ more)) (λ x y. in-there there2 (run k) more x (f x y)) (in-run there2 (run k) more) (in-more there2 (run k) more) h
+          within-three there (run k) more (there2 ++ (run k ++ more)) (λ x y. in-there there2 (run k) more x (f x y)) (in-run there2 (run k) more)
+          (in-more there2 (run k) more) h
           (c .0 h i)),
       chain-same there there2 own run own2 run2 f k (λ j l. p j (omega arith)) (λ j l. q j (omega arith)) (own k) (c .1),
     )
@@ -47,7 +48,8 @@ unfolding Chain
 chain-less there own run zero more f c = tt
 chain-less there own run (suc k) more f c = (
   (λ h i.
-      within-three there (run k) more (there ++ (run k ++ [])) (in-there there (run k) []) (in-run there (run k) []) (λ x y. in-there there (run k) [] x (f x y)) h
+      within-three there (run k) more (there ++ (run k ++ [])) (in-there there (run k) []) (in-run there (run k) [])
+      (λ x y. in-there there (run k) [] x (f x y)) h
       (c .0 h i)),
   c .1,
 )

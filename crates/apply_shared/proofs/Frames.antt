@@ -15,7 +15,8 @@ use Rattle.apply_walk.specs.declared.Walk.{Walk}
 use Rattle.apply_walk.specs.Walks.{isAnd, emptyWalk, ownerAt, placeAt, leftAt, pushed, popped, passed, entered}
 use Rattle.apply_walk.proofs.Guards.{or-second}
 use Rattle.apply_walk.proofs.Entries.{entry-at, entry-past, and-entry, other-entry}
-use Rattle.apply_walk.proofs.Rests.{frameOf, runRest, restOf, runSteps, stepsLeft, Good, run-cons, run-none, passed-good, passed-top, passed-below, pushed-top, pushed-below, fold-pushed}
+use Rattle.apply_walk.proofs.Rests.{frameOf, runRest, restOf, runSteps, stepsLeft, Good, run-cons, run-none, passed-good, passed-top, passed-below}
+use Rattle.apply_walk.proofs.Rests.{pushed-top, pushed-below, fold-pushed}
 use Rattle.apply_walk.proofs.Stepping.{Goes, enter-goes, enter-room}
 use Rattle.apply_walk.proofs.WalkTurns.{deeper}
 use Rattle.apply_shared.proofs.Within.{Within}
@@ -92,7 +93,8 @@ module _ (kind code a b bits start items : List ℕ) where
         unfolding passed
         passed-covered there2 grows known =
             subst (λ (n : ℕ). Chain there2 (owns (passed w k)) (runs (passed w k)) n []) (sym top)
-            (passed-chain there there2 (owns w) (runs w) (owns (passed w k)) (runs (passed w k)) k first refl (split (runs (passed w k) k) (passed-top w g k top run))
+            (passed-chain there there2 (owns w) (runs w) (owns (passed w k)) (runs (passed w k)) k first refl
+            (split (runs (passed w k) k) (passed-top w g k top run))
             (λ j l. refl) (λ j l. passed-below w g k top run j l) at-top grows known)
 
         module _ (x : ℕ) (y : isAnd kind code x ≡ true) (mine : conj x ≡ first) (room : w .depth + x ≤ 1023) where
@@ -106,7 +108,8 @@ module _ (kind code a b bits start items : List ℕ) where
           v-good = passed-good w g k top
 
           -- the frames of u below its top are those of v
-          below : {A : Type 0} (f : ℕ → ℕ → ℕ → A) (j : ℕ) → j < w .depth → f (ownerAt u j) (placeAt u j) (leftAt u j) ≡ f (ownerAt v j) (placeAt v j) (leftAt v j)
+          below : {A : Type 0} (f : ℕ → ℕ → ℕ → A) (j : ℕ) → j < w .depth → f (ownerAt u j) (placeAt u j) (leftAt u j) ≡ f (ownerAt v j) (placeAt v j)
+              (leftAt v j)
           unfolding passed
           below f j l = pushed-below v v-good x (getD start x 0) (getD a x 0) room f j l
 

@@ -24,7 +24,8 @@ use Rattle.apply_walk.proofs.WalkTurns.{Said, turn-said, deeper, pop-turn, skip
 use Rattle.apply_shared.specs.Thinned.{Thinned}
 use Rattle.apply_shared.proofs.Within.{Within, contrary, within-none, within-left, within-right, thin-drop, thin-keep}
 use Rattle.apply_shared.proofs.Marks.{mark-either, mark-taken, mark-stays, none-marked}
-use Rattle.apply_shared.proofs.Frames.{conj, Covered, first-below, first-past, conj-other, popped-within, popped-covered, passed-covered, deeper-covered, over-rest, over-less, start-covered}
+use Rattle.apply_shared.proofs.Frames.{conj, Covered, first-below, first-past, conj-other, popped-within, popped-covered, passed-covered}
+use Rattle.apply_shared.proofs.Frames.{deeper-covered, over-rest, over-less, start-covered}
 
 -- ---- lists alone: all of `whole` so far, where `there` was kept, `rest` is to come, and `own h` is owed of every handle h that `owed` marks
 module _ (own : ℕ → List ℕ) where
@@ -146,7 +147,8 @@ module _ {kind code a start items : List ℕ} {e : ℕ} {v : Walk} {seen owed : 
   owner-within = omega (arith, g .low k (omega (arith, some-frame)))
 
   -- the same is to come, in other words
-  said-so : (b bits : List ℕ) (d : List Bool) (l l2 : List ℕ) → l ≡ l2 → SoFar (own b bits) (whole b bits) there l d → SoFar (own b bits) (whole b bits) there l2 d
+  said-so : (b bits : List ℕ) (d : List Bool) (l l2 : List ℕ) → l ≡ l2 → SoFar (own b bits) (whole b bits) there l d → SoFar (own b bits) (whole b bits) there
+      l2 d
   said-so b bits d l l2 e = subst (λ (x : List ℕ). SoFar (own b bits) (whole b bits) there x d) e
 
   -- ---- the frame is done: all conjuncts of its And are there
@@ -191,7 +193,8 @@ module _ {kind code a start items : List ℕ} {e : ℕ} {v : Walk} {seen owed : 
                 so-far = so b bits;
                 known = was .known;
                 frames =
-                    passed-covered kind code a b bits start items (t .long) there v g k top (was .frames) some low (first b bits) (is b bits) there (λ h i. i) (known-first b bits);
+                    passed-covered kind code a b bits start items (t .long) there v g k top (was .frames) some low (first b bits) (is b bits) there (λ h i. i)
+                    (known-first b bits);
               };
         }
 
@@ -301,7 +304,8 @@ module _ {kind code a start items : List ℕ} {e : ℕ} {v : Walk} {seen owed : 
     pub entered-over : getD seen x false ≡ true → Becomes (passed v k) seen (set owed x true) handles n
     entered-over s = (
       passed-on (set owed x true) (length-set owed x true) (enter-said .0) (enter-said .1) (λ b bits. conj kind code a b bits start items x) enter-first
-          (λ b bits. so-dropped (own b bits) (whole b bits) there (left-over b bits (passed v k)) owed x enter-owed (t .had .held b bits .known x s) (enter-so b bits))
+          (λ b bits. so-dropped (own b bits) (whole b bits) there (left-over b bits (passed v k)) owed x enter-owed (t .had .held b bits .known x s)
+          (enter-so b bits))
           (λ b bits. t .had .held b bits .known x s),
       over-less kind code a [] [] start items (t .long) v g k top (enter-said .0) (enter-said .1) (enter-said .2) (enter-said .3),
     )

@@ -131,7 +131,10 @@ fn of_and<'a>(
     requires { ⌜ length (now items) ≡ 2048 ⌝ }
     requires { ⌜ isAnd (now kind) (now code) e ≡ true ⌝ }
     ensures { λ r. ⌜ r .count ≤ 2048 ⌝ }
-    ensures { λ r. ⌜ (r .whole ≡ true → (b bits : List ℕ) → Thinned [] (conjunctsOf (nodeOf (now (kind .entry)) (now (code .entry)) (now (a .entry)) b bits (now (start .entry))) (now (items .entry)) e) (take (r .count) (r .handles))) ⌝ }
+    ensures { λ r.
+        ⌜ (r .whole ≡ true → (b bits : List ℕ) → Thinned []
+        (conjunctsOf (nodeOf (now (kind .entry)) (now (code .entry)) (now (a .entry)) b bits (now (start .entry))) (now (items .entry)) e)
+        (take (r .count) (r .handles))) ⌝ }
 {
     let mut walk = apply_walk::enter(a, start, Walk::empty(), e);
     let mut last = [true; 1024];
@@ -203,7 +206,10 @@ pub fn thinned_conjuncts<'a>(
     e: u16,
 ) -> Thin
     ensures { λ r. ⌜ r .count ≤ 2048 ⌝ }
-    ensures { λ r. ⌜ (r .whole ≡ true → (b bits : List ℕ) → Thinned [] (conjunctsOf (nodeOf (now (kind .entry)) (now (code .entry)) (now (a .entry)) b bits (now (start .entry))) (now (items .entry)) e) (take (r .count) (r .handles))) ⌝ }
+    ensures { λ r.
+        ⌜ (r .whole ≡ true → (b bits : List ℕ) → Thinned []
+        (conjunctsOf (nodeOf (now (kind .entry)) (now (code .entry)) (now (a .entry)) b bits (now (start .entry))) (now (items .entry)) e)
+        (take (r .count) (r .handles))) ⌝ }
 {
     if apply_walk::is_and(kind, code, e) {
         let lasts = last_places(kind, code, a, start, items, e);

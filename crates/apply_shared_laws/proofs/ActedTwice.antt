@@ -37,7 +37,8 @@ joined-keeps (Literal i v) q p rd = keeps-self q
 joined-keeps (Bound i op x) q p rd = keeps-self q
 joined-keeps (Entry i) q p rd = keeps-self q
 
-joined-one : (act : Action) (q : ConstraintSet) → Proper act → Ready q → canonicalAt (joinedBy act q) (firstOf act) ≡ canonicalAt (joinedBy act q) (secondOf act)
+joined-one : (act : Action) (q : ConstraintSet) → Proper act → Ready q → canonicalAt (joinedBy act q) (firstOf act) ≡ canonicalAt (joinedBy act q)
+    (secondOf act)
 joined-one Nothing q p rd = refl
 joined-one Contradiction q p rd = refl
 joined-one Residual q p rd = refl
@@ -74,7 +75,8 @@ module _ (act : Action) (p : Proper act) (a : Numbered act) (q : ConstraintSet) 
   pub acted-so : (P : ConstraintSet → Type 0) → (isResidual act ≡ false → P w) → (addResidual w h .refused ≡ false → P (addResidual w h .constraints))
       → acted act q h .refused ≡ false → P (acted act q h .constraints)
   acted-so P f g e =
-      subst (λ (x : Applied). P (x .constraints)) (sym (acted-is act q h)) (go (isResidual act) refl (ap (λ (x : Applied). x .refused) (sym (acted-is act q h)) ∙ e))
+      subst (λ (x : Applied). P (x .constraints)) (sym (acted-is act q h))
+      (go (isResidual act) refl (ap (λ (x : Applied). x .refused) (sym (acted-is act q h)) ∙ e))
     where
       go : (b : Bool) → isResidual act ≡ b → ends b .refused ≡ false → P (ends b .constraints)
       go true r e = g e

@@ -65,9 +65,11 @@ module _ (c : Cell) (t : Told c) where
   cellWith n l e f = record { «non_null» = n; literal = l; entry = e; contradictory = f }
 
   -- the flag after one more test and the check
-  quiet : (x : Bool) (l : Holder) (e : En.Entry) → (x ≡ true → c .contradictory ≡ true) → l ≡ c .literal → e ≡ c .entry → ((c .contradictory || x) || crossed l e) ≡ c .contradictory
+  quiet : (x : Bool) (l : Holder) (e : En.Entry) → (x ≡ true → c .contradictory ≡ true) → l ≡ c .literal → e ≡ c .entry
+      → ((c .contradictory || x) || crossed l e) ≡ c .contradictory
   quiet x l e h el ee =
-      ap₂ (λ (f g : Bool). f || g) (or-keeps (c .contradictory) x h) (ap₂ crossed el ee) ∙ or-keeps (c .contradictory) (crossed (c .literal) (c .entry)) (t .outside)
+      ap₂ (λ (f g : Bool). f || g) (or-keeps (c .contradictory) x h) (ap₂ crossed el ee) ∙ or-keeps (c .contradictory) (crossed (c .literal) (c .entry))
+      (t .outside)
 
   -- a range that is there already
   entry-again : (r : ValueRange) → c .entry .present ≡ true → r ≡ c .entry .range → entryOf r ≡ c .entry
@@ -87,5 +89,7 @@ module _ (c : Cell) (t : Told c) where
       let r = tightenBy (rangeIn (c .entry)) (boundsBy op x) in
       let same : r ≡ c .entry .range = ap (λ (z : ValueRange). tightenBy z (boundsBy op x)) in-range ∙ not-taken op x (c .entry .range) (h .1 .1) in
       let e : entryOf r ≡ c .entry = entry-again r there same in
-      λ k. cellWith (sym (h .0) k) (c .literal) (e k) (quiet (emptyRange r) (c .literal) (entryOf r) (λ z. t .empty there (ap emptyRange (sym same) ∙ z)) refl e k)
-  again-cell (Entry i) a h = λ k. cellWith (sym (h .0) k) (c .literal) (entry-again (rangeIn (c .entry)) (h .1) (range-there (c .entry) (h .1)) k) (c .contradictory)
+      λ k. cellWith (sym (h .0) k) (c .literal) (e k) (quiet (emptyRange r) (c .literal) (entryOf r) (λ z. t .empty there (ap emptyRange (sym same) ∙ z)) refl
+      e k)
+  again-cell (Entry i) a h = λ k. cellWith (sym (h .0) k) (c .literal) (entry-again (rangeIn (c .entry)) (h .1) (range-there (c .entry) (h .1)) k)
+      (c .contradictory)

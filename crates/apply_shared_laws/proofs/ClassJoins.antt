@@ -10,7 +10,8 @@ use lib.ListN.{length, getD, set, length-set}
 use lib.Seq.{getD-set-same, getD-set-other}
 use Rattle.value_classes.specs.Parents.{rootOf, joined}
 use Rattle.value_classes.proofs.RootLaws.{Falls, falls, root-below, root-idempotent, joined-exact}
-use Rattle.constraint_spec.specs.Sets.{none, noEntry, blank, parentsOf, nonNulls, literals, nonNullAt, literalAt, entryAt, canonicalAt, withClasses, normalized, unionValues}
+use Rattle.constraint_spec.specs.Sets.{none, noEntry, blank, parentsOf, nonNulls, literals, nonNullAt, literalAt, entryAt, canonicalAt, withClasses}
+use Rattle.constraint_spec.specs.Sets.{normalized, unionValues}
 use Rattle.constraint_spec.specs.declared.ConstraintSet.{ConstraintSet}
 use Rattle.constraint_spec.proofs.Operations.{union-one, union-two}
 use Rattle.constraint_set.specs.Settled.{Settled, nullOn, movedTo, placeAt, unitedRoots}
@@ -78,7 +79,12 @@ module _ (s : ConstraintSet) (rd : Ready s) (a b : ℕ) (less : a < b) (high : b
     contradictory = t .contradictory;
   }
 
-  cell-other : (k : ℕ) → (k ≡ a → ⊥) → (k ≡ b → ⊥) → cellOf t k ≡ record { «non_null» = nonNullAt s k; literal = literalAt s k; entry = entryAt s k; contradictory = t .contradictory }
+  cell-other : (k : ℕ) → (k ≡ a → ⊥) → (k ≡ b → ⊥) → cellOf t k ≡ record {
+    «non_null» = nonNullAt s k;
+    literal = literalAt s k;
+    entry = entryAt s k;
+    contradictory = t .contradictory;
+  }
   unfolding unitedRoots
   cell-other k n m = λ i. record {
     «non_null» = moved-other (nonNulls s) a b (nullOn (nonNullAt s a) (nonNullAt s b)) false false less high (g .nulls .long) k n m i;
@@ -97,7 +103,8 @@ module _ (s : ConstraintSet) (rd : Ready s) (a b : ℕ) (less : a < b) (high : b
 
   united-bounded : (k : ℕ) → k < 128 → Bounded (entryAt t k)
   united-bounded k h = elim (ℕ-discrete k a) [
-    | yes e ↦ subst (λ (z : ℕ). Bounded (entryAt t z)) (sym e) (subst (λ (c : Cell). Bounded (c .entry)) (sym cell-a) (bounded-joined (cellOf s a) (cellOf s b) (rd .bounds a a-low) (rd .bounds b high)))
+    | yes e ↦ subst (λ (z : ℕ). Bounded (entryAt t z)) (sym e)
+        (subst (λ (c : Cell). Bounded (c .entry)) (sym cell-a) (bounded-joined (cellOf s a) (cellOf s b) (rd .bounds a a-low) (rd .bounds b high)))
     | no n ↦ elim (ℕ-discrete k b) [
       | yes e ↦ subst (λ (z : ℕ). Bounded (entryAt t z)) (sym e) (subst Bounded (sym b-entry) (λ z. absurd (false≢true z)))
       | no m ↦ subst (λ (c : Cell). Bounded (c .entry)) (sym (cell-other k n m)) (rd .bounds k h)
@@ -150,7 +157,8 @@ module _ (s : ConstraintSet) (rd : Ready s) (i j : ℕ) (hi : i < 128) (hj : j <
   pub own : (k : ℕ) → canonicalAt s (canonicalAt s k) ≡ canonicalAt s k
   own k = root-idempotent (parentsOf s) (falls (parentsOf s) (gs .ok)) k
 
-  united-is : (a b : ℕ) → a < b → b < 128 → canonicalAt s a ≡ a → joined (parentsOf s) i j ≡ set (parentsOf s) b a → (x ≡ y → ⊥) → unitedRoots s a b ≡ unionValues s i j
+  united-is : (a b : ℕ) → a < b → b < 128 → canonicalAt s a ≡ a → joined (parentsOf s) i j ≡ set (parentsOf s) b a → (x ≡ y → ⊥) → unitedRoots s a b
+      ≡ unionValues s i j
   united-is a b less high o e d =
       sym (union-two s i j hi hj d ∙ ap (λ (q : List ℕ). normalized (withClasses s (record { parents = q }))) e ∙ joined-normalized s gs a b less high o)
 

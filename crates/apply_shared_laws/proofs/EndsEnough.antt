@@ -34,7 +34,8 @@ unfolding allApplied
 refused-stays apply [] a e = refl
 refused-stays apply (h ∷ hs) a e = ap (λ (t : Bool). allApplied apply hs (cond t a (apply (a .constraints) h))) e ∙ refused-stays apply hs a e
 
-refused-given : (apply : ConstraintSet → ℕ → Applied) (hs : List ℕ) (a : Applied) (g : ConstraintSet) → a .refused ≡ true → orGiven g (allApplied apply hs a) ≡ refusedWith g
+refused-given : (apply : ConstraintSet → ℕ → Applied) (hs : List ℕ) (a : Applied) (g : ConstraintSet) → a .refused ≡ true → orGiven g (allApplied apply hs a)
+    ≡ refusedWith g
 refused-given apply hs a g e = ap (orGiven g) (refused-stays apply hs a e) ∙ ap (λ (t : Bool). cond t (refusedWith g) a) e
 
 -- ---- what is in a list with one more
@@ -47,7 +48,8 @@ in-more k h [] e = go (eqb h k) refl e
     go false q z = absurd (false≢true z)
 in-more k h (x ∷ xs) e = go (eqb x k) (in-more k h xs) e
   where
-    go : (b : Bool) → (isIn k (xs ++ (h ∷ [])) ≡ true → (isIn k xs ≡ true) ⊎ (h ≡ k)) → (b || isIn k (xs ++ (h ∷ []))) ≡ true → ((b || isIn k xs) ≡ true) ⊎ (h ≡ k)
+    go : (b : Bool) → (isIn k (xs ++ (h ∷ [])) ≡ true → (isIn k xs ≡ true) ⊎ (h ≡ k)) → (b || isIn k (xs ++ (h ∷ []))) ≡ true → ((b || isIn k xs) ≡ true)
+        ⊎ (h ≡ k)
     go true f z = inl refl
     go false f z = f z
 
@@ -90,13 +92,16 @@ module _ (lineage : List ℕ) (node : ℕ → ExprData) where
       plainly = λ i. record { constraints = apply s h .constraints; refused = e i }
 
       still-ready : Ready (apply s h .constraints)
-      still-ready = subst (λ (x : Applied). Ready (x .constraints)) is (acted-ready (act h) (proper lineage node h) (numbered lineage node h) s rd h not-refused)
+      still-ready = subst (λ (x : Applied). Ready (x .constraints)) is (acted-ready (act h) (proper lineage node h) (numbered lineage node h) s rd h
+          not-refused)
 
       kept : (other : Action) (k : ℕ) → Proper other → Has other k s → Has other k (apply s h .constraints)
-      kept other k p d = subst (λ (x : Applied). Has other k (x .constraints)) is (acted-keeps (act h) (proper lineage node h) (numbered lineage node h) s rd h other k p d not-refused)
+      kept other k p d = subst (λ (x : Applied). Has other k (x .constraints)) is (acted-keeps (act h) (proper lineage node h) (numbered lineage node h) s rd
+          h other k p d not-refused)
 
       gained : Has (act h) h (apply s h .constraints)
-      gained = subst (λ (x : Applied). Has (act h) h (x .constraints)) is (acted-has (act h) (proper lineage node h) (numbered lineage node h) s rd h not-refused)
+      gained = subst (λ (x : Applied). Has (act h) h (x .constraints)) is (acted-has (act h) (proper lineage node h) (numbered lineage node h) s rd h
+          not-refused)
 
       one-more : (old : List ℕ) → AllDone old s → AllDone (old ++ (h ∷ [])) (apply s h .constraints)
       one-more old d k i = elim (in-more k h old i) [
@@ -116,7 +121,8 @@ module _ (lineage : List ℕ) (node : ℕ → ExprData) where
     applied s = sym (acts s h lineage node) ∙ ap (λ (a : Action). acted a s h) l
 
     abbrev Alike : List ℕ → Type 0
-    Alike hs = (s : ConstraintSet) → Ready s → Has (Literal i v) h s → isIn h hs ≡ true → orGiven g (allApplied apply hs (done s)) ≡ orGiven g (allApplied apply hs (done (once s)))
+    Alike hs = (s : ConstraintSet) → Ready s → Has (Literal i v) h s → isIn h hs ≡ true → orGiven g (allApplied apply hs (done s)) ≡ orGiven g
+        (allApplied apply hs (done (once s)))
 
     after : (b : ℕ) (hs : List ℕ) → Alike hs → (s : ConstraintSet) → Ready s → Has (Literal i v) h s → isIn h hs ≡ true
         → orGiven g (allApplied apply hs (apply s b)) ≡ orGiven g (allApplied apply hs (apply (once s) b))
@@ -143,27 +149,33 @@ module _ (lineage : List ℕ) (node : ℕ → ExprData) where
     again-alike [] s rd x e = absurd (false≢true e)
     again-alike (b ∷ hs) s rd x e = go (eqb b h) refl e (again-alike hs)
       where
-        go : (t : Bool) → eqb b h ≡ t → (t || isIn h hs) ≡ true → Alike hs → orGiven g (allApplied apply hs (apply s b)) ≡ orGiven g (allApplied apply hs (apply (once s) b))
+        go : (t : Bool) → eqb b h ≡ t → (t || isIn h hs) ≡ true → Alike hs → orGiven g (allApplied apply hs (apply s b)) ≡ orGiven g
+            (allApplied apply hs (apply (once s) b))
         go true q z rest =
             ap (λ (d : Applied). orGiven g (allApplied apply hs d))
-            (subst (λ (k : ℕ). apply s k ≡ apply (once s) k) (sym (eqb-true b h q)) (applied s ∙ sym (ap done (again-twice i v pa h s rd x)) ∙ sym (applied (once s))))
+            (subst (λ (k : ℕ). apply s k ≡ apply (once s) k) (sym (eqb-true b h q))
+            (applied s ∙ sym (ap done (again-twice i v pa h s rd x)) ∙ sym (applied (once s))))
         go false q z rest = after b hs rest s rd x z
 
   -- ---- what is left out makes no difference
   module _ (g : ConstraintSet) where
     -- a conjunct that was applied and comes again
-    left-out : (h : ℕ) (hs : List ℕ) (s : ConstraintSet) → Ready s → Has (act h) h s → isIn h hs ≡ true → orGiven g (allApplied apply hs (apply s h)) ≡ orGiven g (allApplied apply hs (done s))
+    left-out : (h : ℕ) (hs : List ℕ) (s : ConstraintSet) → Ready s → Has (act h) h s → isIn h hs ≡ true → orGiven g (allApplied apply hs (apply s h))
+        ≡ orGiven g (allApplied apply hs (done s))
     left-out h hs s rd x e = elim (plain-or (act h)) [
-      | inl p ↦ ap (λ (d : Applied). orGiven g (allApplied apply hs d)) (sym (acts s h lineage node) ∙ acted-again (act h) (proper lineage node h) (numbered lineage node h) s rd h p x)
+      | inl p ↦ ap (λ (d : Applied). orGiven g (allApplied apply hs d)) (sym (acts s h lineage node) ∙ acted-again (act h) (proper lineage node h)
+          (numbered lineage node h) s rd h p x)
       | inr l ↦ ap (λ (d : Applied). orGiven g (allApplied apply hs d)) (applied g h (l .place) (l .value) (l .is) s)
           ∙ sym (again-alike g h (l .place) (l .value) (l .is) hs s rd (subst (λ (a : Action). Has a h s) (l .is) x) e)
     ]
 
     abbrev Without : List ℕ → Type 0
-    Without hs = (ks old : List ℕ) (s : ConstraintSet) → Ready s → AllDone old s → Thinned old hs ks → orGiven g (allApplied apply hs (done s)) ≡ orGiven g (allApplied apply ks (done s))
+    Without hs = (ks old : List ℕ) (s : ConstraintSet) → Ready s → AllDone old s → Thinned old hs ks → orGiven g (allApplied apply hs (done s)) ≡ orGiven g
+        (allApplied apply ks (done s))
 
     -- one that is not left out
-    step : (h : ℕ) (hs ks old : List ℕ) (s : ConstraintSet) → Ready s → AllDone old s → Without hs → Thinned (old ++ (h ∷ [])) hs ks → (r : Bool) → apply s h .refused ≡ r
+    step : (h : ℕ) (hs ks old : List ℕ) (s : ConstraintSet) → Ready s → AllDone old s → Without hs → Thinned (old ++ (h ∷ [])) hs ks → (r : Bool) → apply s
+        h .refused ≡ r
         → orGiven g (allApplied apply hs (apply s h)) ≡ orGiven g (allApplied apply ks (apply s h))
     step h hs ks old s rd d rest t true e = refused-given apply hs (apply s h) g e ∙ sym (refused-given apply ks (apply s h) g e)
     step h hs ks old s rd d rest t false e =
@@ -176,14 +188,17 @@ module _ (lineage : List ℕ) (node : ℕ → ExprData) where
     unfolding allApplied
     without [] ks old s rd d t = ap (λ (l : List ℕ). orGiven g (allApplied apply l (done s))) (sym t)
     without (h ∷ hs) ks old s rd d t = elim t [
-      | inl z ↦ left-out h hs s rd (d h (and-left (isIn h old) (isIn h hs) (z .0))) (and-right (isIn h old) (isIn h hs) (z .0)) ∙ without hs ks old s rd d (z .1)
-      | inr z ↦ step h hs (z .others) old s rd d (without hs) (z .rest) (apply s h .refused) refl ∙ ap (λ (l : List ℕ). orGiven g (allApplied apply l (done s))) (sym (z .is))
+      | inl z ↦ left-out h hs s rd (d h (and-left (isIn h old) (isIn h hs) (z .0))) (and-right (isIn h old) (isIn h hs) (z .0)) ∙ without hs ks old s rd d
+          (z .1)
+      | inr z ↦ step h hs (z .others) old s rd d (without hs) (z .rest) (apply s h .refused) refl ∙ ap
+          (λ (l : List ℕ). orGiven g (allApplied apply l (done s))) (sym (z .is))
     ]
 
 -- of the conjuncts of a plan that are applied to a ready set those that stand both before and after may be left out, and a refusal stays one. Assumes nothing
 -- of the plan
 pub ends-are-enough : (lineage kind code a b bits start : List ℕ) (hs ks : List ℕ) (s : ConstraintSet) → Ready s → Thinned [] hs ks
-    → orGiven s (allApplied (conjunctApplied lineage (nodeOf kind code a b bits start)) hs (done s)) ≡ orGiven s (allApplied (conjunctApplied lineage (nodeOf kind code a b bits start)) ks (done s))
+    → orGiven s (allApplied (conjunctApplied lineage (nodeOf kind code a b bits start)) hs (done s)) ≡ orGiven s
+    (allApplied (conjunctApplied lineage (nodeOf kind code a b bits start)) ks (done s))
 unfolding isIn
 ends-are-enough lineage kind code a b bits start hs ks s rd t =
     without lineage (nodeOf kind code a b bits start) s hs ks [] s rd (λ k e. absurd (false≢true e)) t

@@ -75,7 +75,8 @@ module _ (old : Holder) (w : ScalarValue) (was f : Bool) (stays : was ≡ true �
   now = cond (clashes old w) old (held w)
 
   -- what was there is there, or the flag is set
-  pub literal-stays : (v : ScalarValue) → (old .present ≡ true) × (Alike (old .value) v ⊎ (was ≡ true)) → (now .present ≡ true) × (Alike (now .value) v ⊎ (f ≡ true))
+  pub literal-stays : (v : ScalarValue) → (old .present ≡ true) × (Alike (old .value) v ⊎ (was ≡ true)) → (now .present ≡ true)
+      × (Alike (now .value) v ⊎ (f ≡ true))
   literal-stays v h = go (clashes old w) refl
     where
       go : (b : Bool) → clashes old w ≡ b → (cond b old (held w) .present ≡ true) × (Alike (cond b old (held w) .value) v ⊎ (f ≡ true))
@@ -107,7 +108,8 @@ comparable-in e s = go (e .present) s
 pub range-there : (e : En.Entry) → e .present ≡ true → rangeIn e ≡ e .range
 range-there e h = ap (λ (b : Bool). cond b (e .range) unboundedRange) h
 
-bound-stays : (op : BinaryOp) (x : Float) (e : En.Entry) (new : ValueRange) → e .present ≡ true → takenBy op x (e .range) ≡ false → takenBy op x (tightenBy (rangeIn e) new) ≡ false
+bound-stays : (op : BinaryOp) (x : Float) (e : En.Entry) (new : ValueRange) → e .present ≡ true → takenBy op x (e .range) ≡ false → takenBy op x
+    (tightenBy (rangeIn e) new) ≡ false
 bound-stays op x e new h k = taken-stays op x (rangeIn e) new (ap (takenBy op x) (range-there e h) ∙ k)
 
 -- a place keeps what it has
@@ -120,7 +122,8 @@ grows-after (Same i j true) c = grows-flag c true (c .contradictory) (λ e. refl
 grows-after (Same i j false) c = grows-flag c (c .«non_null») (c .contradictory) (λ e. e) (λ e. e)
 grows-after (Literal i w) c = record {
   null = λ e. refl;
-  literal = literal-stays (c .literal) w (c .contradictory) _ (λ e. or-before _ _ (or-before _ _ e)) (λ e. or-before (c .contradictory || clashes (c .literal) w) _ (or-here (c .contradictory) (clashes (c .literal) w) e));
+  literal = literal-stays (c .literal) w (c .contradictory) _ (λ e. or-before _ _ (or-before _ _ e))
+      (λ e. or-before (c .contradictory || clashes (c .literal) w) _ (or-here (c .contradictory) (clashes (c .literal) w) e));
   bound = λ op x p. p;
   entry = λ p. p;
   flag = λ e. or-before _ _ (or-before _ _ e);
@@ -226,7 +229,8 @@ module _ (c d : Cell) where
         (refl, taken-comes op x (rangeIn (c .entry)) (d .entry .range) (comparable-in (c .entry) sc) (sd (h .0)) (h .1))
 
     right-entry : d .entry .present ≡ true → joinedCell c d .entry .present ≡ true
-    right-entry h = ap (λ (e : En.Entry). e .present) (entry-is ∙ ap (λ (p : Bool). cond p (entryOf (tightenBy (rangeIn (c .entry)) (d .entry .range))) (c .entry)) h)
+    right-entry h = ap (λ (e : En.Entry). e .present)
+        (entry-is ∙ ap (λ (p : Bool). cond p (entryOf (tightenBy (rangeIn (c .entry)) (d .entry .range))) (c .entry)) h)
 
     right-null : d .«non_null» ≡ true → joinedCell c d .«non_null» ≡ true
     unfolding joinedCell nullOn

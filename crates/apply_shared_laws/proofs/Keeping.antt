@@ -19,8 +19,10 @@ pub record Keeps (s t : ConstraintSet) : Type 0 where
   pub handled : (h : ℕ) → hasIn (handles s) (s .residuals) h ≡ true → hasIn (handles t) (t .residuals) h ≡ true
 
 -- what is kept of the place of an action
-pub keeps-cell : (s t : ConstraintSet) → Keeps s t → (act : Action) → Proper act → HasCell act (cellOf s (canonicalAt s (firstOf act))) → HasCell act (cellOf t (canonicalAt t (firstOf act)))
-keeps-cell s t k act p h = grown-has act (cellOf s (canonicalAt s (firstOf act))) (cellOf t (canonicalAt t (firstOf act))) (k .cells (firstOf act) (first-low act p)) h
+pub keeps-cell : (s t : ConstraintSet) → Keeps s t → (act : Action) → Proper act → HasCell act (cellOf s (canonicalAt s (firstOf act))) → HasCell act
+    (cellOf t (canonicalAt t (firstOf act)))
+keeps-cell s t k act p h = grown-has act (cellOf s (canonicalAt s (firstOf act))) (cellOf t (canonicalAt t (firstOf act)))
+    (k .cells (firstOf act) (first-low act p)) h
 
 pub keeps-has : (s t : ConstraintSet) → Keeps s t → (act : Action) (h : ℕ) → Proper act → Has act h s → Has act h t
 keeps-has s t k act h p x = record {

@@ -10,7 +10,8 @@ use lib.ListN.{length, getD, set}
 use lib.Seq.{getD-set-same, getD-set-other}
 use Rattle.scalar.specs.Scalars.{sameScalar}
 use Rattle.scalar.specs.declared.ScalarValue.{ScalarValue}
-use Rattle.constraint_spec.specs.Sets.{none, held, noEntry, parentsOf, nonNulls, literals, handles, nonNullAt, literalAt, entryAt, withFlag, canonicalAt, crossed, unionValues}
+use Rattle.constraint_spec.specs.Sets.{none, held, noEntry, parentsOf, nonNulls, literals, handles, nonNullAt, literalAt, entryAt, withFlag}
+use Rattle.constraint_spec.specs.Sets.{canonicalAt, crossed, unionValues}
 use Rattle.constraint_spec.specs.declared.Holder.{Holder}
 use Rattle.constraint_spec.specs.declared.ConstraintSet.{ConstraintSet}
 use Rattle.constraint_spec.proofs.Operations.{union-one}
@@ -72,7 +73,8 @@ module _ (x v : ScalarValue) (same : sameScalar x v ≡ true) where
         flags : literalOn g h ≡ held x → literalOn g' h' ≡ held v → flagOf (literalBad g h) (literalOn g' h') ≡ flagOf (literalBad g h) (literalOn g h)
         flags p q =
             ap (flagOf (literalBad g h)) q
-            ∙ ap (λ (f : Bool). s .contradictory || ((literalBad g h || rangeBad (entryAt s a) (entryAt s b)) || f)) (sym (crossed-same x v same (rangeOn (entryAt s a) (entryAt s b))))
+            ∙ ap (λ (f : Bool). s .contradictory || ((literalBad g h || rangeBad (entryAt s a) (entryAt s b)) || f))
+            (sym (crossed-same x v same (rangeOn (entryAt s a) (entryAt s b))))
             ∙ ap (flagOf (literalBad g h)) (sym p)
 
     abbrev ga : Holder
@@ -86,7 +88,8 @@ module _ (x v : ScalarValue) (same : sameScalar x v ≡ true) where
     after r = shape (set l r (held v)) (getD (set l r (held v)) a none) (getD (set l r (held v)) b none)
 
     at-a : ga ≡ held x → PassedAt a (shape l ga gb) (after a)
-    at-a e = subst (λ (g : Holder). PassedAt a (shape l g gb) (after a)) (sym e) (subst (PassedAt a (shape l (held x) gb)) (sym path) (pair-passes (held x) gb (held v) gb (joins-old x v same gb)))
+    at-a e = subst (λ (g : Holder). PassedAt a (shape l g gb) (after a)) (sym e)
+        (subst (PassedAt a (shape l (held x) gb)) (sym path) (pair-passes (held x) gb (held v) gb (joins-old x v same gb)))
       where
         path : after a ≡ shape l (held v) gb
         path =
@@ -94,7 +97,8 @@ module _ (x v : ScalarValue) (same : sameScalar x v ≡ true) where
             ∙ (λ k. formed (set (set-twice l a (held v) (literalOn (held v) gb) k) b none) (flagOf (literalBad (held v) gb) (literalOn (held v) gb)))
 
     at-b : gb ≡ held x → PassedAt a (shape l ga gb) (after b)
-    at-b e = subst (λ (g : Holder). PassedAt a (shape l ga g) (after b)) (sym e) (subst (PassedAt a (shape l ga (held x))) (sym path) (pair-passes ga (held x) ga (held v) (joins-new x v same ga)))
+    at-b e = subst (λ (g : Holder). PassedAt a (shape l ga g) (after b)) (sym e)
+        (subst (PassedAt a (shape l ga (held x))) (sym path) (pair-passes ga (held x) ga (held v) (joins-new x v same ga)))
       where
         lists : (n : Holder) → set (set (set l b (held v)) a n) b none ≡ set (set l a n) b none
         lists n = ap (λ (m : List Holder). set m b none) (set-swap l b a (held v) n (omega arith)) ∙ set-twice (set l a n) b (held v) none
@@ -133,7 +137,8 @@ module _ (x v : ScalarValue) (same : sameScalar x v ≡ true) where
     united-passes : (a b : ℕ) → a < b → b < 128 → canonicalAt s a ≡ a → canonicalAt s b ≡ b → Passed x v same i (unitedRoots s a b) (unitedRoots t a b)
     unfolding unitedRoots placeOf
     united-passes a b less high oa ob =
-        subst (λ (k : ℕ). PassedAt k (unitedRoots s a b) (unitedRoots t a b)) (sym (root-moves s rd a b less high oa ob i)) (at-place s rd a b less high (canonicalAt s i) e)
+        subst (λ (k : ℕ). PassedAt k (unitedRoots s a b) (unitedRoots t a b)) (sym (root-moves s rd a b less high oa ob i))
+        (at-place s rd a b less high (canonicalAt s i) e)
 
     pub union-passes : (j k : ℕ) → j < 128 → k < 128 → Passed x v same i (unionValues s j k) (unionValues t j k)
     union-passes j k hj hk =
@@ -145,7 +150,8 @@ module _ (x v : ScalarValue) (same : sameScalar x v ≡ true) where
         (united-passes (canonicalAt s k) (canonicalAt s j) q (x-low s rd j k hj hk) (own s rd j k hj hk k) (own s rd j k hj hk j)))
 
 -- ---- with the flag
-pub union-flagged : (s : ConstraintSet) → Ready s → Ready (withFlag s true) → (j k : ℕ) → j < 128 → k < 128 → unionValues (withFlag s true) j k ≡ withFlag (unionValues s j k) true
+pub union-flagged : (s : ConstraintSet) → Ready s → Ready (withFlag s true) → (j k : ℕ) → j < 128 → k < 128 → unionValues (withFlag s true) j k ≡ withFlag
+    (unionValues s j k) true
 union-flagged s rd rt j k hj hk =
     union-so s rd j k hj hk (λ (u : ConstraintSet). unionValues (withFlag s true) j k ≡ withFlag u true)
     (λ q. union-one (withFlag s true) j k hj hk q)

@@ -12,7 +12,8 @@ use lib.Seq.{set-getD, getD-set-same, getD-set-other}
 use Rattle.scalar.specs.Scalars.{sameScalar, holdsNan}
 use Rattle.scalar.specs.declared.ScalarValue.{ScalarValue}
 use Rattle.scalar.proofs.ScalarLaws.{same-self, same-left}
-use Rattle.constraint_spec.specs.Sets.{none, blank, held, nonNulls, literals, handles, nonNullAt, literalAt, entryAt, withLiterals, withFlag, canonicalAt, clashes, crossed, addLiteral}
+use Rattle.constraint_spec.specs.Sets.{none, blank, held, nonNulls, literals, handles, nonNullAt, literalAt, entryAt, withLiterals, withFlag}
+use Rattle.constraint_spec.specs.Sets.{canonicalAt, clashes, crossed, addLiteral}
 use Rattle.constraint_spec.specs.declared.Holder.{Holder}
 use Rattle.constraint_spec.specs.declared.Entry as En
 use Rattle.constraint_spec.specs.declared.ConstraintSet.{ConstraintSet}
@@ -85,7 +86,8 @@ module _ (u : ConstraintSet) (rd : Ready u) (i : ℕ) (v : ScalarValue) (p : Pro
           «non_null» = sym nn k;
           literal = ap (λ (b : Bool). cond b old (held v)) e k;
           entry = entryAt u r;
-          contradictory = or-before (u .contradictory || clashes old v) (crossed (cond (clashes old v) old (held v)) (entryAt u r)) (or-here (u .contradictory) (clashes old v) e) k;
+          contradictory = or-before (u .contradictory || clashes old v) (crossed (cond (clashes old v) old (held v)) (entryAt u r))
+              (or-here (u .contradictory) (clashes old v) e) k;
         }
 
     -- and any other is put there
@@ -111,7 +113,8 @@ module _ (u : ConstraintSet) (rd : Ready u) (i : ℕ) (v : ScalarValue) (p : Pro
         put = unfold literalCell in λ k. record { «non_null» = sym nn k; literal = literal-is k; entry = entryAt u r; contradictory = flag-is k }
 
         laid-cell : withCell u r (laidCell c v) ≡ laid u r v
-        laid-cell = unfold withCell in λ k. rest u (set-getD (nonNulls u) r false k) (set (literals u) r (held v)) (set-getD (u .ranges) r blank k) (u .contradictory)
+        laid-cell = unfold withCell in λ k. rest u (set-getD (nonNulls u) r false k) (set (literals u) r (held v)) (set-getD (u .ranges) r blank k)
+            (u .contradictory)
 
   -- NaN clashes with every literal
   pub nan-clashes : holdsNan v ≡ true → old .present ≡ true → clashes old v ≡ true
@@ -127,7 +130,8 @@ module _ (x v : ScalarValue) (same : sameScalar x v ≡ true) (i : ℕ) where
   abbrev pub Passed : ConstraintSet → ConstraintSet → Type 0
   Passed u t = (t ≡ u) ⊎ ((literalAt u (canonicalAt u i) ≡ held x) × (t ≡ laid u (canonicalAt u i) v))
 
-  module _ (u : ConstraintSet) (rd : Ready u) (rt : Ready (laid u (canonicalAt u i) v)) (low : canonicalAt u i < 128) (l : literalAt u (canonicalAt u i) ≡ held x) (act : Action) (p : Proper act) where
+  module _ (u : ConstraintSet) (rd : Ready u) (rt : Ready (laid u (canonicalAt u i) v)) (low : canonicalAt u i < 128)
+      (l : literalAt u (canonicalAt u i) ≡ held x) (act : Action) (p : Proper act) where
     abbrev at : ℕ
     at = canonicalAt u i
 
@@ -143,14 +147,20 @@ module _ (x v : ScalarValue) (same : sameScalar x v ≡ true) (i : ℕ) where
     -- at another place
     module _ (n : q ≡ at → ⊥) where
       off-cell : cellOf t q ≡ cellOf u q
-      off-cell = λ k. record { «non_null» = nonNullAt u q; literal = getD-set-other (literals u) at q (held v) none n k; entry = entryAt u q; contradictory = u .contradictory }
+      off-cell = λ k. record {
+        «non_null» = nonNullAt u q;
+        literal = getD-set-other (literals u) at q (held v) none n k;
+        entry = entryAt u q;
+        contradictory = u .contradictory;
+      }
 
       off-place : Passed (withCell u q (after u q)) (withCell t q (after t q))
       unfolding withCell
       off-place = inr (
         getD-set-other (literals u) q at (after u q .literal) none (λ e. n (sym e)) ∙ l,
         ap (λ (d : Cell). withCell t q (cellAfter d act)) off-cell
-            ∙ (λ k. rest u (set (nonNulls u) q (after u q .«non_null»)) (set-swap (literals u) at q (held v) (after u q .literal) (λ e. n (sym e)) k) (set (u .ranges) q (after u q .entry)) (after u q .contradictory)),
+            ∙ (λ k. rest u (set (nonNulls u) q (after u q .«non_null»)) (set-swap (literals u) at q (held v) (after u q .literal) (λ e. n (sym e)) k)
+            (set (u .ranges) q (after u q .entry)) (after u q .contradictory)),
       )
 
     -- at the same
@@ -158,7 +168,12 @@ module _ (x v : ScalarValue) (same : sameScalar x v ≡ true) (i : ℕ) where
     long = omega (arith, low, rd .settled .equal .long)
 
     on-cell : cellOf t at ≡ laidCell (cellOf u at) v
-    on-cell = λ k. record { «non_null» = nonNullAt u at; literal = getD-set-same (literals u) at (held v) none long k; entry = entryAt u at; contradictory = u .contradictory }
+    on-cell = λ k. record {
+      «non_null» = nonNullAt u at;
+      literal = getD-set-same (literals u) at (held v) none long k;
+      entry = entryAt u at;
+      contradictory = u .contradictory;
+    }
 
     abbrev d : Cell
     d = after u at
@@ -167,11 +182,14 @@ module _ (x v : ScalarValue) (same : sameScalar x v ≡ true) (i : ℕ) where
     unfolding withCell
     on-place = elim (cell-passes x v same (cellOf u at) l act) [
       | inl z ↦ inl (ap (λ (e : Cell). withCell t at (cellAfter e act)) on-cell ∙ ap (withCell t at) z
-          ∙ (λ k. rest u (set (nonNulls u) at (d .«non_null»)) (set-twice (literals u) at (held v) (d .literal) k) (set (u .ranges) at (d .entry)) (d .contradictory)))
+          ∙ (λ k. rest u (set (nonNulls u) at (d .«non_null»)) (set-twice (literals u) at (held v) (d .literal) k) (set (u .ranges) at (d .entry))
+          (d .contradictory)))
       | inr z ↦ inr (
         getD-set-same (literals u) at (d .literal) none long ∙ z .0,
         ap (λ (e : Cell). withCell t at (cellAfter e act)) on-cell ∙ ap (withCell t at) (z .1)
-            ∙ (λ k. rest u (set (nonNulls u) at (d .«non_null»)) ((set-twice (literals u) at (held v) (held v) ∙ sym (set-twice (literals u) at (d .literal) (held v))) k) (set (u .ranges) at (d .entry)) (d .contradictory)),
+            ∙ (λ k. rest u (set (nonNulls u) at (d .«non_null»))
+            ((set-twice (literals u) at (held v) (held v) ∙ sym (set-twice (literals u) at (d .literal) (held v))) k) (set (u .ranges) at (d .entry))
+            (d .contradictory)),
       )
     ]
 

@@ -1,4 +1,5 @@
--- A literal that was applied before, applied once more before another action or only after it: the set is one, or again one to which the literal is applied once
+-- A literal that was applied before, applied once more before another action or only after it: the set is one, or again one to which the literal is
+-- applied once
 -- more. Assumes nothing.
 use Prim.Native.Nat.{ℕ, _+_, _<_}
 use mathlib.Core.Path.{_≡_, refl, sym, ap, _∙_, subst}
@@ -13,7 +14,8 @@ use Rattle.scalar.specs.Scalars.{sameScalar, holdsNan}
 use Rattle.scalar.specs.declared.ScalarValue.{ScalarValue}
 use Rattle.scalar.proofs.ScalarLaws.{same-left}
 use Rattle.value_classes.proofs.RootLaws.{root-below}
-use Rattle.constraint_spec.specs.Sets.{none, held, parentsOf, nonNulls, literals, handles, literalAt, withFlag, withResiduals, hasHandle, canonicalAt, clashes, pushResidual, addLiteral, addResidual, done, refusedWith}
+use Rattle.constraint_spec.specs.Sets.{none, held, parentsOf, nonNulls, literals, handles, literalAt, withFlag, withResiduals, hasHandle}
+use Rattle.constraint_spec.specs.Sets.{canonicalAt, clashes, pushResidual, addLiteral, addResidual, done, refusedWith}
 use Rattle.constraint_spec.specs.declared.Holder.{Holder}
 use Rattle.constraint_spec.specs.declared.ConstraintSet.{ConstraintSet}
 use Rattle.constraint_spec.specs.declared.Applied.{Applied}
@@ -53,7 +55,8 @@ joined-flagged (Entry i) s p rd = refl
 recorded-flagged : (act : Action) (u : ConstraintSet) → Proper act → Ready u → recordedIn act (withFlag u true) ≡ withFlag (recordedIn act u) true
 recorded-flagged act u p rd =
     let q = canonicalAt u (firstOf act) in
-    sym (recorded-is (withFlag u true) (flag-ready u rd) act p) ∙ ap (withCell (withFlag u true) q) (flag-through act (cellOf u q)) ∙ written q (cellAfter (cellOf u q) act)
+    sym (recorded-is (withFlag u true) (flag-ready u rd) act p) ∙ ap (withCell (withFlag u true) q) (flag-through act (cellOf u q)) ∙ written q
+    (cellAfter (cellOf u q) act)
     ∙ ap (λ (z : ConstraintSet). withFlag z true) (recorded-is u rd act p)
   where
     written : (q : ℕ) (d : Cell) → withCell (withFlag u true) q (flaggedCell d) ≡ withFlag (withCell u q d) true
@@ -63,7 +66,8 @@ whole-flagged : (act : Action) (s : ConstraintSet) → Proper act → Ready s �
 whole-flagged act s p rd = ap (recordedIn act) (joined-flagged act s p rd) ∙ recorded-flagged act (joinedBy act s) p (joined-ready act s p rd)
 
 -- ---- in a set with a literal that is the same
-module _ (x v : ScalarValue) (same : sameScalar x v ≡ true) (i : ℕ) (low : i < 128) (s : ConstraintSet) (rd : Ready s) (rt : Ready (laid s (canonicalAt s i) v)) (e : literalAt s (canonicalAt s i) ≡ held x) where
+module _ (x v : ScalarValue) (same : sameScalar x v ≡ true) (i : ℕ) (low : i < 128) (s : ConstraintSet) (rd : Ready s)
+    (rt : Ready (laid s (canonicalAt s i) v)) (e : literalAt s (canonicalAt s i) ≡ held x) where
   abbrev laidIn : ConstraintSet
   laidIn = laid s (canonicalAt s i) v
 
@@ -80,7 +84,8 @@ module _ (x v : ScalarValue) (same : sameScalar x v ≡ true) (i : ℕ) (low : i
   whole-passes act p = elim (joined-passes act p) [
     | inl z ↦ inl (ap (recordedIn act) z)
     | inr z ↦ subst (λ (q : ConstraintSet). Passed x v same i (whole act s) (recordedIn act q)) (sym (z .1))
-        (recorded-passes x v same i u u-ready (subst Ready (z .1) (joined-ready act laidIn p rt)) (root-below (parentsOf u) 128 i (canonicalAt u i) (u-ready .settled .many) refl low) (z .0) act p)
+        (recorded-passes x v same i u u-ready (subst Ready (z .1) (joined-ready act laidIn p rt))
+        (root-below (parentsOf u) 128 i (canonicalAt u i) (u-ready .settled .many) refl low) (z .0) act p)
   ]
     where
       u : ConstraintSet
@@ -119,9 +124,11 @@ module _ (g : List Holder → List Holder) (f : Bool → Bool) where
 
   acted-edited : (act : Action) (s t : ConstraintSet) (h : ℕ) → whole act t ≡ edited g f (whole act s) → acted act t h ≡ onSet (acted act s h)
   acted-edited act s t h e =
-      acted-is act t h ∙ ap (λ (z : ConstraintSet). cond (isResidual act) (addResidual z h) (done z)) e ∙ go (isResidual act) ∙ ap onSet (sym (acted-is act s h))
+      acted-is act t h ∙ ap (λ (z : ConstraintSet). cond (isResidual act) (addResidual z h) (done z)) e ∙ go (isResidual act) ∙ ap onSet
+      (sym (acted-is act s h))
     where
-      go : (b : Bool) → cond b (addResidual (edited g f (whole act s)) h) (done (edited g f (whole act s))) ≡ onSet (cond b (addResidual (whole act s) h) (done (whole act s)))
+      go : (b : Bool) → cond b (addResidual (edited g f (whole act s)) h) (done (edited g f (whole act s))) ≡ onSet
+          (cond b (addResidual (whole act s) h) (done (whole act s)))
       go true = residual-edited (whole act s) h
       go false = refl
 
@@ -170,7 +177,8 @@ module _ (i : ℕ) (v : ScalarValue) (pa : Proper (Literal i v)) (n : ℕ) where
     -- twice is once
     pub again-twice : again (again s) ≡ again s
     again-twice = by-cases (again (again s) ≡ again s) (ap again)
-        (λ z. nan-again (again s) (again-ready s rd) (acted-has (Literal i v) pa (omega arith) s rd n refl) z ∙ ap (λ (q : ConstraintSet). withFlag q true) (nan-again s rd known z) ∙ sym (nan-again s rd known z))
+        (λ z. nan-again (again s) (again-ready s rd) (acted-has (Literal i v) pa (omega arith) s rd n refl) z ∙ ap (λ (q : ConstraintSet). withFlag q true)
+        (nan-again s rd known z) ∙ sym (nan-again s rd known z))
         (λ e. ap again (same-again e) ∙ laid-again e ∙ sym (same-again e))
       where
         low : r < 128
@@ -178,7 +186,8 @@ module _ (i : ℕ) (v : ScalarValue) (pa : Proper (Literal i v)) (n : ℕ) where
 
         laid-again : sameScalar x v ≡ true → again (laid s r v) ≡ laid s r v
         laid-again e =
-            same-form (laid s r v) (laid-ready e) i v pa (known .cell .0) v (sym (same-left x v e v) ∙ e) (getD-set-same (literals s) r (held v) none (omega (arith, low, rd .settled .equal .long)))
+            same-form (laid s r v) (laid-ready e) i v pa (known .cell .0) v (sym (same-left x v e v) ∙ e)
+            (getD-set-same (literals s) r (held v) none (omega (arith, low, rd .settled .equal .long)))
             ∙ (λ k. record {
               «equivalence_classes» = s .«equivalence_classes»;
               «non_null_values» = nonNulls s;
@@ -208,7 +217,8 @@ module _ (i : ℕ) (v : ScalarValue) (pa : Proper (Literal i v)) (n : ℕ) where
         z-known : Known z
         z-known = acted-keeps act p a s rd h (Literal i v) n pa known e
 
-      next-edited : (g : List Holder → List Holder) (f : Bool → Bool) (t : ConstraintSet) → acted act t h ≡ onSet g f d → (d .refused ≡ false → again z ≡ edited g f z) → Next d (acted act t h)
+      next-edited : (g : List Holder → List Holder) (f : Bool → Bool) (t : ConstraintSet) → acted act t h ≡ onSet g f d
+          → (d .refused ≡ false → again z ≡ edited g f z) → Next d (acted act t h)
       next-edited g f t path form = go (d .refused) refl
         where
           go : (b : Bool) → d .refused ≡ b → Next d (acted act t h)
@@ -223,7 +233,8 @@ module _ (i : ℕ) (v : ScalarValue) (pa : Proper (Literal i v)) (n : ℕ) where
 
       next-same : sameScalar x v ≡ true → Next d (acted act (laid s r v) h)
       next-same y = elim (whole-passes x v y i (pa .0) s rd (laid-ready y) literal-is act p) [
-        | inl q ↦ inr (inl (acted-is act (laid s r v) h ∙ ap (λ (w : ConstraintSet). cond (isResidual act) (addResidual w h) (done w)) q ∙ sym (acted-is act s h)))
+        | inl q ↦ inr
+            (inl (acted-is act (laid s r v) h ∙ ap (λ (w : ConstraintSet). cond (isResidual act) (addResidual w h) (done w)) q ∙ sym (acted-is act s h)))
         | inr q ↦ next-edited put (λ (b : Bool). b) (laid s r v) (acted-edited put (λ (b : Bool). b) act s (laid s r v) h (q .1)) (λ e. form (q .0) e)
       ]
         where

@@ -21,7 +21,8 @@ use Rattle.plan_data.specs.declared.ExprData.the-variants as E
 use Rattle.apply_spec.specs.Apply.{seenOf, isNullLiteral}
 use Rattle.apply_spec.specs.declared.Seen.{Seen}
 use Rattle.apply_spec.specs.declared.Seen.the-variants.{Identity, Constant, Unseen}
-use Rattle.apply_action.specs.Actions.{sameAction, pairAction, boundedBy, rangeAction, literalAction, boundAction, reversedAction, operandsAction, comparisonAction, constantAction, nodeAction, actionOf}
+use Rattle.apply_action.specs.Actions.{sameAction, pairAction, boundedBy, rangeAction, literalAction, boundAction, reversedAction, operandsAction}
+use Rattle.apply_action.specs.Actions.{comparisonAction, constantAction, nodeAction, actionOf}
 use Rattle.apply_action.specs.declared.Action.the-variants.{Nothing, Contradiction, Residual, Same, Literal, Bound, Entry}
 use Rattle.apply_shared_laws.specs.Has.{Numbered}
 
@@ -35,7 +36,8 @@ idle = omega arith
 same-numbered : (i j : ℕ) (both : Bool) → Numbered (sameAction i j both)
 unfolding sameAction
 same-numbered i j both =
-    chosen Numbered (ltb i 128) (cond (ltb j 128) (Same i j both) (Same i i both)) Nothing (chosen Numbered (ltb j 128) (Same i j both) (Same i i both) idle idle) idle
+    chosen Numbered (ltb i 128) (cond (ltb j 128) (Same i j both) (Same i i both)) Nothing
+    (chosen Numbered (ltb j 128) (Same i j both) (Same i i both) idle idle) idle
 
 pair-numbered : (op : BinaryOp) (i j : ℕ) → Numbered (pairAction op i j)
 pair-numbered Eq i j = same-numbered i j true
@@ -92,7 +94,8 @@ operands-numbered op Unseen Unseen = idle
 
 comparison-numbered : (op : BinaryOp) (l r : Seen) → Numbered (comparisonAction op l r)
 unfolding comparisonAction
-comparison-numbered op l r = chosen Numbered (ordinary op && (isNullLiteral l || isNullLiteral r)) Contradiction (operandsAction op l r) idle (operands-numbered op l r)
+comparison-numbered op l r = chosen Numbered (ordinary op && (isNullLiteral l || isNullLiteral r)) Contradiction (operandsAction op l r) idle
+    (operands-numbered op l r)
 
 constant-numbered : (v : ScalarValue) → Numbered (constantAction v)
 constant-numbered (S.Null k) = idle

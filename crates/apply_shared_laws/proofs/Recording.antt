@@ -8,7 +8,8 @@ use lib.ListN.{length}
 use lib.Seq.{getD-set-same, getD-set-other}
 use Rattle.value_classes.proofs.RootLaws.{root-below}
 use Rattle.value_range.specs.Ranges.{unboundedRange, emptyRange}
-use Rattle.constraint_spec.specs.Sets.{none, noEntry, blank, entryOf, tightenBy, parentsOf, nonNulls, literals, handles, nonNullAt, literalAt, entryAt, canonicalAt}
+use Rattle.constraint_spec.specs.Sets.{none, noEntry, blank, entryOf, tightenBy, parentsOf, nonNulls, literals, handles, nonNullAt, literalAt}
+use Rattle.constraint_spec.specs.Sets.{entryAt, canonicalAt}
 use Rattle.constraint_spec.specs.declared.ConstraintSet.{ConstraintSet}
 use Rattle.constraint_spec.specs.declared.Entry as En
 use Rattle.constraint_set.specs.Settled.{rangeOn, rangeBad, Settled}
@@ -36,7 +37,12 @@ module _ (u : ConstraintSet) (g : Settled u) (r : ℕ) (low : r < 128) (d : Cell
     contradictory = d .contradictory;
   }
 
-  cell-off : (k : ℕ) → (k ≡ r → ⊥) → cellOf (withCell u r d) k ≡ record { «non_null» = nonNullAt u k; literal = literalAt u k; entry = entryAt u k; contradictory = d .contradictory }
+  cell-off : (k : ℕ) → (k ≡ r → ⊥) → cellOf (withCell u r d) k ≡ record {
+    «non_null» = nonNullAt u k;
+    literal = literalAt u k;
+    entry = entryAt u k;
+    contradictory = d .contradictory;
+  }
   unfolding withCell
   cell-off k n = λ i. record {
     «non_null» = getD-set-other (nonNulls u) r k (d .«non_null») false n i;
@@ -68,7 +74,8 @@ module _ (u : ConstraintSet) (g : Settled u) (r : ℕ) (low : r < 128) (d : Cell
       place i = unfold withCell in cell-grows p (canonicalAt u i)
 
 -- ---- a range that is empty has set the flag
-empty-told : (e : En.Entry) {f : Bool} → rangeOn noEntry e ≡ e → (rangeBad noEntry e ≡ true → f ≡ true) → e .present ≡ true → emptyRange (e .range) ≡ true → f ≡ true
+empty-told : (e : En.Entry) {f : Bool} → rangeOn noEntry e ≡ e → (rangeBad noEntry e ≡ true → f ≡ true) → e .present ≡ true → emptyRange (e .range) ≡ true → f
+    ≡ true
 unfolding rangeOn rangeBad
 empty-told e same h there z =
     h (ap (λ (b : Bool). b && emptyRange (tightenBy unboundedRange (e .range))) there ∙ ap emptyRange clean ∙ z)
@@ -96,7 +103,8 @@ module _ (u : ConstraintSet) (rd : Ready u) (act : Action) (p : Proper act) wher
   pub recorded-ready : Numbered act → Ready (recordedIn act u)
   recorded-ready a = record {
     settled = recorded-settled u g act p r low refl;
-    bounds = λ i h. subst (λ (t : ConstraintSet). Bounded (entryAt t i)) recorded-is (cell-bounded u g r low now (bounded-after act (cellOf u r) a (rd .bounds r low)) i (rd .bounds i h));
+    bounds = λ i h. subst (λ (t : ConstraintSet). Bounded (entryAt t i)) recorded-is
+        (cell-bounded u g r low now (bounded-after act (cellOf u r) a (rd .bounds r low)) i (rd .bounds i h));
     room = subst (λ (t : ConstraintSet). length (handles t) ≡ 64) recorded-is (unfold withCell in rd .room);
   }
 

@@ -77,7 +77,8 @@ module _ (x v : ScalarValue) (e : sameScalar x v ≡ true) where
     literal-passes w = go (clashes (c .literal) w) (clashes (held v) w) (sym (ap (λ (h : Holder). clashes h w) l ∙ clash-same w))
       where
         go : (b b' : Bool) → b' ≡ b → Passes (came w (c .literal) b) (came w (held v) b')
-        go true true z = inr (l, λ i. record { «non_null» = true; literal = held v; entry = c .entry; contradictory = (c .contradictory || true) || crossed-laid (c .entry) i })
+        go true true z = inr
+            (l, λ i. record { «non_null» = true; literal = held v; entry = c .entry; contradictory = (c .contradictory || true) || crossed-laid (c .entry) i })
         go true false z = absurd (false≢true z)
         go false true z = absurd (false≢true (sym z))
         go false false z = inl refl
@@ -92,7 +93,16 @@ module _ (x v : ScalarValue) (e : sameScalar x v ≡ true) where
     cell-passes (Literal i w) = literal-passes w
     cell-passes (Bound i op y) =
         let r = tightenBy (rangeIn (c .entry)) (boundsBy op y) in
-        inr (l, λ k. record { «non_null» = true; literal = held v; entry = entryOf r; contradictory = (c .contradictory || emptyRange r) || crossed-laid (entryOf r) k })
+        inr (
+          l,
+          λ k. record {
+            «non_null» = true;
+            literal = held v;
+            entry = entryOf r;
+            contradictory = (c .contradictory || emptyRange r) || crossed-laid
+                (entryOf r) k;
+          },
+        )
     cell-passes (Entry i) = inr (l, refl)
 
   -- ---- and what a join makes of two places of which one has the one or the other

@@ -99,7 +99,8 @@ module _ (F : Float → Float → Bool) (o : Tighter F) where
       at : (eq v (b .value) && (b .inclusive && not j)) ≡ true → takes (boundAt v j) x i ≡ false
       at h = neither (F v x) _
           (λ k. differ _ (sym (o .from v (b .value) x (and-left (eq v (b .value)) (b .inclusive && not j) h)) ∙ k) (l .not-over))
-          (λ k. no-two j (and-left j (not i) (and-right (eq x v) (j && not i) k)) (and-right (b .inclusive) (not j) (and-right (eq v (b .value)) (b .inclusive && not j) h)))
+          (λ k. no-two j (and-left j (not i) (and-right (eq x v) (j && not i) k))
+          (and-right (b .inclusive) (not j) (and-right (eq v (b .value)) (b .inclusive && not j) h)))
         where
           no-two : (w : Bool) → w ≡ true → not w ≡ true → ⊥
           no-two true p q = false≢true q
@@ -160,12 +161,14 @@ module _ (F : Float → Float → Bool) (o : Tighter F) where
 lower-upper : (t : ValueRange) (b : Bound) → lowerBy t b .upper ≡ t .upper
 lower-upper t b =
     pick-has (λ (r : ValueRange). r .upper ≡ t .upper) (b .present) (tightenLower t (b .value) (b .inclusive)) t
-    (λ p. pick-has (λ (r : ValueRange). r .upper ≡ t .upper) (takesLower (t .lower) (b .value) (b .inclusive)) (record { lower = boundAt (b .value) (b .inclusive); upper = t .upper }) t (λ q. refl) refl) refl
+    (λ p. pick-has (λ (r : ValueRange). r .upper ≡ t .upper) (takesLower (t .lower) (b .value) (b .inclusive))
+    (record { lower = boundAt (b .value) (b .inclusive); upper = t .upper }) t (λ q. refl) refl) refl
 
 upper-lower : (t : ValueRange) (b : Bound) → upperBy t b .lower ≡ t .lower
 upper-lower t b =
     pick-has (λ (r : ValueRange). r .lower ≡ t .lower) (b .present) (tightenUpper t (b .value) (b .inclusive)) t
-    (λ p. pick-has (λ (r : ValueRange). r .lower ≡ t .lower) (takesUpper (t .upper) (b .value) (b .inclusive)) (record { lower = t .lower; upper = boundAt (b .value) (b .inclusive) }) t (λ q. refl) refl) refl
+    (λ p. pick-has (λ (r : ValueRange). r .lower ≡ t .lower) (takesUpper (t .upper) (b .value) (b .inclusive))
+    (record { lower = t .lower; upper = boundAt (b .value) (b .inclusive) }) t (λ q. refl) refl) refl
 
 -- an end with a bound, where there is one
 abbrev withLower : Bound → Bound → Bound
@@ -182,7 +185,8 @@ lower-is : (t new : ValueRange) → tightenBy t new .lower ≡ withLower (t .low
 lower-is t new =
     upper-lower (lowerBy t (new .lower)) (new .upper)
     ∙ of-chosen (λ (r : ValueRange). r .lower) (b .present) (tightenLower t (b .value) (b .inclusive)) t
-    ∙ ap (λ (x : Bound). cond (b .present) x (t .lower)) (of-chosen (λ (r : ValueRange). r .lower) (takesLower (t .lower) (b .value) (b .inclusive)) (record { lower = boundAt (b .value) (b .inclusive); upper = t .upper }) t)
+    ∙ ap (λ (x : Bound). cond (b .present) x (t .lower)) (of-chosen (λ (r : ValueRange). r .lower) (takesLower (t .lower) (b .value) (b .inclusive))
+    (record { lower = boundAt (b .value) (b .inclusive); upper = t .upper }) t)
   where
     b : Bound
     b = new .lower
@@ -190,17 +194,20 @@ lower-is t new =
 upper-of : (t : ValueRange) (b : Bound) → upperBy t b .upper ≡ withUpper (t .upper) b
 upper-of t b =
     of-chosen (λ (r : ValueRange). r .upper) (b .present) (tightenUpper t (b .value) (b .inclusive)) t
-    ∙ ap (λ (x : Bound). cond (b .present) x (t .upper)) (of-chosen (λ (r : ValueRange). r .upper) (takesUpper (t .upper) (b .value) (b .inclusive)) (record { lower = t .lower; upper = boundAt (b .value) (b .inclusive) }) t)
+    ∙ ap (λ (x : Bound). cond (b .present) x (t .upper)) (of-chosen (λ (r : ValueRange). r .upper) (takesUpper (t .upper) (b .value) (b .inclusive))
+    (record { lower = t .lower; upper = boundAt (b .value) (b .inclusive) }) t)
 
 upper-is : (t new : ValueRange) → tightenBy t new .upper ≡ withUpper (t .upper) (new .upper)
 upper-is t new = upper-of (lowerBy t (new .lower)) (new .upper) ∙ ap (λ (a : Bound). withUpper a (new .upper)) (lower-upper t (new .lower))
 
 module _ (x : Float) (i : Bool) where
   lower-stays : (a b : Bound) → takesLower a x i ≡ false → takesLower (withLower a b) x i ≡ false
-  lower-stays a b e = pick-has (λ (z : Bound). takesLower z x i ≡ false) (b .present) (after lt upwards a (b .value) (b .inclusive)) a (λ p. stays-out lt upwards a (b .value) (b .inclusive) x i e) e
+  lower-stays a b e = pick-has (λ (z : Bound). takesLower z x i ≡ false) (b .present) (after lt upwards a (b .value) (b .inclusive)) a
+      (λ p. stays-out lt upwards a (b .value) (b .inclusive) x i e) e
 
   upper-stays : (a b : Bound) → takesUpper a x i ≡ false → takesUpper (withUpper a b) x i ≡ false
-  upper-stays a b e = pick-has (λ (z : Bound). takesUpper z x i ≡ false) (b .present) (after (λ (y z : Float). lt z y) downwards a (b .value) (b .inclusive)) a (λ p. stays-out (λ (y z : Float). lt z y) downwards a (b .value) (b .inclusive) x i e) e
+  upper-stays a b e = pick-has (λ (z : Bound). takesUpper z x i ≡ false) (b .present) (after (λ (y z : Float). lt z y) downwards a (b .value) (b .inclusive))
+      a (λ p. stays-out (λ (y z : Float). lt z y) downwards a (b .value) (b .inclusive) x i e) e
 
   lower-comes : (a b : Bound) → Comparable a → Comparable b → takesLower b x i ≡ false → takesLower (withLower a b) x i ≡ false
   lower-comes a b sa sb e =
@@ -209,7 +216,8 @@ module _ (x : Float) (i : Bool) where
 
   upper-comes : (a b : Bound) → Comparable a → Comparable b → takesUpper b x i ≡ false → takesUpper (withUpper a b) x i ≡ false
   upper-comes a b sa sb e =
-      ap (λ (p : Bool). takesUpper (cond p (after (λ (y z : Float). lt z y) downwards a (b .value) (b .inclusive)) a) x i) (loose (λ (y z : Float). lt z y) downwards b x i e .there)
+      ap (λ (p : Bool). takesUpper (cond p (after (λ (y z : Float). lt z y) downwards a (b .value) (b .inclusive)) a) x i)
+      (loose (λ (y z : Float). lt z y) downwards b x i e .there)
       ∙ comes-out (λ (y z : Float). lt z y) downwards a b x i sa sb e
 
   -- the two ends of a range that is tightened
@@ -230,7 +238,8 @@ module _ (x : Float) (i : Bool) where
   lower-once r = ap (λ (z : Bound). takesLower z x i) (lower-is r (record { lower = boundAt x i; upper = noBound })) ∙ taken-once lt upwards (r .lower) x i
 
   upper-once : (r : ValueRange) → takesUpper (tightenUpper r x i .upper) x i ≡ false
-  upper-once r = ap (λ (z : Bound). takesUpper z x i) (upper-is r (record { lower = noBound; upper = boundAt x i })) ∙ taken-once (λ (y z : Float). lt z y) downwards (r .upper) x i
+  upper-once r = ap (λ (z : Bound). takesUpper z x i) (upper-is r (record { lower = noBound; upper = boundAt x i })) ∙ taken-once (λ (y z : Float). lt z y)
+      downwards (r .upper) x i
 
 -- ---- the bound of a comparison
 abbrev pub BothComparable : ValueRange → Type 0
@@ -247,7 +256,8 @@ taken-stays GtEq x r new e = lower-kept x true r new e
 taken-stays IsNotDistinctFrom x r new e = refl
 
 -- nor where the range came that did not take it
-pub taken-comes : (op : BinaryOp) (x : Float) (r new : ValueRange) → BothComparable r → BothComparable new → takenBy op x new ≡ false → takenBy op x (tightenBy r new) ≡ false
+pub taken-comes : (op : BinaryOp) (x : Float) (r new : ValueRange) → BothComparable r → BothComparable new → takenBy op x new ≡ false → takenBy op x
+    (tightenBy r new) ≡ false
 taken-comes Eq x r new p q e = refl
 taken-comes NotEq x r new p q e = refl
 taken-comes Lt x r new p q e = upper-new x false r new (p .1) (q .1) e
@@ -287,8 +297,10 @@ one-of-both t a b p q = go (b .present) t q
 
 pub comparable-tightened : (r new : ValueRange) → BothComparable r → BothComparable new → BothComparable (tightenBy r new)
 comparable-tightened r new p q = (
-  subst Comparable (sym (lower-is r new)) (one-of-both (takesLower (r .lower) (new .lower .value) (new .lower .inclusive)) (r .lower) (new .lower) (p .0) (q .0)),
-  subst Comparable (sym (upper-is r new)) (one-of-both (takesUpper (r .upper) (new .upper .value) (new .upper .inclusive)) (r .upper) (new .upper) (p .1) (q .1)),
+  subst Comparable (sym (lower-is r new)) (one-of-both (takesLower (r .lower) (new .lower .value) (new .lower .inclusive)) (r .lower) (new .lower) (p .0)
+      (q .0)),
+  subst Comparable (sym (upper-is r new)) (one-of-both (takesUpper (r .upper) (new .upper .value) (new .upper .inclusive)) (r .upper) (new .upper) (p .1)
+      (q .1)),
 )
 
 absent : Comparable noBound

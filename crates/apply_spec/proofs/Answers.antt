@@ -47,11 +47,14 @@ pub apply-parts : (p : Plan) (f : LogicalFacts) (e : Expr) → applyPredicate p 
 unfolding applyPredicate
 apply-parts p f e = go (planOk p && (ltb (e .0) (p .expressions .count) && factsOk p f)) refl
   where
-    made : (r : Bool) → T (not r) → cond r (refused f Residuals) (accepted (withConstraints f (predicateApplied p (f .lineage) (f .constraints) (e .0) .constraints))) .facts ≡ withConstraints f (predicateApplied p (f .lineage) (f .constraints) (e .0) .constraints)
+    made : (r : Bool) → T (not r) → cond r (refused f Residuals)
+        (accepted (withConstraints f (predicateApplied p (f .lineage) (f .constraints) (e .0) .constraints))) .facts ≡ withConstraints f
+        (predicateApplied p (f .lineage) (f .constraints) (e .0) .constraints)
     made true t = absurd t
     made false t = refl
 
-    clear : (r : Bool) → cond r (refused f Residuals) (accepted (withConstraints f (predicateApplied p (f .lineage) (f .constraints) (e .0) .constraints))) .outcome ≡ Accepted → T (not r)
+    clear : (r : Bool) → cond r (refused f Residuals)
+        (accepted (withConstraints f (predicateApplied p (f .lineage) (f .constraints) (e .0) .constraints))) .outcome ≡ Accepted → T (not r)
     clear true q = other-outcome Residuals (λ z. absurd (omega (arith, z))) q
     clear false q = tt
 
@@ -65,7 +68,8 @@ apply-parts p f e = go (planOk p && (ltb (e .0) (p .expressions .count) && facts
           handle = ltb-true (e .0) (p .expressions .count) (and-left (ltb (e .0) (p .expressions .count)) _ u);
           rightFacts = and-right (ltb (e .0) (p .expressions .count)) _ u;
           room = n;
-          is = ap (λ (b : Bool). cond b (answered f f (predicateApplied p (f .lineage) (f .constraints) (e .0))) (refused f NoSuch) .facts) t ∙ made (predicateApplied p (f .lineage) (f .constraints) (e .0) .refused) n;
+          is = ap (λ (b : Bool). cond b (answered f f (predicateApplied p (f .lineage) (f .constraints) (e .0))) (refused f NoSuch) .facts) t ∙ made
+              (predicateApplied p (f .lineage) (f .constraints) (e .0) .refused) n;
         }
     go false t q = other-outcome NoSuch (λ z. absurd (omega (arith, z))) q
 
@@ -96,9 +100,12 @@ lineage-right p f e = and-left _ _ e
 pub facts-within : (p : Plan) (f : LogicalFacts) → planOk p ≡ true → factsOk p f ≡ true → length (f .lineage) ≡ 64 → Within (f .lineage)
 facts-within p f ok e long c t = elim (decLt c 64) [
   | yes l ↦
-      identity-small (f .lineage) (p .columns .count) c (columns-within (p .columns .count) (p .expressions .count) (p .operators .count) (p .items .count) (rules p ok .counts))
+      identity-small (f .lineage) (p .columns .count) c (columns-within (p .columns .count) (p .expressions .count) (p .operators .count) (p .items .count)
+      (rules p ok .counts))
       (all-at (lineageOk (f .lineage) (p .columns .count)) 64 0 (lineage-right p f e) c (omega arith) (omega arith)) t
-  | no l ↦ absurd (T-not (eqb (getD (f .lineage) c 0) 0) t (subst (λ (k : ℕ). T (eqb k 0)) (sym (List·getD-eq-default (f .lineage) 0 (subst (λ (k : ℕ). k ≤ c) (sym long) (omega arith)))) tt))
+  | no l ↦ absurd
+      (T-not (eqb (getD (f .lineage) c 0) 0) t
+      (subst (λ (k : ℕ). T (eqb k 0)) (sym (List·getD-eq-default (f .lineage) 0 (subst (λ (k : ℕ). k ≤ c) (sym long) (omega arith)))) tt))
 ]
 
 set-right : (p : Plan) (f : LogicalFacts) → factsOk p f ≡ true → setOk (f .constraints) ≡ true
@@ -129,7 +136,11 @@ module _ (p : Plan) (wide : Wide p) (f : LogicalFacts) (good : GoodFacts f) (e :
   pub apply-good : GoodFacts (applyPredicate p f e .facts)
   apply-good =
       subst GoodFacts (sym (parts .is))
-      (record { long = good .long; set = predicate-good p (parts .plan) wide (f .lineage) within (f .constraints) (good .set) (e .0) (parts .handle) (parts .room) })
+      (record {
+        long = good .long;
+        set = predicate-good p (parts .plan) wide (f .lineage) within (f .constraints) (good .set) (e .0) (parts .handle)
+            (parts .room);
+      })
 
   module _ (row : WholeRow) (c : Consistent (f .lineage) row) where
     -- a consistent row that meets the facts and of which the predicate is TRUE meets the new facts, whatever the kinds. Assumes good facts
@@ -169,7 +180,8 @@ module _ (p : Plan) (wide : Wide p) (row : WholeRow) where
     pub exact : AllOf (λ (e : Expr). ExactPredicate p (f .lineage) (row .ids) (e .0)) es → MeetsFacts p row g → AllOn p row es
 
   reached-self : (f g : LogicalFacts) → GoodFacts f → f ≡ g → Reached f g []
-  reached-self f g k q = subst (λ (g : LogicalFacts). Reached f g []) q (record { lineage = refl; good = k; sound = λ m o. m; back = λ m. m; exact = λ x m. tt })
+  reached-self f g k q = subst (λ (g : LogicalFacts). Reached f g []) q
+      (record { lineage = refl; good = k; sound = λ m o. m; back = λ m. m; exact = λ x m. tt })
 
   -- every step of the way is one of the above. Assumes good facts
   pub reached : (es : List Expr) (f g : LogicalFacts) → GoodFacts f → Consistent (f .lineage) row → AcceptedAll p f es g → Reached f g es

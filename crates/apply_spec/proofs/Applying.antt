@@ -20,7 +20,8 @@ use Rattle.comparison.specs.Operators.{ordinary, bounding, reversedOp}
 use Rattle.comparison.specs.declared.BinaryOp.{BinaryOp}
 use Rattle.comparison.specs.declared.BinaryOp.the-variants.{Eq, NotEq, Lt, LtEq, Gt, GtEq, IsNotDistinctFrom}
 use Rattle.constraint_spec.specs.Values.{same, equals, placeOf, okRange, isNaN}
-use Rattle.constraint_spec.specs.Sets.{withFlag, unionValues, addNonNull, addLiteral, boundsBy, addBound, addRange, roomFor, pushResidual, addResidual, done, refusedWith}
+use Rattle.constraint_spec.specs.Sets.{withFlag, unionValues, addNonNull, addLiteral, boundsBy, addBound, addRange, roomFor, pushResidual}
+use Rattle.constraint_spec.specs.Sets.{addResidual, done, refusedWith}
 use Rattle.constraint_spec.specs.Meets.{Like, Meets, Good}
 use Rattle.constraint_spec.specs.declared.ConstraintSet.{ConstraintSet}
 use Rattle.constraint_spec.specs.declared.Ranged.{Ranged}
@@ -28,12 +29,14 @@ use Rattle.constraint_spec.specs.declared.Applied.{Applied}
 use Rattle.constraint_spec.proofs.ValueLaws.{or-elim, or-right, same-null, same-sym, alike-null}
 use Rattle.constraint_spec.proofs.Bounding.{number-not-null, self-same}
 use Rattle.constraint_spec.proofs.Goods.{flag-good}
-use Rattle.constraint_spec.proofs.Operations.{union-good, union-iff, nonnull-good, nonnull-iff, addLiteral-good, addLiteral-iff, addBound-good, addBound-iff, range-none, range-some, residual-good, residual-iff}
+use Rattle.constraint_spec.proofs.Operations.{union-good, union-iff, nonnull-good, nonnull-iff, addLiteral-good, addLiteral-iff, addBound-good}
+use Rattle.constraint_spec.proofs.Operations.{addBound-iff, range-none, range-some, residual-good, residual-iff}
 use Rattle.plan_data.specs.Nodes.{operandsOf}
 use Rattle.plan_data.specs.declared.ExprData.{ExprData}
 use Rattle.plan_data.specs.declared.ExprData.the-variants.{Literal, ColumnRef, Unary, Binary, Nary}
 use Rattle.apply_spec.specs.Facts.{hasLineage, identityOf}
-use Rattle.apply_spec.specs.Apply.{seenOf, isNullLiteral, pairApplied, rangeApplied, boundApplied, boundReversed, operandsApplied, comparisonApplied, literalApplied, nodeApplied, conjunctApplied, allApplied}
+use Rattle.apply_spec.specs.Apply.{seenOf, isNullLiteral, pairApplied, rangeApplied, boundApplied, boundReversed, operandsApplied}
+use Rattle.apply_spec.specs.Apply.{comparisonApplied, literalApplied, nodeApplied, conjunctApplied, allApplied}
 use Rattle.apply_spec.specs.declared.Seen.{Seen}
 use Rattle.apply_spec.specs.declared.Seen.the-variants.{Identity, Constant, Unseen}
 use Rattle.rows.specs.Compare.{compareOf, truthOf}
@@ -42,7 +45,8 @@ use Rattle.apply_spec.specs.Meaning.{WholeRow, Consistent, OnNodes, AllO
 use Rattle.apply_spec.specs.Conditions.{OneKind, ExactSeen, ExactNode}
 use Rattle.apply_spec.proofs.Readings.{value-here, value-before}
 use Rattle.apply_spec.proofs.Conjunctions.{OperandsBelow, truth-back}
-use Rattle.apply_spec.proofs.Comparisons.{compared-of, of-compared, null-left, null-right, eq-iff, distinct-iff, turned, turned-back, bounding-ordinary, tests-bound}
+use Rattle.apply_spec.proofs.Comparisons.{compared-of, of-compared, null-left, null-right, eq-iff, distinct-iff, turned, turned-back}
+use Rattle.apply_spec.proofs.Comparisons.{bounding-ordinary, tests-bound}
 
 -- a literal holds a value of its type
 abbrev pub TypedNode : ExprData → Type 0
@@ -65,7 +69,8 @@ isEq Gt = false
 isEq GtEq = false
 isEq IsNotDistinctFrom = false
 
-module _ (node : ℕ → ExprData) (items : List ℕ) (typed : (h : ℕ) → TypedNode (node h)) (lineage : List ℕ) (small : Within lineage) (row : WholeRow) (c : Consistent lineage row) where
+module _ (node : ℕ → ExprData) (items : List ℕ) (typed : (h : ℕ) → TypedNode (node h)) (lineage : List ℕ) (small : Within lineage) (row : WholeRow)
+    (c : Consistent lineage row) where
   abbrev v : ℕ → ScalarValue
   v = row .ids
 
@@ -98,10 +103,17 @@ module _ (node : ℕ → ExprData) (items : List ℕ) (typed : (h : ℕ) → Typ
 
   -- a flag that goes up: there is no such row
   flag : (s : ConstraintSet) (P E : Type 0) → Good s → (P → ⊥) → Step s (withFlag s true) P E
-  flag s P E g f = record { good = flag-good s g true; sound = λ m p. absurd (f p); back = λ m. absurd (m .core .clear); exact = λ e m. absurd (m .core .clear) }
+  flag s P E g f = record {
+    good = flag-good s g true;
+    sound = λ m p. absurd (f p);
+    back = λ m. absurd (m .core .clear);
+    exact = λ e m. absurd
+        (m .core .clear);
+  }
 
   -- a residual, after something that follows from it
-  residual : (s t : ConstraintSet) (h : ℕ) (E Q : Type 0) → Good t → Here t ↔ (Here s × Q) → (O h → Q) → T (not (addResidual t h .refused)) → Step s (addResidual t h .constraints) (O h) E
+  residual : (s t : ConstraintSet) (h : ℕ) (E Q : Type 0) → Good t → Here t ↔ (Here s × Q) → (O h → Q) → T (not (addResidual t h .refused)) → Step s
+      (addResidual t h .constraints) (O h) E
   unfolding addResidual
   residual s t h E Q g i f = go (roomFor t h) (λ r. r)
     where
@@ -120,7 +132,8 @@ module _ (node : ℕ → ExprData) (items : List ℕ) (typed : (h : ℕ) → Typ
   alone : (s : ConstraintSet) (h : ℕ) (E : Type 0) → Good s → T (not (addResidual s h .refused)) → Step s (addResidual s h .constraints) (O h) E
   alone s h E g = residual s s h E (Unit {0}) g (λ m. (m, tt), λ m. m .0) (λ p. tt)
 
-  pick : (b : Bool) (x y : Applied) (s : ConstraintSet) (P E : Type 0) → (T b → T (not (x .refused)) → Step s (x .constraints) P E) → (T (not b) → T (not (y .refused)) → Step s (y .constraints) P E)
+  pick : (b : Bool) (x y : Applied) (s : ConstraintSet) (P E : Type 0) → (T b → T (not (x .refused)) → Step s (x .constraints) P E)
+      → (T (not b) → T (not (y .refused)) → Step s (y .constraints) P E)
       → T (not (cond b x y .refused)) → Step s (cond b x y .constraints) P E
   pick true x y s P E f g = f tt
   pick false x y s P E f g = g tt
@@ -130,19 +143,27 @@ module _ (node : ℕ → ExprData) (items : List ℕ) (typed : (h : ℕ) → Typ
     abbrev Says : BinaryOp → ScalarValue → ScalarValue → Type 0
     Says op a b = O h ↔ (compareOf op a b ≡ 2)
 
-    pair-step : (op : BinaryOp) (i j : ℕ) → i < 128 → j < 128 → Says op (v i) (v j) → T (not (pairApplied s h op i j .refused)) → Step s (pairApplied s h op i j .constraints) (O h) (i ≡ j → T (not (isNaN (v i))))
+    pair-step : (op : BinaryOp) (i j : ℕ) → i < 128 → j < 128 → Says op (v i) (v j) → T (not (pairApplied s h op i j .refused)) → Step s
+        (pairApplied s h op i j .constraints) (O h) (i ≡ j → T (not (isNaN (v i))))
     pair-step Eq i j hi hj q u =
         let gu = union-good s i j hi hj g in
         let a = union-iff s i j hi hj g O v (c .typed) in
         let b = nonnull-iff (unionValues s i j) gu i hi O v (c .typed) in
-        step s (addNonNull (unionValues s i j) i) (O h) (i ≡ j → T (not (isNaN (v i)))) (Like v i j × T (not (isNull (v i)))) (nonnull-good (unionValues s i j) gu i hi)
+        step s (addNonNull (unionValues s i j) i) (O h) (i ≡ j → T (not (isNaN (v i)))) (Like v i j × T (not (isNull (v i))))
+        (nonnull-good (unionValues s i j) gu i hi)
         (λ m. (let k = b .0 m in let l = a .0 (k .0) in (l .0, (l .1, k .1))), λ m. b .1 (a .1 (m .0, m .1 .0), m .1 .1))
-        (λ p. let t = eq-iff (v i) (v j) .0 (q .0 p) in (inr (or-right (isNull (v i) && isNull (v j)) (sameScalar (v i) (v j)) (and-r (not (isNull (v i))) (sameScalar (v i) (v j)) t)), and-l (not (isNull (v i))) (sameScalar (v i) (v j)) t))
+        (λ p. let t = eq-iff (v i) (v j) .0 (q .0 p)
+        in (
+          inr (or-right (isNull (v i) && isNull (v j)) (sameScalar (v i) (v j)) (and-r (not (isNull (v i))) (sameScalar (v i) (v j)) t)),
+          and-l
+              (not (isNull (v i))) (sameScalar (v i) (v j)) t,
+        ))
         (λ x r. q .1 (eq-iff (v i) (v j) .1 (and-i (not (isNull (v i))) (sameScalar (v i) (v j)) (r .1) (alike i j x (r .0) (r .1)))))
       where
         alike : (i j : ℕ) → (i ≡ j → T (not (isNaN (v i)))) → Like v i j → T (not (isNull (v i))) → T (sameScalar (v i) (v j))
         alike i j x (inl k) m = subst (λ (z : ℕ). T (sameScalar (v i) (v z))) k (self-same (v i) (c .typed i) (x k))
-        alike i j x (inr t) m = or-elim (isNull (v i) && isNull (v j)) (sameScalar (v i) (v j)) t (λ b. absurd (T-not (isNull (v i)) m (and-l (isNull (v i)) (isNull (v j)) b))) (λ b. b)
+        alike i j x (inr t) m = or-elim (isNull (v i) && isNull (v j)) (sameScalar (v i) (v j)) t
+            (λ b. absurd (T-not (isNull (v i)) m (and-l (isNull (v i)) (isNull (v j)) b))) (λ b. b)
     pair-step NotEq i j hi hj q u = alone s h _ g u
     pair-step Lt i j hi hj q u = alone s h _ g u
     pair-step LtEq i j hi hj q u = alone s h _ g u
@@ -154,7 +175,8 @@ module _ (node : ℕ → ExprData) (items : List ℕ) (typed : (h : ℕ) → Typ
         (λ x r. q .1 (distinct-iff (v i) (v j) .1 (alike i j x r)))
       where
         alike : (i j : ℕ) → (i ≡ j → T (not (isNaN (v i)))) → Like v i j → T (same (v i) (v j))
-        alike i j x (inl k) = subst (λ (z : ℕ). T (same (v i) (v z))) k (or-right (isNull (v i) && isNull (v i)) (sameScalar (v i) (v i)) (self-same (v i) (c .typed i) (x k)))
+        alike i j x (inl k) = subst (λ (z : ℕ). T (same (v i) (v z))) k
+            (or-right (isNull (v i) && isNull (v i)) (sameScalar (v i) (v i)) (self-same (v i) (c .typed i) (x k)))
         alike i j x (inr t) = t
 
     module _ (i : ℕ) (hi : i < 128) (l : ScalarValue) (tl : Typed l) where
@@ -162,17 +184,24 @@ module _ (node : ℕ → ExprData) (items : List ℕ) (typed : (h : ℕ) → Typ
       Asks op x = T (not (isNull (v i))) × T (okRange (placeOf (v i)) (boundsBy op x))
 
       -- a bound, recorded
-      bound-step : (op : BinaryOp) → T (bounding op) → (x : Float) → scalarToF64 l ≡ Of x → Says op (v i) l → Step s (addBound s i op x) (O h) (OneKind (v i) op l)
+      bound-step : (op : BinaryOp) → T (bounding op) → (x : Float) → scalarToF64 l ≡ Of x → Says op (v i) l → Step s (addBound s i op x) (O h)
+          (OneKind (v i) op l)
       bound-step op o x w q =
           let r = converts l x tl w in
           step s (addBound s i op x) (O h) (OneKind (v i) op l) (Asks op x)
           (addBound-good s g i hi op x (r .number) (r .held)) (addBound-iff s g i hi O v (c .typed) op x (r .number) (r .held))
-          (λ p. let m = compared-of op (v i) l (bounding-ordinary op o) (q .0 p) in (m .left, subst T (tests-bound op o (v i) l (m .left) (m .kind) (c .typed i) tl x w) (m .holds)))
+          (λ p. let m = compared-of op (v i) l (bounding-ordinary op o) (q .0 p)
+          in (m .left, subst T (tests-bound op o (v i) l (m .left) (m .kind) (c .typed i) tl x w) (m .holds)))
           (λ k m.
           q .1 (or-elim (isNull (v i)) (sameKind (kindOf (v i)) (kindOf l)) (k o (number-not-null l x w)) (λ z. absurd (T-not (isNull (v i)) (m .0) z))
           (λ z.
           of-compared op (v i) l (bounding-ordinary op o)
-          (record { left = m .0; right = number-not-null l x w; kind = z; holds = subst T (sym (tests-bound op o (v i) l (m .0) z (c .typed i) tl x w)) (m .1) }))))
+          (record {
+            left = m .0;
+            right = number-not-null l x w;
+            kind = z;
+            holds = subst T (sym (tests-bound op o (v i) l (m .0) z (c .typed i) tl x w)) (m .1);
+          }))))
 
       abbrev Stepped : BinaryOp → Ranged → Type 0
       Stepped op r = T (not (rangeApplied h r .refused)) → Step s (rangeApplied h r .constraints) (O h) (OneKind (v i) op l)
@@ -189,14 +218,16 @@ module _ (node : ℕ → ExprData) (items : List ℕ) (typed : (h : ℕ) → Typ
           free GtEq x o = absurd o
           free IsNotDistinctFrom x o = tt
 
-          not-null : (op : BinaryOp) (x : Float) → scalarToF64 l ≡ Of x → T (not (isEq op)) → T (not (bounding op)) → compareOf op (v i) l ≡ 2 → T (not (isNull (v i)))
+          not-null : (op : BinaryOp) (x : Float) → scalarToF64 l ≡ Of x → T (not (isEq op)) → T (not (bounding op)) → compareOf op (v i) l ≡ 2 → T
+              (not (isNull (v i)))
           not-null Eq x w ne o p = absurd ne
           not-null NotEq x w ne o p = compared-of NotEq (v i) l tt p .left
           not-null Lt x w ne o p = absurd o
           not-null LtEq x w ne o p = absurd o
           not-null Gt x w ne o p = absurd o
           not-null GtEq x w ne o p = absurd o
-          not-null IsNotDistinctFrom x w ne o p = subst (λ (b : Bool). T (not b)) (sym (alike-null (v i) l (c .typed i) tl (distinct-iff (v i) l .0 p))) (number-not-null l x w)
+          not-null IsNotDistinctFrom x w ne o p = subst (λ (b : Bool). T (not b)) (sym (alike-null (v i) l (c .typed i) tl (distinct-iff (v i) l .0 p)))
+              (number-not-null l x w)
 
           by-number : (n : Number) → scalarToF64 l ≡ n → Stepped op (addRange s i op l)
           by-number Nothing w = subst (Stepped op) (sym (range-none s i op l w)) (alone s h (OneKind (v i) op l) g)
@@ -211,9 +242,11 @@ module _ (node : ℕ → ExprData) (items : List ℕ) (typed : (h : ℕ) → Typ
               (λ p. (not-null op x w ne o (q .0 p), free op x o)) z))
 
       literal-step : (E : Type 0) → (O h ↔ T (equals (v i) l)) → Step s (addLiteral s i l) (O h) E
-      literal-step E q = step s (addLiteral s i l) (O h) E (T (equals (v i) l)) (addLiteral-good s g i hi l tl) (addLiteral-iff s g i hi O v (c .typed) l tl) (q .0) (λ e. q .1)
+      literal-step E q = step s (addLiteral s i l) (O h) E (T (equals (v i) l)) (addLiteral-good s g i hi l tl) (addLiteral-iff s g i hi O v (c .typed) l tl)
+          (q .0) (λ e. q .1)
 
-      right-step : (op : BinaryOp) → Says op (v i) l → T (not (boundApplied s h op i l .refused)) → Step s (boundApplied s h op i l .constraints) (O h) (OneKind (v i) op l)
+      right-step : (op : BinaryOp) → Says op (v i) l → T (not (boundApplied s h op i l .refused)) → Step s (boundApplied s h op i l .constraints) (O h)
+          (OneKind (v i) op l)
       right-step Eq q u = literal-step (OneKind (v i) Eq l) (λ p. eq-iff (v i) l .0 (q .0 p), λ p. q .1 (eq-iff (v i) l .1 p))
       right-step NotEq q u = range-step NotEq tt q u
       right-step Lt q u = range-step Lt tt q u
@@ -232,7 +265,8 @@ module _ (node : ℕ → ExprData) (items : List ℕ) (typed : (h : ℕ) → Typ
       turn : (op : BinaryOp) → T (bounding op) → Says op l (v i) → Says (reversedOp op) (v i) l
       turn op o q = (λ p. turned op l (v i) tl (c .typed i) o (q .0 p), λ p. q .1 (turned-back op l (v i) tl (c .typed i) o p))
 
-      left-step : (op : BinaryOp) → Says op l (v i) → T (not (boundReversed s h op i l .refused)) → Step s (boundReversed s h op i l .constraints) (O h) (OneKind (v i) op l)
+      left-step : (op : BinaryOp) → Says op l (v i) → T (not (boundReversed s h op i l .refused)) → Step s (boundReversed s h op i l .constraints) (O h)
+          (OneKind (v i) op l)
       left-step Eq q u =
           literal-step (OneKind (v i) Eq l)
           (λ p. flip l (v i) tl (c .typed i) (eq-iff l (v i) .0 (q .0 p)), λ p. q .1 (eq-iff l (v i) .1 (flip (v i) l (c .typed i) tl p)))
@@ -289,7 +323,8 @@ module _ (node : ℕ → ExprData) (items : List ℕ) (typed : (h : ℕ) → Typ
     never-zero : _≡_ {A = ℕ} 0 2 → ⊥
     never-zero e = absurd (omega (arith, e))
 
-    known-step : (l : ScalarValue) → (O h ↔ (truthOf l ≡ 2)) → T (not (literalApplied s h l .refused)) → Step s (literalApplied s h l .constraints) (O h) (Unit {0})
+    known-step : (l : ScalarValue) → (O h ↔ (truthOf l ≡ 2)) → T (not (literalApplied s h l .refused)) → Step s (literalApplied s h l .constraints) (O h)
+        (Unit {0})
     known-step (S.Null k) q u = flag s (O h) (Unit {0}) g (λ p. never-one (q .0 p))
     known-step (S.Boolean true) q u = record { good = g; sound = λ m p. m; back = λ m. m; exact = λ x m. q .1 refl }
     known-step (S.Boolean false) q u = flag s (O h) (Unit {0}) g (λ p. never-zero (q .0 p))
@@ -302,7 +337,8 @@ module _ (node : ℕ → ExprData) (items : List ℕ) (typed : (h : ℕ) → Typ
     sees : (e : ℕ) → Sees (seenOf lineage (node e)) (valueAt (row .cols) node items e)
     sees e = subst (Sees (seenOf lineage (node e))) (sym (value-here (row .cols) node items e)) (go (node e) (typed e))
       where
-        column : (k : ℕ) (b : Bool) → (T b → row .cols k ≡ row .ids (identityOf lineage k)) → (T b → identityOf lineage k < 128) → Sees (cond b (Identity (identityOf lineage k)) Unseen) (row .cols k)
+        column : (k : ℕ) (b : Bool) → (T b → row .cols k ≡ row .ids (identityOf lineage k)) → (T b → identityOf lineage k < 128) → Sees
+            (cond b (Identity (identityOf lineage k)) Unseen) (row .cols k)
         column k true f w = (w tt, f tt)
         column k false f w = tt
 
@@ -313,24 +349,29 @@ module _ (node : ℕ → ExprData) (items : List ℕ) (typed : (h : ℕ) → Typ
         go (Binary op l r) t = tt
         go (Nary op es) t = tt
 
-    node-step : (x : ExprData) → OperandsBelow items h x → node h ≡ x → T (not (nodeApplied lineage node s h x .refused)) → Step s (nodeApplied lineage node s h x .constraints) (O h) (ExactNode v lineage node x)
+    node-step : (x : ExprData) → OperandsBelow items h x → node h ≡ x → T (not (nodeApplied lineage node s h x .refused)) → Step s
+        (nodeApplied lineage node s h x .constraints) (O h) (ExactNode v lineage node x)
     node-step (Literal l) b e u =
-        let k = ap truthOf (value-here (row .cols) node items h) ∙ ap (λ (x : ExprData). truthOf (nodeValue (row .cols) (valueIn (values (row .cols) node items h)) (operandsOf items) x)) e in
+        let k = ap truthOf (value-here (row .cols) node items h) ∙ ap
+        (λ (x : ExprData). truthOf (nodeValue (row .cols) (valueIn (values (row .cols) node items h)) (operandsOf items) x)) e in
         known-step l (λ p. sym k ∙ p, λ p. k ∙ p) u
     node-step (ColumnRef k) b e u = alone s h _ g u
     node-step (Unary op x) b e u = alone s h _ g u
     node-step (Binary op l r) b e u =
         let vals = values (row .cols) node items h in
-        let k = ap truthOf (value-here (row .cols) node items h) ∙ ap (λ (x : ExprData). truthOf (nodeValue (row .cols) (valueIn vals) (operandsOf items) x)) e in
+        let k = ap truthOf (value-here (row .cols) node items h) ∙ ap (λ (x : ExprData). truthOf (nodeValue (row .cols) (valueIn vals) (operandsOf items) x))
+        e in
         let w = truth-back (compareOf op (valueIn vals (l .0)) (valueIn vals (r .0))) in
-        comparison-step op (seenOf lineage (node (l .0))) (seenOf lineage (node (r .0))) (valueAt (row .cols) node items (l .0)) (valueAt (row .cols) node items (r .0)) (sees (l .0)) (sees (r .0))
+        comparison-step op (seenOf lineage (node (l .0))) (seenOf lineage (node (r .0))) (valueAt (row .cols) node items (l .0))
+        (valueAt (row .cols) node items (r .0)) (sees (l .0)) (sees (r .0))
         (along op (valueIn vals (l .0)) (valueIn vals (r .0)) (valueAt (row .cols) node items (l .0)) (valueAt (row .cols) node items (r .0))
         (value-before (row .cols) node items h (l .0) (b .0)) (value-before (row .cols) node items h (r .0) (b .1))
         (λ p. w .0 (sym k ∙ p), λ t. k ∙ w .1 t)) u
     node-step (Nary op es) b e u = alone s h _ g u
 
     -- ---- one conjunct
-    pub conjunct-step : OperandsBelow items h (node h) → T (not (conjunctApplied lineage node s h .refused)) → Step s (conjunctApplied lineage node s h .constraints) (O h) (ExactNode v lineage node (node h))
+    pub conjunct-step : OperandsBelow items h (node h) → T (not (conjunctApplied lineage node s h .refused)) → Step s
+        (conjunctApplied lineage node s h .constraints) (O h) (ExactNode v lineage node (node h))
     unfolding conjunctApplied
     conjunct-step b u = node-step (node h) b refl u
 
@@ -341,7 +382,8 @@ module _ (node : ℕ → ExprData) (items : List ℕ) (typed : (h : ℕ) → Typ
   abbrev Runs : List ℕ → Applied → Type 0
   Runs hs a =
       T (not (allApplied (conjunctApplied lineage node) hs a .refused))
-      → T (not (a .refused)) × (Good (a .constraints) → Step (a .constraints) (allApplied (conjunctApplied lineage node) hs a .constraints) (AllOf O hs) (AllOf E hs))
+      → T (not (a .refused)) × (Good (a .constraints) → Step (a .constraints) (allApplied (conjunctApplied lineage node) hs a .constraints) (AllOf O hs)
+      (AllOf E hs))
 
   -- a run of conjuncts that is not refused was refused nowhere on the way, and is a step. Assumes operands that stand before their node
   pub run-step : (hs : List ℕ) → AllOf (λ (h : ℕ). OperandsBelow items h (node h)) hs → (a : Applied) → Runs hs a
@@ -352,7 +394,9 @@ module _ (node : ℕ → ExprData) (items : List ℕ) (typed : (h : ℕ) → Typ
       go : (x : Bool) → (T x → T (a .refused)) → (T (not x) → T (not (a .refused))) → Runs hs a → Runs hs (conjunctApplied lineage node (a .constraints) h)
           → T (not (allApplied (conjunctApplied lineage node) hs (cond x a (conjunctApplied lineage node (a .constraints) h)) .refused))
           → T (not (a .refused))
-          × (Good (a .constraints) → Step (a .constraints) (allApplied (conjunctApplied lineage node) hs (cond x a (conjunctApplied lineage node (a .constraints) h)) .constraints) (O h × AllOf O hs) (E h × AllOf E hs))
+          × (Good (a .constraints) → Step (a .constraints)
+          (allApplied (conjunctApplied lineage node) hs (cond x a (conjunctApplied lineage node (a .constraints) h)) .constraints) (O h × AllOf O hs)
+          (E h × AllOf E hs))
       go true k n r w u = absurd (T-not (a .refused) (r u .0) (k tt))
       go false k n r w u =
           let j = w u in
@@ -360,5 +404,6 @@ module _ (node : ℕ → ExprData) (items : List ℕ) (typed : (h : ℕ) → Typ
             n tt,
             λ g.
                 let first = conjunct-step (a .constraints) g h (b .0) (j .0) in
-                step-then (a .constraints) (next .constraints) (allApplied (conjunctApplied lineage node) hs next .constraints) (O h) (AllOf O hs) (E h) (AllOf E hs) first (j .1 (first .good)),
+                step-then (a .constraints) (next .constraints) (allApplied (conjunctApplied lineage node) hs next .constraints) (O h) (AllOf O hs) (E h)
+                (AllOf E hs) first (j .1 (first .good)),
           )

@@ -46,7 +46,17 @@ plan = record {
     start = replicate 1024 0;
     bits = 0 ∷ 3 ∷ 4 ∷ replicate 1021 0;
   };
-  operators = record { count = 0; kind = replicate 128 0; code = replicate 128 0; a = replicate 128 0; b = replicate 128 0; c = replicate 128 0; d = replicate 128 0; start = replicate 128 0 };
+  operators = record {
+    count = 0;
+    kind = replicate 128 0;
+    code = replicate 128 0;
+    a = replicate 128 0;
+    b = replicate 128 0;
+    c = replicate 128 0;
+    d = replicate
+        128 0;
+    start = replicate 128 0;
+  };
   items = record { count = 0; a = replicate 2048 0; b = replicate 2048 0 };
 }
 
@@ -63,8 +73,11 @@ abbrev twice : LogicalFacts
 twice = applyPredicate plan once below .facts
 
 -- both are accepted, and the flag is clear. Assumes nothing
-pub between-clear : (applyPredicate plan fresh above .outcome ≡ Accepted) × ((applyPredicate plan once below .outcome ≡ Accepted) × (twice .constraints .contradictory ≡ false))
-unfolding applyPredicate planOk countsWithin allFrom exprOkOf recordOk listsOk rowOf lineOf bitsOk handleOk countOf moreOf itemOk operatorOkOf scansOf anyFrom countFrom factsOk lineageOk definitionOk setOk parentsOk each emptySet emptyClasses predicateApplied allApplied conjunctsTo joinedOf conjunctApplied comparisonApplied exprData addRange addBound putNonNull putRange layRange crossCheck rootOf climb parentIn lt eq ofInt
+pub between-clear : (applyPredicate plan fresh above .outcome ≡ Accepted)
+    × ((applyPredicate plan once below .outcome ≡ Accepted) × (twice .constraints .contradictory ≡ false))
+unfolding applyPredicate planOk countsWithin allFrom exprOkOf recordOk listsOk rowOf lineOf bitsOk handleOk countOf moreOf itemOk operatorOkOf scansOf anyFrom
+    countFrom factsOk lineageOk definitionOk setOk parentsOk each emptySet emptyClasses predicateApplied allApplied conjunctsTo joinedOf conjunctApplied
+    comparisonApplied exprData addRange addBound putNonNull putRange layRange crossCheck rootOf climb parentIn lt eq ofInt
 between-clear = (refl, (refl, refl))
 
 gap : (n : ℤ) → T (ltZ (pos 3) n) → T (ltZ n (pos 4)) → ⊥

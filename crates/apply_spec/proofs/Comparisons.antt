@@ -88,7 +88,8 @@ eq-iff a b = (
       of-compared Eq a b tt (record { left = n; right = subst (λ (c : Bool). T (not c)) (same-null a b s) n; kind = same-kind a b s n; holds = s }),
 )
 
-distinct-test : (p q k t : Bool) → (p ≡ q) ⊎ T (not t) → (T t → T (not p) → T k) → isTrue (cond (p || q) (known (p && q)) (cond k (known t) 0)) ≡ ((p && q) || t)
+distinct-test : (p q k t : Bool) → (p ≡ q) ⊎ T (not t) → (T t → T (not p) → T k) → isTrue (cond (p || q) (known (p && q)) (cond k (known t) 0))
+    ≡ ((p && q) || t)
 distinct-test true true k t e f = refl
 distinct-test true false k true (inl e) f = absurd (subst T e tt)
 distinct-test true false k true (inr n) f = absurd n
@@ -105,7 +106,8 @@ distinct-test false false false false e f = refl
 pub distinct-iff : (a b : ScalarValue) → (compareOf IsNotDistinctFrom a b ≡ 2) ↔ T (same a b)
 unfolding compareOf
 distinct-iff a b =
-    let e = distinct-test (isNull a) (isNull b) (sameKind (kindOf a) (kindOf b)) (sameScalar a b) (decide (sameScalar a b) (same-null a b)) (λ t n. same-kind a b t n) in
+    let e = distinct-test (isNull a) (isNull b) (sameKind (kindOf a) (kindOf b)) (sameScalar a b) (decide (sameScalar a b) (same-null a b))
+    (λ t n. same-kind a b t n) in
     (λ t. subst T e (eq→eqb t), λ t. eqb→eq _ 2 (subst T (sym e) t))
   where
     decide : (t : Bool) → (T t → isNull a ≡ isNull b) → (isNull a ≡ isNull b) ⊎ T (not t)

@@ -79,12 +79,14 @@ module _ (node : ℕ → ExprData) (items : List ℕ) where
   unfolding joinedOf
   conjuncts-within = before-all (λ (h : ℕ). AllOf (λ (k : ℕ). k ≤ h) (conjunctsOf node items h)) step
     where
-      joined : (h : ℕ) → ((e : ℕ) → e < h → AllOf (λ (k : ℕ). k ≤ e) (conjunctsOf node items e)) → (es : List ℕ) → AllOf (λ (k : ℕ). k ≤ h) (joinedOf (conjunctsTo node items h) es)
+      joined : (h : ℕ) → ((e : ℕ) → e < h → AllOf (λ (k : ℕ). k ≤ e) (conjunctsOf node items e)) → (es : List ℕ) → AllOf (λ (k : ℕ). k ≤ h)
+          (joinedOf (conjunctsTo node items h) es)
       joined h ih [] = tt
       joined h ih (e ∷ es) =
           all-append (λ (k : ℕ). k ≤ h) (getD (conjunctsTo node items h) e []) (joinedOf (conjunctsTo node items h) es)
           (elim (decLt e h) [
-            | yes l ↦ subst (AllOf (λ (k : ℕ). k ≤ h)) (sym (conjuncts-before node items h e l)) (all-map (λ (k : ℕ). k ≤ e) (λ (k : ℕ). k ≤ h) (λ k q. omega arith) (conjunctsOf node items e) (ih e l))
+            | yes l ↦ subst (AllOf (λ (k : ℕ). k ≤ h)) (sym (conjuncts-before node items h e l))
+                (all-map (λ (k : ℕ). k ≤ e) (λ (k : ℕ). k ≤ h) (λ k q. omega arith) (conjunctsOf node items e) (ih e l))
             | no l ↦ subst (AllOf (λ (k : ℕ). k ≤ h)) (sym (conjuncts-past node items h e (omega arith))) tt
           ])
           (joined h ih es)
@@ -92,7 +94,8 @@ module _ (node : ℕ → ExprData) (items : List ℕ) where
       self : (h : ℕ) → h ≤ h
       self h = omega arith
 
-      go : (h : ℕ) → ((e : ℕ) → e < h → AllOf (λ (k : ℕ). k ≤ e) (conjunctsOf node items e)) → (x : ExprData) → AllOf (λ (k : ℕ). k ≤ h) (conjunctsBy (conjunctsTo node items h) items h x)
+      go : (h : ℕ) → ((e : ℕ) → e < h → AllOf (λ (k : ℕ). k ≤ e) (conjunctsOf node items e)) → (x : ExprData) → AllOf (λ (k : ℕ). k ≤ h)
+          (conjunctsBy (conjunctsTo node items h) items h x)
       go h ih (Literal v) = (self h, tt)
       go h ih (ColumnRef c) = (self h, tt)
       go h ih (Unary op e) = (self h, tt)
@@ -121,7 +124,8 @@ module _ (node : ℕ → ExprData) (items : List ℕ) (row : WholeRow) where
   unfolding joinedOf
   conjuncts-on = before-all (λ (h : ℕ). O h → AllOf O (conjunctsOf node items h)) step
     where
-      joined : (h : ℕ) → ((e : ℕ) → e < h → O e → AllOf O (conjunctsOf node items e)) → (es : List ℕ) → AllOf (λ (e : ℕ). truthOf (valueIn (vals h) e) ≡ 2) es → AllOf O (joinedOf (cons h) es)
+      joined : (h : ℕ) → ((e : ℕ) → e < h → O e → AllOf O (conjunctsOf node items e)) → (es : List ℕ) → AllOf (λ (e : ℕ). truthOf (valueIn (vals h) e) ≡ 2) es
+          → AllOf O (joinedOf (cons h) es)
       joined h ih [] a = tt
       joined h ih (e ∷ es) a =
           all-append O (getD (cons h) e []) (joinedOf (cons h) es)
@@ -131,13 +135,15 @@ module _ (node : ℕ → ExprData) (items : List ℕ) (row : WholeRow) where
           ])
           (joined h ih es (a .1))
 
-      go : (h : ℕ) → ((e : ℕ) → e < h → O e → AllOf O (conjunctsOf node items e)) → O h → (x : ExprData) → truthOf (nodeValue (row .cols) (valueIn (vals h)) (operandsOf items) x) ≡ 2 → AllOf O (conjunctsBy (cons h) items h x)
+      go : (h : ℕ) → ((e : ℕ) → e < h → O e → AllOf O (conjunctsOf node items e)) → O h → (x : ExprData) → truthOf
+          (nodeValue (row .cols) (valueIn (vals h)) (operandsOf items) x) ≡ 2 → AllOf O (conjunctsBy (cons h) items h x)
       go h ih o (Literal v) t = (o, tt)
       go h ih o (ColumnRef c) t = (o, tt)
       go h ih o (Unary op e) t = (o, tt)
       go h ih o (Binary op l r) t = (o, tt)
       go h ih o (Nary N.And r) t =
-          joined h ih (operandsOf items r) (all-iff (valueIn (vals h)) (operandsOf items r) .0 (truth-back (allOf (truths (valueIn (vals h)) (operandsOf items r))) .0 t))
+          joined h ih (operandsOf items r)
+          (all-iff (valueIn (vals h)) (operandsOf items r) .0 (truth-back (allOf (truths (valueIn (vals h)) (operandsOf items r))) .0 t))
       go h ih o (Nary N.Or r) t = (o, tt)
 
       step : (h : ℕ) → ((e : ℕ) → e < h → O e → AllOf O (conjunctsOf node items e)) → O h → AllOf O (conjunctsOf node items h)

@@ -53,7 +53,17 @@ planOf columnKind bits op b = record {
     start = replicate 1024 0;
     bits = 0 ∷ bits ∷ replicate 1022 0;
   };
-  operators = record { count = 0; kind = replicate 128 0; code = replicate 128 0; a = replicate 128 0; b = replicate 128 0; c = replicate 128 0; d = replicate 128 0; start = replicate 128 0 };
+  operators = record {
+    count = 0;
+    kind = replicate 128 0;
+    code = replicate 128 0;
+    a = replicate 128 0;
+    b = replicate 128 0;
+    c = replicate 128 0;
+    d = replicate
+        128 0;
+    start = replicate 128 0;
+  };
   items = record { count = 0; a = replicate 2048 0; b = replicate 2048 0 };
 }
 
@@ -76,11 +86,15 @@ abbrev selfPlan : Plan
 selfPlan = planOf 4 0 0 0
 
 self-accepted : applyPredicate selfPlan fresh comparison .outcome ≡ Accepted
-unfolding applyPredicate planOk countsWithin allFrom exprOkOf recordOk listsOk rowOf lineOf bitsOk handleOk countOf moreOf itemOk operatorOkOf scansOf anyFrom countFrom factsOk lineageOk definitionOk setOk parentsOk each emptySet emptyClasses predicateApplied allApplied conjunctsTo joinedOf conjunctApplied comparisonApplied exprData
+unfolding applyPredicate planOk countsWithin allFrom exprOkOf recordOk listsOk rowOf lineOf bitsOk handleOk countOf moreOf itemOk operatorOkOf scansOf anyFrom
+    countFrom factsOk lineageOk definitionOk setOk parentsOk each emptySet emptyClasses predicateApplied allApplied conjunctsTo joinedOf conjunctApplied
+    comparisonApplied exprData
 self-accepted = refl
 
 self-facts : applyPredicate selfPlan fresh comparison .facts .constraints ≡ addNonNull (unionValues emptySet 0 0) 0
-unfolding applyPredicate planOk countsWithin allFrom exprOkOf recordOk listsOk rowOf lineOf bitsOk handleOk countOf moreOf itemOk operatorOkOf scansOf anyFrom countFrom factsOk lineageOk definitionOk setOk parentsOk each emptySet emptyClasses predicateApplied allApplied conjunctsTo joinedOf conjunctApplied comparisonApplied exprData
+unfolding applyPredicate planOk countsWithin allFrom exprOkOf recordOk listsOk rowOf lineOf bitsOk handleOk countOf moreOf itemOk operatorOkOf scansOf anyFrom
+    countFrom factsOk lineageOk definitionOk setOk parentsOk each emptySet emptyClasses predicateApplied allApplied conjunctsTo joinedOf conjunctApplied
+    comparisonApplied exprData
 self-facts = refl
 
 self-meets : MeetsFacts selfPlan (everywhere (S.Float64 nan)) (applyPredicate selfPlan fresh comparison .facts)
@@ -100,11 +114,15 @@ abbrev mixedPlan : Plan
 mixedPlan = planOf 3 5 2 1
 
 mixed-accepted : applyPredicate mixedPlan fresh comparison .outcome ≡ Accepted
-unfolding applyPredicate planOk countsWithin allFrom exprOkOf recordOk listsOk rowOf lineOf bitsOk handleOk countOf moreOf itemOk operatorOkOf scansOf anyFrom countFrom factsOk lineageOk definitionOk setOk parentsOk each emptySet emptyClasses predicateApplied allApplied conjunctsTo joinedOf conjunctApplied comparisonApplied exprData addRange
+unfolding applyPredicate planOk countsWithin allFrom exprOkOf recordOk listsOk rowOf lineOf bitsOk handleOk countOf moreOf itemOk operatorOkOf scansOf anyFrom
+    countFrom factsOk lineageOk definitionOk setOk parentsOk each emptySet emptyClasses predicateApplied allApplied conjunctsTo joinedOf conjunctApplied
+    comparisonApplied exprData addRange
 mixed-accepted = refl
 
 mixed-facts : applyPredicate mixedPlan fresh comparison .facts .constraints ≡ addBound emptySet 0 Lt (ofInt binary64 (pos 5))
-unfolding applyPredicate planOk countsWithin allFrom exprOkOf recordOk listsOk rowOf lineOf bitsOk handleOk countOf moreOf itemOk operatorOkOf scansOf anyFrom countFrom factsOk lineageOk definitionOk setOk parentsOk each emptySet emptyClasses predicateApplied allApplied conjunctsTo joinedOf conjunctApplied comparisonApplied exprData addRange
+unfolding applyPredicate planOk countsWithin allFrom exprOkOf recordOk listsOk rowOf lineOf bitsOk handleOk countOf moreOf itemOk operatorOkOf scansOf anyFrom
+    countFrom factsOk lineageOk definitionOk setOk parentsOk each emptySet emptyClasses predicateApplied allApplied conjunctsTo joinedOf conjunctApplied
+    comparisonApplied exprData addRange
 mixed-facts = refl
 
 mixed-truth : truthOf (valueAt (λ c. S.Int64 (pos 3)) (nodeAt mixedPlan) (mixedPlan .items .a) 2) ≡ 1
@@ -113,7 +131,8 @@ mixed-truth = refl
 
 -- z < 5 is accepted, and a row with an Int64 3 meets its bound, though the comparison of two kinds is UNKNOWN. Assumes nothing
 pub mixed-case : (applyPredicate mixedPlan fresh comparison .outcome ≡ Accepted)
-    × (MeetsFacts mixedPlan (everywhere (S.Int64 (pos 3))) (applyPredicate mixedPlan fresh comparison .facts) × (On mixedPlan (everywhere (S.Int64 (pos 3))) 2 → ⊥))
+    × (MeetsFacts mixedPlan (everywhere (S.Int64 (pos 3))) (applyPredicate mixedPlan fresh comparison .facts)
+    × (On mixedPlan (everywhere (S.Int64 (pos 3))) 2 → ⊥))
 mixed-case = (
   mixed-accepted,
   (
@@ -127,7 +146,9 @@ abbrev plainPlan : Plan
 plainPlan = planOf 2 7 2 1
 
 plain-accepted : applyPredicate plainPlan fresh comparison .outcome ≡ Accepted
-unfolding applyPredicate planOk countsWithin allFrom exprOkOf recordOk listsOk rowOf lineOf bitsOk handleOk countOf moreOf itemOk operatorOkOf scansOf anyFrom countFrom factsOk lineageOk definitionOk setOk parentsOk each emptySet emptyClasses predicateApplied allApplied conjunctsTo joinedOf conjunctApplied comparisonApplied exprData addRange
+unfolding applyPredicate planOk countsWithin allFrom exprOkOf recordOk listsOk rowOf lineOf bitsOk handleOk countOf moreOf itemOk operatorOkOf scansOf anyFrom
+    countFrom factsOk lineageOk definitionOk setOk parentsOk each emptySet emptyClasses predicateApplied allApplied conjunctsTo joinedOf conjunctApplied
+    comparisonApplied exprData addRange
 plain-accepted = refl
 
 zeros : (n i : ℕ) → _≡_ {A = ℕ} (getD (replicate n 0) i 0) 0
@@ -156,7 +177,8 @@ plain-kinds = record { columns = of-column; comparisons = of-comparison }
 
 -- a row of Int32 meets the facts of x < 7 exactly where x < 7 is TRUE of it: by the theorem, whose conditions hold here. Assumes nothing
 pub plain-case : (n : ℤ) → SFits w32 n
-    → MeetsFacts plainPlan (everywhere (S.Int32 n)) (applyPredicate plainPlan fresh comparison .facts) ↔ AllOn plainPlan (everywhere (S.Int32 n)) (comparison ∷ [])
+    → MeetsFacts plainPlan (everywhere (S.Int32 n)) (applyPredicate plainPlan fresh comparison .facts) ↔ AllOn plainPlan (everywhere (S.Int32 n))
+    (comparison ∷ [])
 plain-case n w =
     sequence-whole plainPlan plain-wide (λ i. K.Int32) (λ i. tt) (everywhere (S.Int32 n)) (λ i. tt) lineage (replicate 64 0) refl plain-kinds
     (record { typed = λ i. w; same = λ c t. refl }) (comparison ∷ []) (applyPredicate plainPlan fresh comparison .facts) (plain-accepted, refl)

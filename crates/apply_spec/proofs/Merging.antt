@@ -51,7 +51,11 @@ abbrev tried : LogicalFacts → LogicalFacts → Bool → Applied
 tried f g merge = cond merge (mergeFrom (f .constraints) (g .constraints)) (done (f .constraints))
 
 abbrev joinedFacts : LogicalFacts → LogicalFacts → LogicalFacts
-joinedFacts f g = record { lineage = overridden (f .lineage) (g .lineage); definitions = overridden (f .definitions) (g .definitions); constraints = f .constraints }
+joinedFacts f g = record {
+  lineage = overridden (f .lineage) (g .lineage);
+  definitions = overridden (f .definitions) (g .definitions);
+  constraints = f .constraints;
+}
 
 joined : (p : Plan) (f g : LogicalFacts) (merge : Bool) → mergeInputs p f g merge .outcome ≡ Accepted → Joined p f g merge (tried f g merge)
 unfolding mergeInputs inputsMerged
@@ -65,7 +69,8 @@ joined p f g merge = go (planOk p && (factsOk p f && factsOk p g)) refl
     made true x t = absurd t
     made false x t = refl
 
-    go : (b : Bool) → (planOk p && (factsOk p f && factsOk p g)) ≡ b → cond b (answered f (joinedFacts f g) (tried f g merge)) (refused f NoSuch) .outcome ≡ Accepted → Joined p f g merge (tried f g merge)
+    go : (b : Bool) → (planOk p && (factsOk p f && factsOk p g)) ≡ b → cond b (answered f (joinedFacts f g) (tried f g merge)) (refused f NoSuch) .outcome
+        ≡ Accepted → Joined p f g merge (tried f g merge)
     go true t q =
         let x = withConstraints (joinedFacts f g) (tried f g merge .constraints) in
         let n = clear (tried f g merge .refused) x q in
@@ -118,7 +123,8 @@ module _ (p : Plan) (f g : LogicalFacts) (gf : GoodFacts f) (gg : GoodFacts g) (
     merge-none t m n = no-row (On p row) (row .ids) (mergeInputs p f g true .facts .constraints) t (merge-exact .1 (m, n))
 
 -- an accepted merge of lineages alone keeps the left's rows. Assumes nothing
-pub keep-exact : (p : Plan) (f g : LogicalFacts) → mergeInputs p f g false .outcome ≡ Accepted → (row : WholeRow) → MeetsFacts p row (mergeInputs p f g false .facts) ↔ MeetsFacts p row f
+pub keep-exact : (p : Plan) (f g : LogicalFacts) → mergeInputs p f g false .outcome ≡ Accepted → (row : WholeRow) → MeetsFacts p row
+    (mergeInputs p f g false .facts) ↔ MeetsFacts p row f
 keep-exact p f g q row =
     let e = joined p f g false q .set in
     (subst (Meets (On p row) (row .ids)) e, subst (Meets (On p row) (row .ids)) (sym e))

@@ -84,9 +84,11 @@ module _ (kinds : ℕ → Kind) (v : ℕ → ScalarValue) (k : Kinded kinds v) w
 
   exact-seen : (op : BinaryOp) (A B : Seen) (x y : Kind) → SeenKind A x → SeenKind B y → T (sameKind x y) → ExactSeen v op A B
   exact-seen op (Identity i) (Identity j) x y a b t = λ e. k .number i
-  exact-seen op (Identity i) (Constant l) x y a b t = of-one op i l (same-through (kinds i) x (kindOf l) (same-turned x (kinds i) a) (same-through x y (kindOf l) t b))
+  exact-seen op (Identity i) (Constant l) x y a b t = of-one op i l
+      (same-through (kinds i) x (kindOf l) (same-turned x (kinds i) a) (same-through x y (kindOf l) t b))
   exact-seen op (Identity i) Unseen x y a b t = tt
-  exact-seen op (Constant l) (Identity j) x y a b t = of-one op j l (same-through (kinds j) y (kindOf l) (same-turned y (kinds j) b) (same-through y x (kindOf l) (same-turned x y t) a))
+  exact-seen op (Constant l) (Identity j) x y a b t = of-one op j l
+      (same-through (kinds j) y (kindOf l) (same-turned y (kinds j) b) (same-through y x (kindOf l) (same-turned x y t) a))
   exact-seen op (Constant l) (Constant m) x y a b t = tt
   exact-seen op (Constant l) Unseen x y a b t = tt
   exact-seen op Unseen (Identity j) x y a b t = tt
@@ -111,14 +113,16 @@ module _ (kinds : ℕ → Kind) (v : ℕ → ScalarValue) (k : Kinded kinds v) w
     exact-node (ColumnRef c) t = tt
     exact-node (Unary op e) t = tt
     exact-node (Binary op l r) t =
-        exact-seen op (seenOf lineage (nodeAt p (l .0))) (seenOf lineage (nodeAt p (r .0))) (kindAt (p .columns .kind) (nodeAt p) (l .0)) (kindAt (p .columns .kind) (nodeAt p) (r .0))
+        exact-seen op (seenOf lineage (nodeAt p (l .0))) (seenOf lineage (nodeAt p (r .0))) (kindAt (p .columns .kind) (nodeAt p) (l .0))
+        (kindAt (p .columns .kind) (nodeAt p) (r .0))
         (seen-kind (nodeAt p (l .0))) (seen-kind (nodeAt p (r .0))) t
     exact-node (Nary op es) t = tt
 
     -- the conditions on plan and row are those of exactness. Assumes nothing
     pub plain-predicate : (e : ℕ) → e < p .expressions .count → ExactPredicate p lineage v e
     plain-predicate e l =
-        all-map (λ (h : ℕ). h ≤ e) (λ (h : ℕ). ExactNode v lineage (nodeAt p) (nodeAt p h)) (λ h q. exact-node (nodeAt p h) (plain .comparisons h (omega arith)))
+        all-map (λ (h : ℕ). h ≤ e) (λ (h : ℕ). ExactNode v lineage (nodeAt p) (nodeAt p h))
+        (λ h q. exact-node (nodeAt p h) (plain .comparisons h (omega arith)))
         (conjunctsOf (nodeAt p) (p .items .a) e) (conjuncts-within (nodeAt p) (p .items .a) e)
 
     -- the same of every accepted predicate of a run
@@ -128,20 +132,23 @@ module _ (kinds : ℕ → Kind) (v : ℕ → ScalarValue) (k : Kinded kinds v) w
 
 module _ (p : Plan) (wide : Wide p) (kinds : ℕ → Kind) (row : WholeRow) (k : Kinded kinds (row .ids)) where
   -- one accepted predicate: exactly the rows that met the facts and of which it is TRUE meet the new ones. Assumes good facts
-  pub plain-exact : (f : LogicalFacts) → GoodFacts f → OneKindPlan p (f .lineage) kinds → Consistent (f .lineage) row → (e : Expr) → applyPredicate p f e .outcome ≡ Accepted
+  pub plain-exact : (f : LogicalFacts) → GoodFacts f → OneKindPlan p (f .lineage) kinds → Consistent (f .lineage) row → (e : Expr) → applyPredicate p f
+      e .outcome ≡ Accepted
       → MeetsFacts p row (applyPredicate p f e .facts) ↔ (MeetsFacts p row f × On p row (e .0))
   plain-exact f good plain c e q =
       apply-exact p wide f good e q row c (plain-predicate kinds (row .ids) k p (f .lineage) plain (e .0) (apply-parts p f e q .handle))
 
   -- any number of them from fresh facts: a row meets the facts exactly where all are TRUE of it. Assumes nothing else
-  pub sequence-plain : (lineage definitions : List ℕ) → length lineage ≡ 64 → OneKindPlan p lineage kinds → Consistent lineage row → (es : List Expr) (g : LogicalFacts)
+  pub sequence-plain : (lineage definitions : List ℕ) → length lineage ≡ 64 → OneKindPlan p lineage kinds → Consistent lineage row → (es : List Expr)
+      (g : LogicalFacts)
       → AcceptedAll p (freshFacts lineage definitions) es g → MeetsFacts p row g ↔ AllOn p row es
   sequence-plain lineage definitions long plain c es g q =
       sequence-exact p wide lineage definitions long es g q row c (plain-all kinds (row .ids) k p lineage plain es (freshFacts lineage definitions) g q)
 
 -- the same in the words of the demand: every identity is Int32 or Boolean, a row's values are NULL or of their identities' kinds, and comparisons have one
 -- kind on both sides. Assumes nothing else
-pub sequence-whole : (p : Plan) → Wide p → (kinds : ℕ → Kind) → ((i : ℕ) → T (intOrBoolean (kinds i))) → (row : WholeRow) → ((i : ℕ) → T (ofKind (kinds i) (row .ids i)))
+pub sequence-whole : (p : Plan) → Wide p → (kinds : ℕ → Kind) → ((i : ℕ) → T (intOrBoolean (kinds i))) → (row : WholeRow)
+    → ((i : ℕ) → T (ofKind (kinds i) (row .ids i)))
     → (lineage definitions : List ℕ) → length lineage ≡ 64 → OneKindPlan p lineage kinds → Consistent lineage row → (es : List Expr) (g : LogicalFacts)
     → AcceptedAll p (freshFacts lineage definitions) es g → MeetsFacts p row g ↔ AllOn p row es
 sequence-whole p wide kinds w row o = sequence-plain p wide kinds row (whole-kinded kinds (row .ids) w o)

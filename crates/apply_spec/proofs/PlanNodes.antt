@@ -52,7 +52,8 @@ module _ (x : Record) (st nc h np used : ℕ) (ia ib : List ℕ) where
       let t = second (handleOk (rowOf k .a) (x .a) nc h np) _ _ _ (subst (λ (k : ℕ). handlesOk (rowOf k) x nc h np ≡ true) q (handles e)) in
       ltb-true (x .b) h (subst (λ (s : ℕ). handleOk s (x .b) nc h np ≡ true) r t)
 
-  items-right : listsOk ia ib used x st nc (suc h) np ≡ true → allFrom (itemOk ia ib (rowOf (x .kind) .item) nc (suc h) np) st (countOf (rowOf (x .kind)) x) ≡ true
+  items-right : listsOk ia ib used x st nc (suc h) np ≡ true → allFrom (itemOk ia ib (rowOf (x .kind) .item) nc (suc h) np) st (countOf (rowOf (x .kind)) x)
+      ≡ true
   unfolding listsOk
   items-right e = and-left _ _ (and-right (leb (st + (countOf (rowOf (x .kind)) x + moreOf (rowOf (x .kind)) x)) used) _ e)
 

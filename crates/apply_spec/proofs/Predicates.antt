@@ -26,7 +26,8 @@ use Rattle.apply_spec.proofs.Applying.{Within, Step, conjunct-step, run
 use Rattle.apply_spec.proofs.PlanNodes.{plan-below, plan-typed}
 
 -- a predicate is TRUE of a row exactly where each of its conjuncts is. Assumes a plan that keeps the rules
-pub predicate-conjuncts : (p : Plan) → planOk p ≡ true → (row : WholeRow) (e : ℕ) → e < p .expressions .count → On p row e ↔ AllOf (On p row) (conjunctsOf (nodeAt p) (p .items .a) e)
+pub predicate-conjuncts : (p : Plan) → planOk p ≡ true → (row : WholeRow) (e : ℕ) → e < p .expressions .count → On p row e ↔ AllOf (On p row)
+    (conjunctsOf (nodeAt p) (p .items .a) e)
 predicate-conjuncts p ok row e l = conjuncts-iff (nodeAt p) (p .items .a) row (p .expressions .count) (plan-below p ok) e l
 
 module _ (p : Plan) (ok : planOk p ≡ true) (wide : Wide p) (lineage : List ℕ) (small : Within lineage) where
@@ -39,7 +40,8 @@ module _ (p : Plan) (ok : planOk p ≡ true) (wide : Wide p) (lineage : List ℕ
 
   conjuncts-below : (e : ℕ) → e < p .expressions .count → AllOf (λ (h : ℕ). OperandsBelow (p .items .a) h (nodeAt p h)) (conjunctsOf (nodeAt p) (p .items .a) e)
   conjuncts-below e l =
-      all-map (λ (h : ℕ). h ≤ e) (λ (h : ℕ). OperandsBelow (p .items .a) h (nodeAt p h)) (λ h q. plan-below p ok h (omega arith)) (conjunctsOf (nodeAt p) (p .items .a) e)
+      all-map (λ (h : ℕ). h ≤ e) (λ (h : ℕ). OperandsBelow (p .items .a) h (nodeAt p h)) (λ h q. plan-below p ok h (omega arith))
+      (conjunctsOf (nodeAt p) (p .items .a) e)
       (conjuncts-within (nodeAt p) (p .items .a) e)
 
   module _ (row : WholeRow) (c : Consistent lineage row) where
@@ -51,7 +53,8 @@ module _ (p : Plan) (ok : planOk p ≡ true) (wide : Wide p) (lineage : List ℕ
         → PlanStep s (predicateApplied p lineage s e .constraints) (On p row e) (ExactPredicate p lineage (row .ids) e)
     unfolding predicateApplied
     predicate-step s g e l u =
-        let k = run-step (nodeAt p) (p .items .a) (plan-typed p wide) lineage small row c (conjunctsOf (nodeAt p) (p .items .a) e) (conjuncts-below e l) (done s) u .1 g in
+        let k = run-step (nodeAt p) (p .items .a) (plan-typed p wide) lineage small row c (conjunctsOf (nodeAt p) (p .items .a) e) (conjuncts-below e l)
+        (done s) u .1 g in
         let i = predicate-conjuncts p ok row e l in
         record {
           good = k .good;

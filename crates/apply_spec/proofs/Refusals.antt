@@ -20,13 +20,15 @@ use Rattle.scalar.specs.declared.ScalarValue.the-variants as S
 use Rattle.comparison.specs.Operators.{ordinary, bounding}
 use Rattle.comparison.specs.declared.BinaryOp.{BinaryOp}
 use Rattle.comparison.specs.declared.BinaryOp.the-variants.{Eq, NotEq, Lt, LtEq, Gt, GtEq, IsNotDistinctFrom}
-use Rattle.constraint_spec.specs.Sets.{parentsOf, handles, withResiduals, withFlag, unionValues, addNonNull, addLiteral, addBound, rangedBy, addRange, hasHandle, roomFor, pushResidual, addResidual, done, setOk}
+use Rattle.constraint_spec.specs.Sets.{parentsOf, handles, withResiduals, withFlag, unionValues, addNonNull, addLiteral, addBound, rangedBy}
+use Rattle.constraint_spec.specs.Sets.{addRange, hasHandle, roomFor, pushResidual, addResidual, done, setOk}
 use Rattle.value_classes.specs.Parents.{parentsOk}
 use Rattle.constraint_spec.specs.Room.{listed, has, pushed}
 use Rattle.constraint_spec.specs.declared.ConstraintSet.{ConstraintSet}
 use Rattle.constraint_spec.specs.declared.Applied.{Applied}
 use Rattle.constraint_spec.proofs.Operations.{residual-done, residual-refused}
-use Rattle.constraint_spec.proofs.RoomLaws.{SameList, same-self, same-through, same-flag, same-union, same-nonnull, same-addLiteral, same-addBound, same-listed, length-listed, room-noted, room-full, pushed-grows, Fits}
+use Rattle.constraint_spec.proofs.RoomLaws.{SameList, same-self, same-through, same-flag, same-union, same-nonnull, same-addLiteral, same-addBound}
+use Rattle.constraint_spec.proofs.RoomLaws.{same-listed, length-listed, room-noted, room-full, pushed-grows, Fits}
 use Rattle.plan.specs.declared.Plan.{Plan}
 use Rattle.plan.specs.declared.Expr.{Expr}
 use Rattle.plan_rules.specs.Rules.{planOk}
@@ -35,9 +37,11 @@ use Rattle.plan_data.specs.declared.ExprData.{ExprData}
 use Rattle.plan_data.specs.declared.ExprData.the-variants.{Literal, ColumnRef, Unary, Binary, Nary}
 use Rattle.apply_spec.specs.Facts.{withConstraints, lineageOk, definitionOk, factsOk}
 use Rattle.apply_spec.specs.Conjuncts.{conjunctsOf}
-use Rattle.apply_spec.specs.Apply.{seenOf, isNullLiteral, rangeApplied, operandsApplied, comparisonApplied, literalApplied, nodeApplied, conjunctApplied, allApplied}
+use Rattle.apply_spec.specs.Apply.{seenOf, isNullLiteral, rangeApplied, operandsApplied, comparisonApplied, literalApplied, nodeApplied}
+use Rattle.apply_spec.specs.Apply.{conjunctApplied, allApplied}
 use Rattle.apply_spec.specs.Entries.{accepted, refused, answered, predicateApplied, applyPredicate}
-use Rattle.apply_spec.specs.Wanted.{gives, operandsRecorded, comparisonRecorded, constantRecorded, nodeRecorded, conjunctRecorded, wantedBy, predicateWanted}
+use Rattle.apply_spec.specs.Wanted.{gives, operandsRecorded, comparisonRecorded, constantRecorded, nodeRecorded, conjunctRecorded, wantedBy}
+use Rattle.apply_spec.specs.Wanted.{predicateWanted}
 use Rattle.apply_spec.specs.declared.LogicalFacts.{LogicalFacts}
 use Rattle.apply_spec.specs.declared.FactsAnswer.{FactsAnswer}
 use Rattle.apply_spec.specs.declared.Outcome.the-variants.{Accepted, Residuals, NoSuch}
@@ -113,7 +117,8 @@ module _ (s : ConstraintSet) (r : Roomy s) (h : ℕ) where
   operands : (op : BinaryOp) (l q : Seen) → Leaves s h (operandsRecorded op l q) (operandsApplied s h op l q)
   unfolding addRange
   operands Eq (Identity i) (Identity j) =
-      kept (addNonNull (unionValues s i j) i) (same-through s (unionValues s i j) (addNonNull (unionValues s i j) i) (same-union s i j) (same-nonnull (unionValues s i j) i))
+      kept (addNonNull (unionValues s i j) i) (same-through s (unionValues s i j) (addNonNull (unionValues s i j) i) (same-union s i j)
+      (same-nonnull (unionValues s i j) i))
   operands NotEq (Identity i) (Identity j) = residual
   operands Lt (Identity i) (Identity j) = residual
   operands LtEq (Identity i) (Identity j) = residual
@@ -219,8 +224,10 @@ module _ (p : Plan) (f : LogicalFacts) (e : Expr) (long : length (handles (f .co
   unfolding factsOk setOk
   facts-roomy =
       let facts = and-right (ltb (e .0) (p .expressions .count)) _ (and-right (planOk p) _ ok) in
-      let later = and-right (allFrom (definitionOk (f .definitions) (p .columns .count) (p .expressions .count)) 0 64) _ (and-right (allFrom (lineageOk (f .lineage) (p .columns .count)) 0 64) _ facts) in
-      let count = and-right (parentsOk (parentsOf (f .constraints))) _ (and-left (parentsOk (parentsOf (f .constraints)) && leb (f .constraints .residuals) 64) _ later) in
+      let later = and-right (allFrom (definitionOk (f .definitions) (p .columns .count) (p .expressions .count)) 0 64) _
+      (and-right (allFrom (lineageOk (f .lineage) (p .columns .count)) 0 64) _ facts) in
+      let count = and-right (parentsOk (parentsOf (f .constraints))) _
+      (and-left (parentsOk (parentsOf (f .constraints)) && leb (f .constraints .residuals) 64) _ later) in
       record { few = leb-true (f .constraints .residuals) 64 count; long = long }
 
   answer : applyPredicate p f e ≡ answered f f applied

@@ -52,7 +52,8 @@ overridden left right = stepsTo (override right) 64 left
 -- right lineage and definitions override left; the constraints are merged, or the left's stay
 unfoldable pub inputsMerged : LogicalFacts → LogicalFacts → Bool → FactsAnswer
 inputsMerged f g merge =
-    answered f (record { lineage = overridden (f .lineage) (g .lineage); definitions = overridden (f .definitions) (g .definitions); constraints = f .constraints })
+    answered f
+    (record { lineage = overridden (f .lineage) (g .lineage); definitions = overridden (f .definitions) (g .definitions); constraints = f .constraints })
     (cond merge (mergeFrom (f .constraints) (g .constraints)) (done (f .constraints)))
 
 unfoldable pub mergeInputs : Plan → LogicalFacts → LogicalFacts → Bool → FactsAnswer

@@ -43,7 +43,8 @@ module _ (node : ℕ → ExprData) (items : List ℕ) where
 module _ (below : List (List ℕ)) (items : List ℕ) (h : ℕ) where
   -- by the tests of `exprData`: only a list with the code of And has other conjuncts than itself
   itself : (b20 b21 b22 b23 and : Bool) (c : Column) (u : UnaryOp) (e l r : Expr) (op : BinaryOp) (run : Run) (v : ScalarValue) → (b23 && and) ≡ false
-      → conjunctsBy below items h (cond b20 (ColumnRef c) (cond b21 (Unary u e) (cond b22 (Binary op l r) (cond b23 (Nary (cond and And Or) run) (Literal v))))) ≡ h ∷ []
+      → conjunctsBy below items h
+      (cond b20 (ColumnRef c) (cond b21 (Unary u e) (cond b22 (Binary op l r) (cond b23 (Nary (cond and And Or) run) (Literal v))))) ≡ h ∷ []
   itself true b21 b22 b23 and c u e l r op run v lacks = refl
   itself false true b22 b23 and c u e l r op run v lacks = refl
   itself false false true b23 and c u e l r op run v lacks = refl
@@ -55,7 +56,8 @@ module _ (below : List (List ℕ)) (items : List ℕ) (h : ℕ) where
     pub other-entry : isAnd kind code h ≡ false → conjunctsBy below items h (nodeOf kind code a b bits start h) ≡ h ∷ []
     unfolding exprData
     other-entry lacks =
-        itself (eqb (getD kind h 0) 0x20) (eqb (getD kind h 0) 0x21) (eqb (getD kind h 0) 0x22) (eqb (getD kind h 0) 0x23) (eqb (getD code h 0) 0) _ _ _ _ _ _ _ _ lacks
+        itself (eqb (getD kind h 0) 0x20) (eqb (getD kind h 0) 0x21) (eqb (getD kind h 0) 0x22) (eqb (getD kind h 0) 0x23) (eqb (getD code h 0) 0) _ _ _ _ _ _
+        _ _ lacks
 
     pub and-entry : isAnd kind code h ≡ true
         → conjunctsBy below items h (nodeOf kind code a b bits start h) ≡ joinedOf below (take (getD a h 0) (drop (getD start h 0) items))

@@ -17,7 +17,8 @@ use Rattle.apply_walk.specs.Walks.{isAnd, emptyWalk, ownerAt, placeAt, l
 use Rattle.apply_walk.proofs.Guards.{or-second}
 use Rattle.apply_walk.proofs.Tables.{table-at}
 use Rattle.apply_walk.proofs.Entries.{entry-at, entry-past, and-entry, other-entry}
-use Rattle.apply_walk.proofs.Rests.{runRest, restOf, stepsIn, stepsBy, stepsTo, runSteps, stepsLeft, Good, run-cons, run-none, passed-depth, passed-good, popped-good, pushed-good, fold-top, fold-passed, fold-pushed, fold-none}
+use Rattle.apply_walk.proofs.Rests.{runRest, restOf, stepsIn, stepsBy, stepsTo, runSteps, stepsLeft, Good, run-cons, run-none, passed-depth}
+use Rattle.apply_walk.proofs.Rests.{passed-good, popped-good, pushed-good, fold-top, fold-passed, fold-pushed, fold-none}
 
 module _ (kind code a b bits start items : List ℕ) (long : length items ≡ 2048) where
   abbrev node : ℕ → ExprData

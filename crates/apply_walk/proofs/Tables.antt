@@ -29,7 +29,8 @@ table-at f d (suc n) h l = ⊎-elim (older (table-at f d n h)) last (below-or-no
     last : n ≤ h → getD (tableTo f n ++ (f (tableTo f n) n ∷ [])) h d ≡ f (tableTo f h) h
     last m =
         let e : h ≡ n = omega arith in
-        subst (λ (k : ℕ). getD (tableTo f n ++ (f (tableTo f n) n ∷ [])) k d ≡ f (tableTo f k) k) (sym e) (getD-at (tableTo f n) (f (tableTo f n) n) [] d n (table-length f n))
+        subst (λ (k : ℕ). getD (tableTo f n ++ (f (tableTo f n) n ∷ [])) k d ≡ f (tableTo f k) k) (sym e)
+        (getD-at (tableTo f n) (f (tableTo f n) n) [] d n (table-length f n))
 
 pub table-past : {A : Type 0} (f : List A → ℕ → A) (d : A) (n h : ℕ) → n ≤ h → getD (tableTo f n) h d ≡ d
 table-past f d n h l = List·getD-eq-default (tableTo f n) d (omega (arith, table-length f n))

@@ -87,7 +87,12 @@ module _ (kind code a start items : List ℕ) (long : length items ≡ 2048) (w 
   enter-turn x at left e p q b bits =
       let f = facts (Enter x) e in
       let operand = getD items (placeAt w k) 0 in
-      let room : w .depth + operand ≤ 1023 = omega (arith, enter-room kind code a b bits start items long w g k top (f .0) (f .1) (f .2), passed-depth w g k top) in
+      let room : w .depth + operand ≤ 1023 = omega (
+        arith,
+        enter-room kind code a b bits start items long w g k top (f .0) (f .1) (f .2),
+        passed-depth w g k
+            top,
+      ) in
       rw (p, q)
       (subst (λ (y : ℕ). Goes kind code a b bits start items long w (deeper w k y (getD start y 0) (getD a y 0)) []) (f .4)
       (subst (λ (v : Walk). Goes kind code a b bits start items long w v []) (deeper-is operand room)

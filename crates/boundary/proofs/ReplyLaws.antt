@@ -29,7 +29,8 @@ use Rattle.rows.specs.declared.Row.{Row}
 use Rattle.rows.specs.declared.Evaluation.{Evaluation}
 use Rattle.simplify_spec.specs.OneOperator as Simplifying
 use Rattle.simplify_spec.specs.declared.Rewritten.{Rewritten}
-use Rattle.boundary.specs.Replies.{headOf, readReply, onPlan, evaluateReply, rewriteReply, simplifyReply, cellsTo, derivedReply, deriveReply, factsReply, turnBy, inTurn, turnReply, appliedReply, applyReply}
+use Rattle.boundary.specs.Replies.{headOf, readReply, onPlan, evaluateReply, rewriteReply, simplifyReply, cellsTo, derivedReply, deriveReply}
+use Rattle.boundary.specs.Replies.{factsReply, turnBy, inTurn, turnReply, appliedReply, applyReply}
 use Rattle.boundary.specs.declared.InTurn.{InTurn}
 
 -- ---- reading first
@@ -64,7 +65,8 @@ module _ (p : Plan) (h : ℕ) (d : DeriveAnswer) (ed : d ≡ deriveOf p h) (n : 
   pub derive-listed : (ids : Identities) → ids ≡ identitiesOf p → n ≡ 0
       → headOf (Deriving.refusalOf (d .outcome)) (Deriving.refuserOf (d .outcome)) ++ listingText h ids (d .facts) ≡ deriveReply h p
   unfolding derivedReply
-  derive-listed ids ei z = ap (λ (i : Identities). headOf (Deriving.refusalOf (d .outcome)) (Deriving.refuserOf (d .outcome)) ++ listingText h i (d .facts)) ei ∙ sym chosen ∙ told
+  derive-listed ids ei z = ap (λ (i : Identities). headOf (Deriving.refusalOf (d .outcome)) (Deriving.refuserOf (d .outcome)) ++ listingText h i (d .facts))
+      ei ∙ sym chosen ∙ told
     where
       chosen : derivedReply p h d ≡ headOf (Deriving.refusalOf (d .outcome)) (Deriving.refuserOf (d .outcome)) ++ listingText h (identitiesOf p) (d .facts)
       chosen = let e : Deriving.refusalOf (d .outcome) ≡ 0 = sym en ∙ z in rw e
@@ -94,7 +96,8 @@ module _ (p : Plan) (l : List ℕ) where
   unfolding inTurn
   turn-done f k h = rw (drop-of-length-le l {i = k} h)
 
-  module _ (f : LogicalFacts) (k : ℕ) (h : k < length l) (e : ℕ) (ee : e ≡ getD l k 0) (a : FactsAnswer) (ea : a ≡ applyPredicate p f (record { 0 = e })) (n : ℕ) (en : n ≡ Applying.refusalOf (a .outcome)) where
+  module _ (f : LogicalFacts) (k : ℕ) (h : k < length l) (e : ℕ) (ee : e ≡ getD l k 0) (a : FactsAnswer) (ea : a ≡ applyPredicate p f (record { 0 = e }))
+      (n : ℕ) (en : n ≡ Applying.refusalOf (a .outcome)) where
     told-turn : inTurn p f (drop k l) k ≡ turnBy a k (λ g. inTurn p g (drop (suc k) l) (suc k))
     unfolding inTurn
     told-turn =
@@ -121,12 +124,14 @@ pub read-said : (a b : Answer) → a ≡ b → headOf (Files.refusalOf (a .readi
 unfolding readReply
 read-said a b e = ap readReply e
 
-pub evaluate-said : (p : Plan) (e : ℕ) (row : Row) (v : Evaluation) (n t : ℕ) → v ≡ Evaluating.evaluateOf p (record { 0 = e }) row → n ≡ Evaluating.refusalOf v → t ≡ truthFound v
+pub evaluate-said : (p : Plan) (e : ℕ) (row : Row) (v : Evaluation) (n t : ℕ) → v ≡ Evaluating.evaluateOf p (record { 0 = e }) row → n ≡ Evaluating.refusalOf
+    v → t ≡ truthFound v
     → headOf n t ≡ evaluateReply e row p
 unfolding evaluateReply
 evaluate-said p e row v n t ev en et = (λ i. headOf (en i) (et i)) ∙ ap (λ (w : Evaluation). headOf (Evaluating.refusalOf w) (truthFound w)) ev
 
-pub simplify-said : (p : Plan) (o : ℕ) (r : Rewritten) (n s : ℕ) → r ≡ Simplifying.simplifyOf p (record { 0 = o }) → n ≡ Simplifying.refusalOf (r .rewrite) → s ≡ standingOf (r .rewrite)
+pub simplify-said : (p : Plan) (o : ℕ) (r : Rewritten) (n s : ℕ) → r ≡ Simplifying.simplifyOf p (record { 0 = o }) → n ≡ Simplifying.refusalOf (r .rewrite)
+    → s ≡ standingOf (r .rewrite)
     → headOf n s ++ writtenOf (r .plan) ≡ simplifyReply o p
 unfolding simplifyReply rewriteReply
 simplify-said p o r n s er en es = (λ i. headOf (en i) (es i) ++ writtenOf (r .plan)) ∙ ap rewriteReply er

@@ -20,7 +20,8 @@ ghost use Rattle.apply_spec.specs.Facts as Applying;
 ghost use Rattle.derive_spec.specs.Operators as Deriving;
 ghost use Rattle.simplify_spec.specs.OneOperator as Simplifying;
 ghost use Rattle.writing.specs.Text.{Wrote};
-ghost use Rattle.boundary.specs.Replies.{headOf, readReply, onPlan, deriveReply, factsReply, inTurn, turnReply, applyReply, simplifyReply, evaluateReply, cellsTo, rowIn};
+ghost use Rattle.boundary.specs.Replies.{headOf, readReply, onPlan, deriveReply, factsReply, inTurn, turnReply, applyReply, simplifyReply};
+ghost use Rattle.boundary.specs.Replies.{evaluateReply, cellsTo, rowIn};
 
 // Predicates applied in turn: the facts, and what came of the last one that was applied.
 pub struct InTurn {
@@ -265,7 +266,9 @@ pub extern "C" fn mossladder_evaluate(
     bits: &[u64],
     out: &mut [u8],
 ) -> usize
-    ensures { λ r. ⌜ Wrote (now (out .entry)) 0 (now (out .exit)) r (onPlan (evaluateReply expr (rowIn (now (case .entry)) (now (code .entry)) (now (bits .entry)))) (readOf (now (file .entry)))) ⌝ }
+    ensures { λ r.
+        ⌜ Wrote (now (out .entry)) 0 (now (out .exit)) r (onPlan (evaluateReply expr (rowIn (now (case .entry)) (now (code .entry)) (now (bits .entry))))
+        (readOf (now (file .entry)))) ⌝ }
 {
     let a = plan_file::read(file);
     let k = a.reading;

@@ -49,7 +49,17 @@ casePlan = record {
         0 ∷ 0 ∷ 0 ∷ 0 ∷ 7 ∷ 0 ∷ 0 ∷ 0 ∷ 0 ∷ 0 ∷ 0 ∷ 5 ∷ 0 ∷ 0 ∷ 0 ∷ 3
         ∷ 4 ∷ 0 ∷ 0 ∷ 9007199254740992 ∷ 0 ∷ 9007199254740993 ∷ 0 ∷ 0 ∷ 5 ∷ 0 ∷ replicate 998 0;
   };
-  operators = record { count = 0; kind = replicate 128 0; code = replicate 128 0; a = replicate 128 0; b = replicate 128 0; c = replicate 128 0; d = replicate 128 0; start = replicate 128 0 };
+  operators = record {
+    count = 0;
+    kind = replicate 128 0;
+    code = replicate 128 0;
+    a = replicate 128 0;
+    b = replicate 128 0;
+    c = replicate 128 0;
+    d = replicate
+        128 0;
+    start = replicate 128 0;
+  };
   items = record { count = 0; a = replicate 2048 0; b = replicate 2048 0 };
 }
 

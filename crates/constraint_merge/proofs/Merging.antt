@@ -16,7 +16,10 @@ use Rattle.value_classes.proofs.RootLaws.{each-at}
 use Rattle.value_classes.proofs.MemberLaws.{first-at-least, first-at-most, first-member, first-skips}
 use Rattle.value_classes.proofs.Unions.{left-out}
 use Rattle.value_range.specs.declared.ValueRange.{ValueRange}
-use Rattle.constraint_spec.specs.Sets.{blank, entryOf, nonNulls, literals, handles, entryAt, canonicalAt, withNonNulls, rangeIn, tightenBy, putNonNull, mergeRange, mergeNonNull, flagIf, withResiduals, unionValues, roomFor, done, refusedWith, stepsTo, joinMember, joinClass, mergeResidual, mergeClasses, mergeLiterals, mergeRanges, mergeNonNulls, mergeValues, normalized, mergedSet, roomTo, mergeRoom, mergeFrom}
+use Rattle.constraint_spec.specs.Sets.{blank, entryOf, nonNulls, literals, handles, entryAt, canonicalAt, withNonNulls, rangeIn, tightenBy}
+use Rattle.constraint_spec.specs.Sets.{putNonNull, mergeRange, mergeNonNull, flagIf, withResiduals, unionValues, roomFor, done, refusedWith, stepsTo}
+use Rattle.constraint_spec.specs.Sets.{joinMember, joinClass, mergeResidual, mergeClasses, mergeLiterals, mergeRanges, mergeNonNulls, mergeValues}
+use Rattle.constraint_spec.specs.Sets.{normalized, mergedSet, roomTo, mergeRoom, mergeFrom}
 use Rattle.constraint_spec.specs.declared.Entry.{Entry}
 use Rattle.constraint_spec.specs.declared.ConstraintSet.{ConstraintSet}
 use Rattle.constraint_spec.specs.declared.Applied.{Applied}
@@ -48,7 +51,8 @@ pub chained-none : (ms : Members) (r n m : ℕ) (t : ConstraintSet) → n ≡ 0 
 unfolding chained
 chained-none ms r n m t e = rw e
 
-pub chained-step : (ms : Members) (r n m : ℕ) (t u : ConstraintSet) → 0 < n → m < 128 → u ≡ unionValues t r m → chained ms r (n - 1) (getD (ms .next) m 0) u ≡ chained ms r n m t
+pub chained-step : (ms : Members) (r n m : ℕ) (t u : ConstraintSet) → 0 < n → m < 128 → u ≡ unionValues t r m → chained ms r (n - 1) (getD (ms .next) m 0) u
+    ≡ chained ms r n m t
 unfolding chained
 chained-step ms r zero m t u z h e = absurd (omega arith)
 chained-step ms r (suc n) m t u z h e = let d : suc n - 1 ≡ n = omega arith in rw (d, lt-ltb _ _ h, e)
@@ -94,7 +98,8 @@ module _ (c : ValueEquivalenceClasses) (r : ℕ) where
   chain-all (suc n) m t lo hi e = elim (decLt m 128) [
     | yes h ↦ (let g = e h in
         rw (lt-ltb _ _ h, next-at m h, to-next m t h g)
-        (chain-all n (nextMember p m) t (omega (arith, first-at-least p (rootOf p m) (m + 1))) (first-at-most p (rootOf p m) (m + 1) (omega arith)) (λ b. first-member p (rootOf p m) (m + 1) (omega arith) b ∙ g)))
+        (chain-all n (nextMember p m) t (omega (arith, first-at-least p (rootOf p m) (m + 1))) (first-at-most p (rootOf p m) (m + 1) (omega arith))
+        (λ b. first-member p (rootOf p m) (m + 1) (omega arith) b ∙ g)))
     | no h ↦ (let d : m ≡ 128 = omega arith in rw (le-ltb m 128 (omega arith), d))
   ]
 
@@ -105,12 +110,15 @@ module _ (c : ValueEquivalenceClasses) (r : ℕ) where
   chain-class : r < 128 → (t : ConstraintSet) → chained ms r 128 (secondOf ms r) t ≡ joinClass c r t
   chain-class h t = elim (ℕ-discrete (firstMember p r 0) r) [
     | yes e ↦ (let own = subst (λ (x : ℕ). rootOf p x ≡ r) e (first-member p r 0 (omega arith) (omega arith)) in
-        let start : stepsTo f (nextMember p r) t ≡ t = sym (to-next r t h own) ∙ ap (λ (u : ConstraintSet). unionValues u r r) (none-before r t (λ j b d. first-skips p r 0 j (omega arith) (omega arith) d)) ∙ union-self t r in
+        let start : stepsTo f (nextMember p r) t ≡ t = sym (to-next r t h own) ∙ ap (λ (u : ConstraintSet). unionValues u r r)
+        (none-before r t (λ j b d. first-skips p r 0 j (omega arith) (omega arith) d)) ∙ union-self t r in
         rw (first-at h, eq-eqb _ _ e, next-at r h)
         (subst (λ (u : ConstraintSet). chained ms r 128 (nextMember p r) u ≡ joinClass c r t) start
-        (chain-all 128 (nextMember p r) t (omega arith) (first-at-most p (rootOf p r) (r + 1) (omega arith)) (λ b. first-member p (rootOf p r) (r + 1) (omega arith) b ∙ own))))
+        (chain-all 128 (nextMember p r) t (omega arith) (first-at-most p (rootOf p r) (r + 1) (omega arith))
+        (λ b. first-member p (rootOf p r) (r + 1) (omega arith) b ∙ own))))
     | no d ↦ rw (first-at h, ne-eqb _ _ d)
-        (subst (λ (u : ConstraintSet). chained ms r 128 (firstMember p r 0) u ≡ joinClass c r t) (none-before (firstMember p r 0) t (λ j b g. first-skips p r 0 j (omega arith) b g))
+        (subst (λ (u : ConstraintSet). chained ms r 128 (firstMember p r 0) u ≡ joinClass c r t)
+        (none-before (firstMember p r 0) t (λ j b g. first-skips p r 0 j (omega arith) b g))
         (chain-all 128 (firstMember p r 0) t (omega arith) (first-at-most p r 0 (omega arith)) (λ b. first-member p r 0 (omega arith) b)))
   ]
 
@@ -143,7 +151,8 @@ module _ (i : ℕ) (t : ConstraintSet) where
 -- ---- residuals
 -- one turn of the loop over the residuals of b
 module _ (t : ConstraintSet) (others : List ℕ) (i : ℕ) (list : List ℕ) (count : ℕ) (refused : Bool) (k : Kept)
-    (es : withResiduals t list count ≡ stepsTo (mergeResidual others) i t) (er : refused ≡ not (roomTo t others i)) (ek : k ≡ keptBy list count (getD others i 0)) where
+    (es : withResiduals t list count ≡ stepsTo (mergeResidual others) i t) (er : refused ≡ not (roomTo t others i))
+    (ek : k ≡ keptBy list count (getD others i 0)) where
   abbrev u : ConstraintSet
   u = withResiduals t list count
 
@@ -160,7 +169,8 @@ module _ (t : ConstraintSet) (others : List ℕ) (i : ℕ) (list : List ℕ) (co
       turn false y = refl
 
 -- ---- the parts of a merge put together
-module _ (a b t1 t2 t3 t4 : ConstraintSet) (m : Applied) (e1 : t1 ≡ mergeClasses (flagIf (b .contradictory) a) (b .«equivalence_classes»)) (e2 : t2 ≡ mergeLiterals t1 (literals b))
+module _ (a b t1 t2 t3 t4 : ConstraintSet) (m : Applied) (e1 : t1 ≡ mergeClasses (flagIf (b .contradictory) a) (b .«equivalence_classes»))
+    (e2 : t2 ≡ mergeLiterals t1 (literals b))
     (e3 : t3 ≡ mergeRanges t2 (b .ranges)) (e4 : t4 ≡ mergeNonNulls t3 (nonNulls b)) (em : m ≡ residualsKept t4 (handles b) (b .residuals)) where
   whole : m ≡ residualsKept (mergeValues a b) (handles b) (b .residuals)
   whole = rw (em, e4, e3, e2, e1)

@@ -54,7 +54,8 @@ module _ (s : ConstraintSet) (g : Settled s) (l r : ℕ) (hl : l < 128) (hr : r 
   apart : min x y < max x y → unionValues s l r ≡ unitedRoots s (min x y) (max x y)
   unfolding unionValues
   apart h =
-      ap (unionBy s) (union-joined (s .«equivalence_classes») l r hl hr (omega arith)) ∙ (unfold joined in joined-normalized s g (min x y) (max x y) h high-small own-low)
+      ap (unionBy s) (union-joined (s .«equivalence_classes») l r hl hr (omega arith))
+      ∙ (unfold joined in joined-normalized s g (min x y) (max x y) h high-small own-low)
 
   together : (min x y < max x y → ⊥) → s ≡ unionValues s l r
   unfolding unionValues
@@ -74,7 +75,8 @@ module _ (s : ConstraintSet) (g : Settled s) (l r : ℕ) (hl : l < 128) (hr : r 
   high-below = subst (λ (v : RootPair). v .high < 128) (sym ew) (high-small s g l r hl hr)
 
   -- one turn of the loop, with a union and without
-  pub turned : (at : Place) (bare : Holder) (nowhere : Entry) → w .low < w .high → at ≡ placeAt s (w .low) (w .high) → bare ≡ none → nowhere ≡ noEntry → rootsWritten s w at bare nowhere ≡ unionValues s l r
+  pub turned : (at : Place) (bare : Holder) (nowhere : Entry) → w .low < w .high → at ≡ placeAt s (w .low) (w .high) → bare ≡ none → nowhere ≡ noEntry
+      → rootsWritten s w at bare nowhere ≡ unionValues s l r
   unfolding rootPair unitedRoots joined nullOn
   turned at bare nowhere h ea eb en =
       (λ i. rootsWritten s (ew i) ((ea ∙ ap (λ (v : RootPair). placeAt s (v .low) (v .high)) ew) i) (eb i) (en i))
@@ -89,7 +91,8 @@ pub not-yet : (t : ConstraintSet) → SettledIf (joining t false)
 not-yet t e = absurd (subst T (sym e) tt)
 
 module _ (s : ConstraintSet) (l r : ℕ) (u : United) (eu : u ≡ unionOf (s .«equivalence_classes») l r) where
-  pub fully-joined : (t : ConstraintSet) (ok : Bool) → length (u .classes .parents) ≡ 128 → u .joined ≡ true → ok ≡ parentsOk (u .classes .parents) → t ≡ normalized (withClasses s (u .classes))
+  pub fully-joined : (t : ConstraintSet) (ok : Bool) → length (u .classes .parents) ≡ 128 → u .joined ≡ true → ok ≡ parentsOk (u .classes .parents) → t
+      ≡ normalized (withClasses s (u .classes))
       → JoinedTo (joining t ok) (unionValues s l r)
   unfolding unionValues
   fully-joined t ok long ej eo et = record {

@@ -108,14 +108,18 @@ upper-same l b = go (b .value) (b .present) (b .inclusive)
     go x true i f e = refl
     go x false i f e = ap (λ (c : Bound). between l c) (sym (blank-bound (bound x false i) f e))
 
-range-same : (l u : Bound) → T (fits binary64 (l .value)) → T (fits binary64 (u .value)) → readyBound l && readyBound u ≡ true → tightenBy unboundedRange (between l u) ≡ between l u
-range-same l u fl fu e = ap (λ (t : ValueRange). upperBy t u) (lower-same l fl (and-left (readyBound l) (readyBound u) e)) ∙ upper-same l u fu (and-right (readyBound l) (readyBound u) e)
+range-same : (l u : Bound) → T (fits binary64 (l .value)) → T (fits binary64 (u .value)) → readyBound l && readyBound u ≡ true → tightenBy unboundedRange
+    (between l u) ≡ between l u
+range-same l u fl fu e = ap (λ (t : ValueRange). upperBy t u) (lower-same l fl (and-left (readyBound l) (readyBound u) e)) ∙ upper-same l u fu
+    (and-right (readyBound l) (readyBound u) e)
 
 abbrev entry : Bool → ValueRange → Entry
 entry p r = record { present = p; range = r }
 
-blank-entry : (l u : Bound) → T (fits binary64 (l .value)) → T (fits binary64 (u .value)) → blankBound l && blankBound u ≡ true → entry false (between l u) ≡ noEntry
-blank-entry l u fl fu e = λ i. entry false (between (blank-bound l fl (and-left (blankBound l) (blankBound u) e) i) (blank-bound u fu (and-right (blankBound l) (blankBound u) e) i))
+blank-entry : (l u : Bound) → T (fits binary64 (l .value)) → T (fits binary64 (u .value)) → blankBound l && blankBound u ≡ true → entry false (between l u)
+    ≡ noEntry
+blank-entry l u fl fu e = λ i. entry false (between (blank-bound l fl (and-left (blankBound l) (blankBound u) e) i)
+    (blank-bound u fu (and-right (blankBound l) (blankBound u) e) i))
 
 pub entry-away : (e : Entry) → FitsEntry e → readyEntry false e ≡ true → e ≡ noEntry
 unfolding readyEntry
@@ -129,7 +133,8 @@ pub entry-same : (root : Bool) (e : Entry) → FitsEntry e → readyEntry root e
 unfolding readyEntry rangeOn
 entry-same root e = go (e .present) (e .range .lower) (e .range .upper)
   where
-    go : (p : Bool) (l u : Bound) → FitsEntry (entry p (between l u)) → readyEntry root (entry p (between l u)) ≡ true → rangeOn noEntry (entry p (between l u)) ≡ entry p (between l u)
+    go : (p : Bool) (l u : Bound) → FitsEntry (entry p (between l u)) → readyEntry root (entry p (between l u)) ≡ true → rangeOn noEntry
+        (entry p (between l u)) ≡ entry p (between l u)
     go true l u f t = ap (entry true) (range-same l u (f .0) (f .1) (and-right root _ t))
     go false l u f t = sym (blank-entry l u (f .0) (f .1) t)
 
@@ -156,7 +161,8 @@ lower-back : (l u : Bound) → tightenBy unboundedRange (between l u) ≡ betwee
 unfolding readyBound
 lower-back l u = go (l .value) (l .present) (l .inclusive) (u .present) (u .value) (u .inclusive)
   where
-    go : (x : Float) (p i q : Bool) (y : Float) (j : Bool) → tightenBy unboundedRange (between (bound x p i) (bound y q j)) ≡ between (bound x p i) (bound y q j) → Comparable (bound x p i) → readyBound (bound x p i) ≡ true
+    go : (x : Float) (p i q : Bool) (y : Float) (j : Bool) → tightenBy unboundedRange (between (bound x p i) (bound y q j)) ≡ between (bound x p i)
+        (bound y q j) → Comparable (bound x p i) → readyBound (bound x p i) ≡ true
     go x true i q y j s t = ap not (t refl)
     go x false i true y j s t = no-bound-blank (bound x false i) (ap (λ (r : ValueRange). r .lower) s)
     go x false i false y j s t = no-bound-blank (bound x false i) (ap (λ (r : ValueRange). r .lower) s)
@@ -165,7 +171,8 @@ upper-back : (l u : Bound) → tightenBy unboundedRange (between l u) ≡ betwee
 unfolding readyBound
 upper-back l u = go (u .value) (u .present) (u .inclusive) (l .present) (l .value) (l .inclusive)
   where
-    go : (x : Float) (p i q : Bool) (y : Float) (j : Bool) → tightenBy unboundedRange (between (bound y q j) (bound x p i)) ≡ between (bound y q j) (bound x p i) → Comparable (bound x p i) → readyBound (bound x p i) ≡ true
+    go : (x : Float) (p i q : Bool) (y : Float) (j : Bool) → tightenBy unboundedRange (between (bound y q j) (bound x p i)) ≡ between (bound y q j)
+        (bound x p i) → Comparable (bound x p i) → readyBound (bound x p i) ≡ true
     go x true i q y j s t = ap not (t refl)
     go x false i true y j s t = no-bound-blank (bound x false i) (ap (λ (r : ValueRange). r .upper) s)
     go x false i false y j s t = no-bound-blank (bound x false i) (ap (λ (r : ValueRange). r .upper) s)
@@ -174,10 +181,13 @@ pub entry-back : (root : Bool) (e : Entry) → (root ≡ false → e ≡ noEntry
 unfolding readyEntry rangeOn
 entry-back root e = go root (e .present) (e .range .lower) (e .range .upper)
   where
-    go : (r p : Bool) (l u : Bound) → (r ≡ false → entry p (between l u) ≡ noEntry) → rangeOn noEntry (entry p (between l u)) ≡ entry p (between l u) → Bounded (entry p (between l u)) → readyEntry r (entry p (between l u)) ≡ true
-    go true true l u a s t = and-both (readyBound l) (readyBound u) (lower-back l u (ap (λ (e : Entry). e .range) s) (t refl .0)) (upper-back l u (ap (λ (e : Entry). e .range) s) (t refl .1))
+    go : (r p : Bool) (l u : Bound) → (r ≡ false → entry p (between l u) ≡ noEntry) → rangeOn noEntry (entry p (between l u)) ≡ entry p (between l u)
+        → Bounded (entry p (between l u)) → readyEntry r (entry p (between l u)) ≡ true
+    go true true l u a s t = and-both (readyBound l) (readyBound u) (lower-back l u (ap (λ (e : Entry). e .range) s) (t refl .0))
+        (upper-back l u (ap (λ (e : Entry). e .range) s) (t refl .1))
     go false true l u a s t = absurd (true≢false (ap (λ (e : Entry). e .present) (a refl)))
-    go r false l u a s t = and-both (blankBound l) (blankBound u) (no-bound-blank l (ap (λ (e : Entry). e .range .lower) s)) (no-bound-blank u (ap (λ (e : Entry). e .range .upper) s))
+    go r false l u a s t = and-both (blankBound l) (blankBound u) (no-bound-blank l (ap (λ (e : Entry). e .range .lower) s))
+        (no-bound-blank u (ap (λ (e : Entry). e .range .upper) s))
 
 -- ---- all of one place
 pub record Parts (root flag n : Bool) (h : Holder) (e : Entry) : Type 0 where
@@ -230,7 +240,8 @@ uncrossed flag h e = go flag (e .present && emptyRange (e .range)) (crossed h e)
     go false true c q t = absurd (false≢true q)
     go false false c q t = not-true c q
 
-pub quiet-back : (flag : Bool) (h : Holder) (e : Entry) → ((e .present && emptyRange (e .range)) ≡ true → flag ≡ true) → (crossed h e ≡ true → flag ≡ true) → (flag || quietPlace h e) ≡ true
+pub quiet-back : (flag : Bool) (h : Holder) (e : Entry) → ((e .present && emptyRange (e .range)) ≡ true → flag ≡ true) → (crossed h e ≡ true → flag ≡ true)
+    → (flag || quietPlace h e) ≡ true
 unfolding quietPlace
 quiet-back flag h e = go flag (e .present && emptyRange (e .range)) (crossed h e)
   where

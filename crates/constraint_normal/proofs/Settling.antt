@@ -23,7 +23,8 @@ use Rattle.constraint_normal.specs.Ready.{Ready}
 use Rattle.constraint_normal.specs.ReadyPlaces.{blankScalar, readyHolder, blankBound, readyEntry, quietPlace, readyPlace, readyAt, readyOf}
 use Rattle.constraint_normal.proofs.Floats.{zero-bits}
 use Rattle.constraint_normal.proofs.SetTyped.{Held}
-use Rattle.constraint_normal.proofs.Contents.{holder-away, holder-same, holder-back, entry-away, entry-same, entry-bounded, entry-back, same-empty, Parts, parts, whole, null-away, null-back, flagged, uncrossed, quiet-back}
+use Rattle.constraint_normal.proofs.Contents.{holder-away, holder-same, holder-back, entry-away, entry-same, entry-bounded, entry-back}
+use Rattle.constraint_normal.proofs.Contents.{same-empty, Parts, parts, whole, null-away, null-back, flagged, uncrossed, quiet-back}
 
 abbrev isRoot : ConstraintSet → ℕ → Bool
 isRoot s i = eqb (canonicalAt s i) i
@@ -82,7 +83,8 @@ pub ready-set : (s : ConstraintSet) → Held s → readyOf s ≡ true → Ready 
 unfolding readyOf readyAt
 ready-set s k e =
     all-ready s k (and-left _ _ e)
-    (λ i h. parts (isRoot s i) (s .contradictory) (nonNullAt s i) (literalAt s i) (entryAt s i) (table (readyAt s) 128 (and-right (parentsOk (parentsOf s)) _ e) i h))
+    (λ i h. parts (isRoot s i) (s .contradictory) (nonNullAt s i) (literalAt s i) (entryAt s i)
+    (table (readyAt s) 128 (and-right (parentsOk (parentsOf s)) _ e) i h))
 
 -- ---- and of every set that is ready it says so
 module _ (s : ConstraintSet) (r : Ready s) (i : ℕ) (h : i < 128) where

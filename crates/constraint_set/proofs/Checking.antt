@@ -11,7 +11,8 @@ use borrow.Author.Tests.{lt-ltb}
 use Rattle.lists.specs.Ranges.{anyFrom}
 use Rattle.scalar.specs.Kinds.{isNull}
 use Rattle.scalar.specs.declared.ScalarValue.{ScalarValue}
-use Rattle.constraint_spec.specs.Sets.{none, literals, literalAt, entryAt, crossed, crossedAt, crossCheck, withFlag, flagIf, clashes, canonicalAt, putNonNull, putLiteral, addLiteral}
+use Rattle.constraint_spec.specs.Sets.{none, literals, literalAt, entryAt, crossed, crossedAt, crossCheck, withFlag, flagIf, clashes, canonicalAt}
+use Rattle.constraint_spec.specs.Sets.{putNonNull, putLiteral, addLiteral}
 use Rattle.constraint_spec.specs.declared.Holder.{Holder}
 use Rattle.constraint_spec.specs.declared.ConstraintSet.{ConstraintSet}
 use Rattle.constraint_spec.proofs.Operations.{any-at}
@@ -86,14 +87,16 @@ pub crossed-flagged : (s : ConstraintSet) → Checked s → (k : ℕ) → k < 12
 crossed-flagged s c k h e = sym c ∙ or-second (s .contradictory) _ (any-true (crossedAt s) 128 0 k (omega arith) (omega arith) e)
 
 -- t is s with something else at r, and with s's flag if that was set
-pub one-place-only : (s t : ConstraintSet) → Checked s → (r : ℕ) → r < 128 → ((k : ℕ) → (k ≡ r → ⊥) → crossedAt t k ≡ crossedAt s k) → (s .contradictory ≡ true → t .contradictory ≡ true)
+pub one-place-only : (s t : ConstraintSet) → Checked s → (r : ℕ) → r < 128 → ((k : ℕ) → (k ≡ r → ⊥) → crossedAt t k ≡ crossedAt s k)
+    → (s .contradictory ≡ true → t .contradictory ≡ true)
     → crossCheck t ≡ flagIf (crossedAt t r) t
 one-place-only s t c r low other stays = check-one t r low (λ k h d e. stays (crossed-flagged s c k h (sym (other k d) ∙ e)))
 
 -- a check of all places finds what a check of one found
 pub check-again : (t : ConstraintSet) (r : ℕ) → r < 128 → crossCheck (flagIf (crossedAt t r) t) ≡ crossCheck t
 unfolding crossCheck
-check-again t r low = ap (λ (b : Bool). withFlag t b) (both (t .contradictory) (crossedAt t r) (anyFrom (crossedAt t) 0 128) (any-true (crossedAt t) 128 0 r (omega arith) (omega arith)))
+check-again t r low = ap (λ (b : Bool). withFlag t b)
+    (both (t .contradictory) (crossedAt t r) (anyFrom (crossedAt t) 0 128) (any-true (crossedAt t) 128 0 r (omega arith) (omega arith)))
   where
     both : (f x a : Bool) → (x ≡ true → a ≡ true) → ((f || x) || a) ≡ (f || a)
     both true x a h = refl
@@ -116,7 +119,8 @@ module _ (s : ConstraintSet) (c : Checked s) (r : ℕ) (low : r < 128) (l : Scal
   pub one-place : crossCheck after ≡ flagIf (crossedAt after r) after
   one-place = one-place-only s after c r low other stays
 
-  pub literal-checked : (i : ℕ) → i < 128 → r ≡ canonicalAt s i → isNull l ≡ false → (u : ConstraintSet) (x : Bool) → u ≡ after → x ≡ crossedAt u r → flagIf x u ≡ addLiteral s i l
+  pub literal-checked : (i : ℕ) → i < 128 → r ≡ canonicalAt s i → isNull l ≡ false → (u : ConstraintSet) (x : Bool) → u ≡ after → x ≡ crossedAt u r → flagIf x
+      u ≡ addLiteral s i l
   literal-checked i h d n u x eu ex =
       ap (λ (b : Bool). flagIf b u) ex ∙ ap (λ (v : ConstraintSet). flagIf (crossedAt v r) v) eu ∙ sym one-place
       ∙ literal-added s i h r d l after (crossCheck after) n refl refl

@@ -11,7 +11,10 @@ use Rattle.scalar.specs.declared.ScalarValue.{ScalarValue}
 use Rattle.value_range.specs.Ranges.{noBound, boundAt, unboundedRange, takesLower, takesUpper, tightenLower, tightenUpper, emptyRange}
 use Rattle.value_range.specs.declared.Bound.{Bound}
 use Rattle.value_range.specs.declared.ValueRange.{ValueRange}
-use Rattle.constraint_spec.specs.Sets.{none, held, noEntry, blank, entryOf, nonNulls, literals, nonNullAt, literalAt, entryAt, canonicalAt, withNonNulls, withLiterals, withRanges, withFlag, clashes, rangeIn, lowerBy, upperBy, tightenBy, putNonNull, putLiteral, layRange, putRange, stepsTo, moveNonNull, moveLiteral, moveRange, nonNullsMoved, literalsMoved, rangesMoved}
+use Rattle.constraint_spec.specs.Sets.{none, held, noEntry, blank, entryOf, nonNulls, literals, nonNullAt, literalAt, entryAt, canonicalAt}
+use Rattle.constraint_spec.specs.Sets.{withNonNulls, withLiterals, withRanges, withFlag, clashes, rangeIn, lowerBy, upperBy, tightenBy, putNonNull}
+use Rattle.constraint_spec.specs.Sets.{putLiteral, layRange, putRange, stepsTo, moveNonNull, moveLiteral, moveRange, nonNullsMoved, literalsMoved}
+use Rattle.constraint_spec.specs.Sets.{rangesMoved}
 use Rattle.constraint_spec.specs.declared.Holder.{Holder}
 use Rattle.constraint_spec.specs.declared.Entry.{Entry}
 use Rattle.constraint_spec.specs.declared.ConstraintSet.{ConstraintSet}
@@ -63,8 +66,17 @@ split : (r : ValueRange) → tightenBy unboundedRange r ≡ record { lower = cle
 split r = go (r .lower .present) (r .upper .present)
   where
     go : (p q : Bool) →
-        tightenBy unboundedRange (record { lower = record { value = r .lower .value; present = p; inclusive = r .lower .inclusive }; upper = record { value = r .upper .value; present = q; inclusive = r .upper .inclusive } })
-        ≡ record { lower = cond p (boundAt (r .lower .value) (r .lower .inclusive)) noBound; upper = cond q (boundAt (r .upper .value) (r .upper .inclusive)) noBound }
+        tightenBy unboundedRange
+        (record {
+          lower = record { value = r .lower .value; present = p; inclusive = r .lower .inclusive };
+          upper = record
+              { value = r .upper .value; present = q; inclusive = r .upper .inclusive };
+        })
+        ≡ record {
+          lower = cond p (boundAt (r .lower .value) (r .lower .inclusive)) noBound;
+          upper = cond q (boundAt (r .upper .value) (r .upper .inclusive))
+              noBound;
+        }
     go true true = refl
     go true false = refl
     go false true = refl
@@ -81,12 +93,14 @@ whole-clean r w = split r ∙ (λ i. record { lower = w .0 i; upper = w .1 i })
 lower-whole : (t : ValueRange) (b : Bound) → Whole t → Whole (lowerBy t b)
 lower-whole t b w =
     pick-has Whole (b .present) (tightenLower t (b .value) (b .inclusive)) t
-    (λ u. pick-has Whole (takesLower (t .lower) (b .value) (b .inclusive)) (record { lower = boundAt (b .value) (b .inclusive); upper = t .upper }) t (λ v. (refl, w .1)) w) w
+    (λ u. pick-has Whole (takesLower (t .lower) (b .value) (b .inclusive)) (record { lower = boundAt (b .value) (b .inclusive); upper = t .upper }) t
+    (λ v. (refl, w .1)) w) w
 
 upper-whole : (t : ValueRange) (b : Bound) → Whole t → Whole (upperBy t b)
 upper-whole t b w =
     pick-has Whole (b .present) (tightenUpper t (b .value) (b .inclusive)) t
-    (λ u. pick-has Whole (takesUpper (t .upper) (b .value) (b .inclusive)) (record { lower = t .lower; upper = boundAt (b .value) (b .inclusive) }) t (λ v. (w .0, refl)) w) w
+    (λ u. pick-has Whole (takesUpper (t .upper) (b .value) (b .inclusive)) (record { lower = t .lower; upper = boundAt (b .value) (b .inclusive) }) t
+    (λ v. (w .0, refl)) w) w
 
 clean-tightened : (t new : ValueRange) → Clean t → Clean (tightenBy t new)
 clean-tightened t new c =
@@ -105,7 +119,8 @@ clean-in : (x : Entry) → rangeOn noEntry x ≡ x → Clean (rangeIn x)
 unfolding rangeOn
 clean-in x e = go (x .present) (x .range) e
   where
-    go : (p : Bool) (r : ValueRange) → _≡_ {A = Entry} (cond p (entryOf (tightenBy unboundedRange r)) noEntry) (record { present = p; range = r }) → Clean (cond p r unboundedRange)
+    go : (p : Bool) (r : ValueRange) → _≡_ {A = Entry} (cond p (entryOf (tightenBy unboundedRange r)) noEntry) (record { present = p; range = r }) → Clean
+        (cond p r unboundedRange)
     go true r e = ap (λ (y : Entry). y .range) e
     go false r e = refl
 
@@ -113,7 +128,8 @@ pub range-again : (x y : Entry) → rangeOn noEntry x ≡ x → rangeOn noEntry 
 unfolding rangeOn
 range-again x y e = go (y .present) (y .range) (λ r. clean-tightened (rangeIn x) r (clean-in x e))
   where
-    go : (p : Bool) (r : ValueRange) → ((r : ValueRange) → Clean (tightenBy (rangeIn x) r)) → rangeOn noEntry (rangeOn x (record { present = p; range = r })) ≡ rangeOn x (record { present = p; range = r })
+    go : (p : Bool) (r : ValueRange) → ((r : ValueRange) → Clean (tightenBy (rangeIn x) r)) → rangeOn noEntry (rangeOn x (record { present = p; range = r }))
+        ≡ rangeOn x (record { present = p; range = r })
     go true r c = ap entryOf (c r)
     go false r c = e
 
@@ -121,7 +137,8 @@ pub range-tells : (x y : Entry) → rangeOn noEntry x ≡ x → rangeBad noEntry
 unfolding rangeOn rangeBad
 range-tells x y e t = go (y .present) (y .range) (λ r. clean-tightened (rangeIn x) r (clean-in x e)) t
   where
-    go : (p : Bool) (r : ValueRange) → ((r : ValueRange) → Clean (tightenBy (rangeIn x) r)) → rangeBad noEntry (rangeOn x (record { present = p; range = r })) ≡ true
+    go : (p : Bool) (r : ValueRange) → ((r : ValueRange) → Clean (tightenBy (rangeIn x) r)) → rangeBad noEntry (rangeOn x (record { present = p; range = r }))
+        ≡ true
         → (rangeBad x (record { present = p; range = r }) ≡ true) ⊎ (rangeBad noEntry x ≡ true)
     go true r c t = inl (ap emptyRange (sym (c r)) ∙ t)
     go false r c t = inr t
@@ -143,7 +160,8 @@ module _ (s : ConstraintSet) where
   abbrev pub emptyTo : ℕ → Bool
   emptyTo k = flagTo noEntry rangeOn (canonicalAt s) blank (s .ranges) rangeBad (s .contradictory) k
 
-  one-null : (l : List Bool) (r : ℕ) (b : Bool) → cond b (putNonNull (withNonNulls s l) r) (withNonNulls s l) ≡ withNonNulls s (set l r (nullOn (getD l r false) b))
+  one-null : (l : List Bool) (r : ℕ) (b : Bool) → cond b (putNonNull (withNonNulls s l) r) (withNonNulls s l) ≡ withNonNulls s
+      (set l r (nullOn (getD l r false) b))
   unfolding putNonNull nullOn
   one-null l r true = ap (λ (b : Bool). withNonNulls s (set l r b)) (sym (or-true (getD l r false)))
   one-null l r false = ap (withNonNulls s) (sym (ap (set l r) (or-false (getD l r false)) ∙ set-getD l r false))
@@ -171,12 +189,14 @@ module _ (s : ConstraintSet) where
       go false v = λ i. litUp (sym (set-getD l r none) i) (sym (or-false f) i)
 
   one-range : (l : List Entry) (f : Bool) (r : ℕ) (e : Entry)
-      → cond (e .present) (putRange (withFlag (withRanges s l) f) r (e .range)) (withFlag (withRanges s l) f) ≡ withFlag (withRanges s (set l r (rangeOn (getD l r blank) e))) (f || rangeBad (getD l r blank) e)
+      → cond (e .present) (putRange (withFlag (withRanges s l) f) r (e .range)) (withFlag (withRanges s l) f) ≡ withFlag
+      (withRanges s (set l r (rangeOn (getD l r blank) e))) (f || rangeBad (getD l r blank) e)
   unfolding putRange layRange rangeOn rangeBad
   one-range l f r e = go (e .present) (e .range)
     where
       go : (p : Bool) (v : ValueRange) → cond p (putRange (withFlag (withRanges s l) f) r v) (withFlag (withRanges s l) f)
-          ≡ withFlag (withRanges s (set l r (cond p (entryOf (tightenBy (rangeIn (getD l r blank)) v)) (getD l r blank)))) (f || (p && emptyRange (tightenBy (rangeIn (getD l r blank)) v)))
+          ≡ withFlag (withRanges s (set l r (cond p (entryOf (tightenBy (rangeIn (getD l r blank)) v)) (getD l r blank))))
+          (f || (p && emptyRange (tightenBy (rangeIn (getD l r blank)) v)))
       go true v = refl
       go false v = λ i. withFlag (withRanges s (sym (set-getD l r blank) i)) (sym (or-false f) i)
 

@@ -15,7 +15,10 @@ use Rattle.value_range.specs.Ranges.{emptyRange}
 use Rattle.value_range.specs.declared.ValueRange.{ValueRange}
 use Rattle.comparison.specs.Operators.{bounding}
 use Rattle.comparison.specs.declared.BinaryOp.{BinaryOp}
-use Rattle.constraint_spec.specs.Sets.{crossCheck, boundsBy, addBound, none, held, noEntry, entryOf, nonNulls, literals, nonNullAt, literalAt, entryAt, canonicalAt, withNonNulls, withLiterals, withRanges, flagIf, clashes, rangeIn, tightenBy, putNonNull, putLiteral, layRange, putRange, stepsTo, moveNonNull, moveLiteral, moveRange, nonNullsMoved, literalsMoved, rangesMoved, addLiteral, mergeLiteral}
+use Rattle.constraint_spec.specs.Sets.{crossCheck, boundsBy, addBound, none, held, noEntry, entryOf, nonNulls, literals, nonNullAt, literalAt}
+use Rattle.constraint_spec.specs.Sets.{entryAt, canonicalAt, withNonNulls, withLiterals, withRanges, flagIf, clashes, rangeIn, tightenBy, putNonNull}
+use Rattle.constraint_spec.specs.Sets.{putLiteral, layRange, putRange, stepsTo, moveNonNull, moveLiteral, moveRange, nonNullsMoved, literalsMoved}
+use Rattle.constraint_spec.specs.Sets.{rangesMoved, addLiteral, mergeLiteral}
 use Rattle.constraint_spec.specs.declared.Holder.{Holder}
 use Rattle.constraint_spec.specs.declared.Entry.{Entry}
 use Rattle.constraint_spec.specs.declared.ConstraintSet.{ConstraintSet}
@@ -42,16 +45,19 @@ literalWritten t r now clash = flagIf clash (withLiterals t (set (literals t) r 
 abbrev pub rangeWritten : ConstraintSet → ℕ → Entry → ConstraintSet
 rangeWritten t r now = withRanges t (set (t .ranges) r now)
 
-pub literal-put : (t : ConstraintSet) (r : ℕ) (l : ScalarValue) (clash : Bool) (now : Holder) → clash ≡ clashes (literalAt t r) l → now ≡ cond clash (literalAt t r) (held l)
+pub literal-put : (t : ConstraintSet) (r : ℕ) (l : ScalarValue) (clash : Bool) (now : Holder) → clash ≡ clashes (literalAt t r) l → now ≡ cond clash
+    (literalAt t r) (held l)
     → literalWritten t r now clash ≡ putLiteral t r l
 unfolding putLiteral
 literal-put t r l clash now ec en = rw (← ec, ← en)
 
-pub range-lay : (t : ConstraintSet) (r : ℕ) (new range : ValueRange) (now : Entry) → range ≡ tightenBy (rangeIn (entryAt t r)) new → now ≡ entryOf range → rangeWritten t r now ≡ layRange t r new
+pub range-lay : (t : ConstraintSet) (r : ℕ) (new range : ValueRange) (now : Entry) → range ≡ tightenBy (rangeIn (entryAt t r)) new → now ≡ entryOf range
+    → rangeWritten t r now ≡ layRange t r new
 unfolding layRange
 range-lay t r new range now er en = rw (← er, ← en)
 
-pub range-put : (t : ConstraintSet) (r : ℕ) (new range : ValueRange) (now : Entry) (empty : Bool) → range ≡ tightenBy (rangeIn (entryAt t r)) new → now ≡ entryOf range → empty ≡ emptyRange range
+pub range-put : (t : ConstraintSet) (r : ℕ) (new range : ValueRange) (now : Entry) (empty : Bool) → range ≡ tightenBy (rangeIn (entryAt t r)) new → now
+    ≡ entryOf range → empty ≡ emptyRange range
     → flagIf empty (rangeWritten t r now) ≡ putRange t r new
 unfolding putRange layRange
 range-put t r new range now empty er en ee = rw (← er, ← en, ← ee)
@@ -65,12 +71,15 @@ module _ (s : ConstraintSet) (i : ℕ) (h : i < 128) (r : ℕ) (d : r ≡ canoni
   unfolding addLiteral
   literal-added l u q n eu eq = rw (lt-ltb _ _ h, n, ← d) (eq ∙ ap crossCheck eu)
 
-  pub bound-added : (op : BinaryOp) (x : Float) (new range : ValueRange) (now : Entry) (empty : Bool) (q : ConstraintSet) → bounding op ≡ true → new ≡ boundsBy op x → range ≡ tightenBy (rangeIn (entryAt s r)) new
+  pub bound-added : (op : BinaryOp) (x : Float) (new range : ValueRange) (now : Entry) (empty : Bool) (q : ConstraintSet) → bounding op ≡ true → new
+      ≡ boundsBy op x → range ≡ tightenBy (rangeIn (entryAt s r)) new
       → now ≡ entryOf range → empty ≡ emptyRange range → q ≡ crossCheck (flagIf empty (rangeWritten (nullWritten s r) r now)) → q ≡ addBound s i op x
   unfolding addBound putNonNull
-  bound-added op x new range now empty q b e er en ee eq = rw (lt-ltb _ _ h, b, ← d, ← e) (eq ∙ ap crossCheck (range-put (nullWritten s r) r new range now empty er en ee))
+  bound-added op x new range now empty q b e er en ee eq = rw (lt-ltb _ _ h, b, ← d, ← e)
+      (eq ∙ ap crossCheck (range-put (nullWritten s r) r new range now empty er en ee))
 
-  pub entry-added : (op : BinaryOp) (x : Float) (new range : ValueRange) (now : Entry) → bounding op ≡ false → new ≡ boundsBy op x → range ≡ tightenBy (rangeIn (entryAt s r)) new → now ≡ entryOf range
+  pub entry-added : (op : BinaryOp) (x : Float) (new range : ValueRange) (now : Entry) → bounding op ≡ false → new ≡ boundsBy op x → range ≡ tightenBy
+      (rangeIn (entryAt s r)) new → now ≡ entryOf range
       → rangeWritten (nullWritten s r) r now ≡ addBound s i op x
   unfolding addBound putNonNull
   entry-added op x new range now b e er en = rw (lt-ltb _ _ h, b, ← d, ← e) (range-lay (nullWritten s r) r new range now er en)
@@ -95,7 +104,8 @@ module _ (s : ConstraintSet) (i : ℕ) (t : ConstraintSet) where
   null-idle v e = steps-next (moveNonNull s) _ i t t v (rw e)
 
   pub literal-moved : (r : ℕ) (clash : Bool) (now : Holder) → t ≡ literalsAfter s i → literalAt s i .present ≡ true → r ≡ canonicalAt s i
-      → clash ≡ clashes (literalAt t r) (literalAt s i .value) → now ≡ cond clash (literalAt t r) (held (literalAt s i .value)) → literalWritten t r now clash ≡ literalsAfter s (i + 1)
+      → clash ≡ clashes (literalAt t r) (literalAt s i .value) → now ≡ cond clash (literalAt t r) (held (literalAt s i .value)) → literalWritten t r now clash
+      ≡ literalsAfter s (i + 1)
   unfolding literalsAfter
   literal-moved r clash now v e d ec en = steps-next (moveLiteral s) _ i t _ v (rw (e, ← d) (literal-put t r (literalAt s i .value) clash now ec en))
 
@@ -104,7 +114,8 @@ module _ (s : ConstraintSet) (i : ℕ) (t : ConstraintSet) where
   literal-idle v e = steps-next (moveLiteral s) _ i t t v (rw e)
 
   pub range-moved : (r : ℕ) (range : ValueRange) (empty : Bool) (now : Entry) → t ≡ rangesAfter s i → entryAt s i .present ≡ true → r ≡ canonicalAt s i
-      → range ≡ tightenBy (rangeIn (entryAt t r)) (entryAt s i .range) → empty ≡ emptyRange range → now ≡ entryOf range → flagIf empty (rangeWritten t r now) ≡ rangesAfter s (i + 1)
+      → range ≡ tightenBy (rangeIn (entryAt t r)) (entryAt s i .range) → empty ≡ emptyRange range → now ≡ entryOf range → flagIf empty (rangeWritten t r now)
+      ≡ rangesAfter s (i + 1)
   unfolding rangesAfter
   range-moved r range empty now v e d er ee en = steps-next (moveRange s) _ i t _ v (rw (e, ← d) (range-put t r (entryAt s i .range) range now empty er en ee))
 

@@ -54,7 +54,8 @@ module _ {A : Type 0} (none : A) (put : A → A → A) (root : ℕ → ℕ) (d :
     unfolding filledTo gathered
     filled-at zero r h g = getD-replicate 128 r none d g
     filled-at (suc k) r h g = elim (ℕ-discrete (root k) r) [
-      | yes e ↦ rw (eq-eqb _ _ e, e) (getD-set-same (filledTo k) r _ d (omega (arith, filled-length k)) ∙ ap (λ (x : A). put x (getD l k d)) (filled-at k r (omega arith) g))
+      | yes e ↦ rw (eq-eqb _ _ e, e) (getD-set-same (filledTo k) r _ d (omega (arith, filled-length k)) ∙ ap (λ (x : A). put x (getD l k d))
+          (filled-at k r (omega arith) g))
       | no n ↦ rw (ne-eqb _ _ n) (getD-set-other (filledTo k) (root k) r _ d (λ q. n (sym q)) ∙ filled-at k r (omega arith) g)
     ]
 
@@ -73,7 +74,8 @@ module _ {A : Type 0} (none : A) (put : A → A → A) (root : ℕ → ℕ) (d :
       let p = gathered-has P z more r k in
       pick-has P (eqb (root k) r) (put (gathered r k) (getD l k d)) (gathered r k) (λ t. more (gathered r k) (getD l k d) p) p
 
-  module _ (low : (k : ℕ) → k < 128 → root k < 128) (idem : (k : ℕ) → k < 128 → root (root k) ≡ root k) (empty : put none none ≡ none) (again : (x y : A) → put none x ≡ x → put none (put x y) ≡ put x y) where
+  module _ (low : (k : ℕ) → k < 128 → root k < 128) (idem : (k : ℕ) → k < 128 → root (root k) ≡ root k) (empty : put none none ≡ none)
+      (again : (x y : A) → put none x ≡ x → put none (put x y) ≡ put x y) where
     gathered-same : (r k : ℕ) → put none (gathered r k) ≡ gathered r k
     gathered-same r k = gathered-has (λ (x : A). put none x ≡ x) empty again r k
 
@@ -91,7 +93,8 @@ module _ {A : Type 0} (none : A) (put : A → A → A) (root : ℕ → ℕ) (d :
     flagTo zero = f
     flagTo (suc k) = flagTo k || bad (gathered (root k) k) (getD l k d)
 
-  module _ (bad : A → A → Bool) (f : Bool) (empty : put none none ≡ none) (again : (x y : A) → put none x ≡ x → put none (put x y) ≡ put x y) (calm : bad none none ≡ false)
+  module _ (bad : A → A → Bool) (f : Bool) (empty : put none none ≡ none) (again : (x y : A) → put none x ≡ x → put none (put x y) ≡ put x y)
+      (calm : bad none none ≡ false)
       (tells : (x y : A) → put none x ≡ x → bad none (put x y) ≡ true → (bad x y ≡ true) ⊎ (bad none x ≡ true)) where
     told : (k r : ℕ) → bad none (gathered r k) ≡ true → flagTo bad f k ≡ true
     unfolding gathered flagTo
@@ -214,14 +217,16 @@ module _ {A : Type 0} (none : A) (put : A → A → A) (root : ℕ → ℕ) (d :
 
     hushed : (i : ℕ) → i < 128 → (i ≡ b → ⊥) → bad (now (root i) i) (old i) ≡ true → f ≡ true
     hushed i h m =
-        ⊎-elim (λ (e : old i ≡ none) (t : bad (now (root i) i) (old i) ≡ true). absurd (subst (λ (c : Bool). cond c Unit ⊥) (sym t ∙ ap (bad (now (root i) i)) e ∙ calm (now (root i) i)) tt))
+        ⊎-elim (λ (e : old i ≡ none) (t : bad (now (root i) i) (old i) ≡ true). absurd
+        (subst (λ (c : Bool). cond c Unit ⊥) (sym t ∙ ap (bad (now (root i) i)) e ∙ calm (now (root i) i)) tt))
         (λ e t. quiet i h (subst (λ (x : A). bad x (old i) ≡ true) (ap (λ (r : ℕ). now r i) (e ∙ goes-other a b i m) ∙ before i h m) t))
         (goes i h)
 
     flag-before : (k : ℕ) → k ≤ b → flag k ≡ f
     unfolding flagTo
     flag-before zero h = refl
-    flag-before (suc k) h = ap (λ (c : Bool). c || bad (now (root k) k) (old k)) (flag-before k (omega arith)) ∙ or-keeps f _ (hushed k (omega arith) (omega arith))
+    flag-before (suc k) h = ap (λ (c : Bool). c || bad (now (root k) k) (old k)) (flag-before k (omega arith)) ∙ or-keeps f _
+        (hushed k (omega arith) (omega arith))
 
     met : bad (now (root b) b) (old b) ≡ bad (old a) (old b)
     met = ⊎-elim (λ (e : old b ≡ none). ap (bad (now (root b) b)) e ∙ calm _ ∙ sym (ap (bad (old a)) e ∙ calm _))
@@ -232,7 +237,8 @@ module _ {A : Type 0} (none : A) (put : A → A → A) (root : ℕ → ℕ) (d :
     unfolding flagTo
     flag-after zero lo hi = absurd (omega arith)
     flag-after (suc k) lo hi = elim (ℕ-discrete k b) [
-      | yes e ↦ ap (λ (j : ℕ). flag j || bad (now (root j) j) (old j)) e ∙ ap (λ (c : Bool). c || bad (now (root b) b) (old b)) (flag-before b (omega arith)) ∙ ap (λ (c : Bool). f || c) met
+      | yes e ↦ ap (λ (j : ℕ). flag j || bad (now (root j) j) (old j)) e ∙ ap (λ (c : Bool). c || bad (now (root b) b) (old b)) (flag-before b (omega arith))
+          ∙ ap (λ (c : Bool). f || c) met
       | no n ↦ ap (λ (c : Bool). c || bad (now (root k) k) (old k)) (flag-after k (omega arith) (omega arith))
           ∙ or-keeps (f || bad (old a) (old b)) _ (λ t. or-before f _ (hushed k (omega arith) n t))
     ]

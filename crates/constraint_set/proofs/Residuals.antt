@@ -17,14 +17,16 @@ module _ (s : ConstraintSet) (h : ℕ) where
   abbrev by : Bool → Bool → Kept
   by a b =
       cond a (record { list = handles s; count = s .residuals; refused = false })
-      (cond b (record { list = set (handles s) (s .residuals) h; count = s .residuals + 1; refused = false }) (record { list = handles s; count = s .residuals; refused = true }))
+      (cond b (record { list = set (handles s) (s .residuals) h; count = s .residuals + 1; refused = false })
+      (record { list = handles s; count = s .residuals; refused = true }))
 
   -- a handle pushed by itself
   pub kept-set : withResiduals s (k .list) (k .count) ≡ pushResidual s h
   unfolding keptBy pushResidual
   kept-set = go (hasHandle s h) (ltb (s .residuals) 64)
     where
-      go : (a b : Bool) → withResiduals s (by a b .list) (by a b .count) ≡ cond a s (cond b (withResiduals s (set (handles s) (s .residuals) h) (s .residuals + 1)) s)
+      go : (a b : Bool) → withResiduals s (by a b .list) (by a b .count) ≡ cond a s
+          (cond b (withResiduals s (set (handles s) (s .residuals) h) (s .residuals + 1)) s)
       go true b = refl
       go false true = refl
       go false false = refl
@@ -51,5 +53,6 @@ added s h = go (hasHandle s h) (ltb (s .residuals) 64)
     go false true = refl
     go false false = refl
 
-pub residual-added : (s : ConstraintSet) (h : ℕ) (k : Kept) → k ≡ keptBy (handles s) (s .residuals) h → record { constraints = withResiduals s (k .list) (k .count); refused = k .refused } ≡ addResidual s h
+pub residual-added : (s : ConstraintSet) (h : ℕ) (k : Kept) → k ≡ keptBy (handles s) (s .residuals) h → record
+    { constraints = withResiduals s (k .list) (k .count); refused = k .refused } ≡ addResidual s h
 residual-added s h k e = rw e (λ i. record { constraints = kept-set s h i; refused = kept-refused s h i }) ∙ added s h

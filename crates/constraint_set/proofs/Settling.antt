@@ -11,14 +11,18 @@ use lib.Seq.{getD-set-same, getD-set-other}
 use Rattle.value_classes.specs.Parents.{parentIn, rootOf, parentsOk}
 use Rattle.value_classes.specs.declared.ValueEquivalenceClasses.{ValueEquivalenceClasses}
 use Rattle.value_classes.proofs.RootLaws.{Falls, falls, falls-ok, parent-in, root-below, root-of-own, root-own, root-step, root-idempotent}
-use Rattle.constraint_spec.specs.Sets.{none, noEntry, blank, parentsOf, nonNulls, literals, handles, nonNullAt, literalAt, entryAt, canonicalAt, withClasses, withNonNulls, withLiterals, withFlag, flagIf, crossed, crossedAt, crossCheck, rangesMoved, literalsMoved, normalized}
+use Rattle.constraint_spec.specs.Sets.{none, noEntry, blank, parentsOf, nonNulls, literals, handles, nonNullAt, literalAt, entryAt, canonicalAt}
+use Rattle.constraint_spec.specs.Sets.{withClasses, withNonNulls, withLiterals, withFlag, flagIf, crossed, crossedAt, crossCheck, rangesMoved}
+use Rattle.constraint_spec.specs.Sets.{literalsMoved, normalized}
 use Rattle.constraint_spec.specs.declared.Holder.{Holder}
 use Rattle.constraint_spec.specs.declared.Entry.{Entry}
 use Rattle.constraint_spec.specs.declared.ConstraintSet.{ConstraintSet}
 use Rattle.constraint_set.proofs.Checking.{just-checked, crossed-flagged, check-one}
 use Rattle.constraint_set.specs.Settled.{nullOn, literalOn, literalBad, rangeOn, rangeBad, Stands, Settled, movedTo, placeOf, unitedRoots}
 use Rattle.constraint_set.proofs.Passes.{or-before, goesTo, goes-b, goes-other, filled-stands, flagTo, filled-told, filled-moved, flag-moved}
-use Rattle.constraint_set.proofs.Contents.{null-idle, null-same, literal-idle, literal-again, literal-calm, literal-quiet, range-idle, range-calm, range-again, range-tells, nullsTo, literalsTo, rangesTo, clashTo, nulls-passed, literals-passed, ranges-passed}
+use Rattle.constraint_set.proofs.Contents.{null-idle, null-same, literal-idle, literal-again, literal-calm, literal-quiet, range-idle}
+use Rattle.constraint_set.proofs.Contents.{range-calm, range-again, range-tells, nullsTo, literalsTo, rangesTo, clashTo, nulls-passed}
+use Rattle.constraint_set.proofs.Contents.{literals-passed, ranges-passed}
 
 -- ---- the three passes as one
 abbrev emptyFlag : ConstraintSet → Bool
@@ -62,7 +66,8 @@ module _ (s : ConstraintSet) (many : length (parentsOf s) ≡ 128) (ok : parents
         nulls = filled-stands false nullOn (canonicalAt s) false (nonNulls s) low idem (null-same false) (λ x y e. null-same (nullOn x y));
         equal = filled-stands none literalOn (canonicalAt s) none (literals s) low idem (literal-idle none) literal-again;
         within = filled-stands noEntry rangeOn (canonicalAt s) blank (s .ranges) low idem (range-idle noEntry) range-again;
-        quiet = λ i h e. or-before (emptyFlag s) _ (filled-told noEntry rangeOn (canonicalAt s) blank (s .ranges) rangeBad (clashTo s 128) (range-idle noEntry) range-again (range-calm noEntry) range-tells low i h e);
+        quiet = λ i h e. or-before (emptyFlag s) _ (filled-told noEntry rangeOn (canonicalAt s) blank (s .ranges) rangeBad (clashTo s 128)
+            (range-idle noEntry) range-again (range-calm noEntry) range-tells low i h e);
         checked = just-checked (passed s);
       }
 
@@ -142,30 +147,36 @@ module _ (s : ConstraintSet) (g : Settled s) (a b : ℕ) (less : a < b) (high : 
   low-t i h = root-below (parentsOf t) 128 i (canonicalAt t i) many-t refl h
 
   -- a content that is there goes where its representative goes
-  goes : {A : Type 0} (n : A) (put : A → A → A) (d : A) (l : List A) → Stands n put (canonicalAt s) d l → (i : ℕ) → i < 128 → (getD l i d ≡ n) ⊎ (canonicalAt t i ≡ goesTo a b i)
+  goes : {A : Type 0} (n : A) (put : A → A → A) (d : A) (l : List A) → Stands n put (canonicalAt s) d l → (i : ℕ) → i < 128 → (getD l i d ≡ n)
+      ⊎ (canonicalAt t i ≡ goesTo a b i)
   goes n put d l st i h = elim (ℕ-discrete (canonicalAt s i) i) [
     | yes e ↦ inr (root-goes (parentsOf s) fall a b less (omega (arith, g .many)) own-a i e)
     | no m ↦ inl (st .away i h m)
   ]
 
   nulls-moved : nullsTo t 128 ≡ movedTo (nonNulls s) a b (nullOn (nonNullAt s a) (nonNullAt s b)) false
-  nulls-moved = filled-moved false nullOn (canonicalAt t) false (nonNulls s) a b less high null-idle (g .nulls .same) (goes false nullOn false (nonNulls s) (g .nulls)) low-t (g .nulls .long)
+  nulls-moved = filled-moved false nullOn (canonicalAt t) false (nonNulls s) a b less high null-idle (g .nulls .same)
+      (goes false nullOn false (nonNulls s) (g .nulls)) low-t (g .nulls .long)
 
   literals-moved : literalsTo t 128 ≡ movedTo (literals s) a b holder none
-  literals-moved = filled-moved none literalOn (canonicalAt t) none (literals s) a b less high literal-idle (g .equal .same) (goes none literalOn none (literals s) (g .equal)) low-t (g .equal .long)
+  literals-moved = filled-moved none literalOn (canonicalAt t) none (literals s) a b less high literal-idle (g .equal .same)
+      (goes none literalOn none (literals s) (g .equal)) low-t (g .equal .long)
 
   ranges-moved : rangesTo t 128 ≡ movedTo (s .ranges) a b entry noEntry
-  ranges-moved = filled-moved noEntry rangeOn (canonicalAt t) blank (s .ranges) a b less high range-idle (g .within .same) (goes noEntry rangeOn blank (s .ranges) (g .within)) low-t (g .within .long)
+  ranges-moved = filled-moved noEntry rangeOn (canonicalAt t) blank (s .ranges) a b less high range-idle (g .within .same)
+      (goes noEntry rangeOn blank (s .ranges) (g .within)) low-t (g .within .long)
 
   clash-moved : clashTo t 128 ≡ (s .contradictory || clash)
   clash-moved =
-      flag-moved none literalOn (canonicalAt t) none (literals s) a b less high literal-idle (g .equal .same) (goes none literalOn none (literals s) (g .equal)) literalBad (s .contradictory) literal-calm
+      flag-moved none literalOn (canonicalAt t) none (literals s) a b less high literal-idle (g .equal .same)
+      (goes none literalOn none (literals s) (g .equal)) literalBad (s .contradictory) literal-calm
       (λ i h e. absurd (subst (λ (c : Bool). cond c Unit ⊥) (sym e ∙ literal-quiet (literalAt s i)) tt))
 
   empty-moved : emptyFlag t ≡ ((s .contradictory || clash) || empty)
   empty-moved =
       ap (λ (f : Bool). flagTo noEntry rangeOn (canonicalAt t) blank (s .ranges) rangeBad f 128) clash-moved
-      ∙ flag-moved noEntry rangeOn (canonicalAt t) blank (s .ranges) a b less high range-idle (g .within .same) (goes noEntry rangeOn blank (s .ranges) (g .within)) rangeBad (s .contradictory || clash) range-calm
+      ∙ flag-moved noEntry rangeOn (canonicalAt t) blank (s .ranges) a b less high range-idle (g .within .same)
+      (goes noEntry rangeOn blank (s .ranges) (g .within)) rangeBad (s .contradictory || clash) range-calm
       (λ i h e. or-before (s .contradictory) clash (g .quiet i h e))
 
   -- before the check
@@ -211,7 +222,8 @@ module _ (s : ConstraintSet) (g : Settled s) (a b : ℕ) (less : a < b) (high : 
   joined-normalized =
       passes t low-t ∙ ap crossCheck passed-moved ∙ check-one u a (omega arith) others
       ∙ ap (λ (c : Bool). flagIf c u)
-      (ap₂ crossed (moved-a (literals s) a b holder none none less high (g .equal .long)) (moved-a (s .ranges) a b entry noEntry blank less high (g .within .long)))
+      (ap₂ crossed (moved-a (literals s) a b holder none none less high (g .equal .long))
+      (moved-a (s .ranges) a b entry noEntry blank less high (g .within .long)))
       ∙ ap (withFlag u) (or-regroup (s .contradictory) clash empty (crossed holder entry))
 
   -- and the set is settled again

@@ -24,7 +24,8 @@ rootsWritten s w at bare nowhere =
     }
 
 -- the literal and the range that are then at the lower one
-pub place-made : (h1 h2 h : Holder) (e1 e2 e : Entry) (clash empty x : Bool) → h ≡ literalOn h1 h2 → e ≡ rangeOn e1 e2 → clash ≡ literalBad h1 h2 → empty ≡ rangeBad e1 e2 → x ≡ crossed h e
+pub place-made : (h1 h2 h : Holder) (e1 e2 e : Entry) (clash empty x : Bool) → h ≡ literalOn h1 h2 → e ≡ rangeOn e1 e2 → clash ≡ literalBad h1 h2 → empty
+    ≡ rangeBad e1 e2 → x ≡ crossed h e
     → _≡_ {A = Place} (record { literal = h; entry = e; bad = (clash || empty) || x }) (placeOf h1 h2 e1 e2)
 unfolding placeOf
 place-made h1 h2 h e1 e2 e clash empty x eh ee ec em ex = λ i. record { literal = eh i; entry = ee i; bad = (ec i || em i) || (ex ∙ ap₂ crossed eh ee) i }

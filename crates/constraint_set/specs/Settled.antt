@@ -7,7 +7,8 @@ use Prim.Native.Nat.{ℕ, _<_}
 use lib.ListN.{length, getD, set}
 use Rattle.value_range.specs.Ranges.{emptyRange}
 use Rattle.value_classes.specs.Parents.{parentsOk}
-use Rattle.constraint_spec.specs.Sets.{none, held, noEntry, entryOf, blank, parentsOf, nonNulls, literals, handles, nonNullAt, literalAt, entryAt, canonicalAt, clashes, rangeIn, tightenBy, crossed}
+use Rattle.constraint_spec.specs.Sets.{none, held, noEntry, entryOf, blank, parentsOf, nonNulls, literals, handles, nonNullAt, literalAt, entryAt}
+use Rattle.constraint_spec.specs.Sets.{canonicalAt, clashes, rangeIn, tightenBy, crossed}
 use Rattle.constraint_spec.specs.declared.Holder.{Holder}
 use Rattle.constraint_spec.specs.declared.Entry.{Entry}
 use Rattle.constraint_spec.specs.declared.ConstraintSet.{ConstraintSet}

@@ -12,7 +12,10 @@ use Rattle.value_range.specs.declared.ValueRange.{ValueRange}
 use Rattle.value_classes.specs.declared.ValueEquivalenceClasses.{ValueEquivalenceClasses}
 use Rattle.comparison.specs.Operators.{bounding}
 use Rattle.comparison.specs.declared.BinaryOp.{BinaryOp}
-use Rattle.constraint_spec.specs.Sets.{none, noEntry, parentsOf, handles, literalAt, nonNullAt, entryAt, canonicalAt, withFlag, withNonNulls, withLiterals, withRanges, putNonNull, putLiteral, putRange, layRange, crossCheck, moveNonNull, moveLiteral, moveRange, nonNullsMoved, literalsMoved, rangesMoved, normalized, addNonNull, addLiteral, boundsBy, addBound}
+use Rattle.constraint_spec.specs.Sets.{none, noEntry, parentsOf, handles, literalAt, nonNullAt, entryAt, canonicalAt, withFlag, withNonNulls}
+use Rattle.constraint_spec.specs.Sets.{withLiterals, withRanges, putNonNull, putLiteral, putRange, layRange, crossCheck, moveNonNull}
+use Rattle.constraint_spec.specs.Sets.{moveLiteral, moveRange, nonNullsMoved, literalsMoved, rangesMoved, normalized, addNonNull, addLiteral}
+use Rattle.constraint_spec.specs.Sets.{boundsBy, addBound}
 use Rattle.constraint_spec.specs.declared.ConstraintSet.{ConstraintSet}
 use Rattle.constraint_spec.proofs.Steps.{steps-good, pick-has}
 
@@ -64,14 +67,16 @@ module _ (s t : ConstraintSet) (b : Beside s t) where
   unfolding literalsMoved
   beside-literals =
       steps-good (Beside s) (moveLiteral t) 128
-      (λ i h u e. pick-has (Beside s) (literalAt t i .present) (putLiteral u (canonicalAt t i) (literalAt t i .value)) u (λ c. beside-literal s u e (canonicalAt t i) (literalAt t i .value)) e)
+      (λ i h u e. pick-has (Beside s) (literalAt t i .present) (putLiteral u (canonicalAt t i) (literalAt t i .value)) u
+      (λ c. beside-literal s u e (canonicalAt t i) (literalAt t i .value)) e)
       128 (omega arith) (withLiterals t (replicate 128 none)) (record { classes = b .classes; handles = b .handles; count = b .count })
 
   pub beside-ranges : Beside s (rangesMoved t)
   unfolding rangesMoved
   beside-ranges =
       steps-good (Beside s) (moveRange t) 128
-      (λ i h u e. pick-has (Beside s) (entryAt t i .present) (putRange u (canonicalAt t i) (entryAt t i .range)) u (λ c. beside-range s u e (canonicalAt t i) (entryAt t i .range)) e)
+      (λ i h u e. pick-has (Beside s) (entryAt t i .present) (putRange u (canonicalAt t i) (entryAt t i .range)) u
+      (λ c. beside-range s u e (canonicalAt t i) (entryAt t i .range)) e)
       128 (omega arith) (withRanges t (replicate 128 noEntry)) (record { classes = b .classes; handles = b .handles; count = b .count })
 
 pub beside-normalized : (s t : ConstraintSet) → Beside s t → Beside s (normalized t)
@@ -87,7 +92,8 @@ beside-normalized s t b =
 module _ (s : ConstraintSet) (i : ℕ) where
   pub addNonNull-beside : Beside s (addNonNull s i)
   unfolding addNonNull
-  addNonNull-beside = pick-has (Beside s) (ltb i 128) (putNonNull s (canonicalAt s i)) s (λ t. beside-null s s (beside-self s) (canonicalAt s i)) (beside-self s)
+  addNonNull-beside = pick-has (Beside s) (ltb i 128) (putNonNull s (canonicalAt s i)) s (λ t. beside-null s s (beside-self s) (canonicalAt s i))
+      (beside-self s)
 
   pub addLiteral-beside : (l : ScalarValue) → Beside s (addLiteral s i l)
   unfolding addLiteral
@@ -107,5 +113,6 @@ module _ (s : ConstraintSet) (i : ℕ) where
       let b1 = beside-null s s (beside-self s) r in
       let n = boundsBy op x in
       pick-has (Beside s) (ltb i 128) (cond (bounding op) (crossCheck (putRange s1 r n)) (layRange s1 r n)) s
-      (λ t. pick-has (Beside s) (bounding op) (crossCheck (putRange s1 r n)) (layRange s1 r n) (λ n. beside-check s (putRange s1 r (boundsBy op x)) (beside-range s s1 b1 r (boundsBy op x)))
+      (λ t. pick-has (Beside s) (bounding op) (crossCheck (putRange s1 r n)) (layRange s1 r n)
+      (λ n. beside-check s (putRange s1 r (boundsBy op x)) (beside-range s s1 b1 r (boundsBy op x)))
       (beside-lay s s1 b1 r n)) (beside-self s)

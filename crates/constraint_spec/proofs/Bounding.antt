@@ -41,7 +41,11 @@ le-cases a b = iff (leZ a b) (ltZ a b || eqZ a b) (to a b) (from a b)
         self (negsuc n) = le→leb n n (omega arith)
 
     nat : (m n : ℕ) → m ≤ n → T (ltb m n || eqb m n)
-    nat m n h = elim (decLt m n) [ yes l ↦ or-left (ltb m n) (eqb m n) (lt→ltb m n l) | no l ↦ or-right (ltb m n) (eqb m n) (eq→eqb {a = m} {b = n} (omega arith)) ]
+    nat m n h = elim (decLt m n) [
+      | yes l ↦ or-left (ltb m n) (eqb m n) (lt→ltb m n l)
+      | no l ↦ or-right (ltb m n) (eqb m n)
+          (eq→eqb {a = m} {b = n} (omega arith))
+    ]
 
     to : (a b : ℤ) → T (leZ a b) → T (ltZ a b || eqZ a b)
     to (pos a) (pos b) t = nat a b (leb→le a b t)
@@ -147,10 +151,16 @@ measured =
     eqs : (a b : ℤ) → eqZ (wholeIn binary64 a) (wholeIn binary64 b) ≡ eqZ a b
     eqs a b = eqZ-scale a b (2 ^ low binary64) (pow-pos (low binary64))
 
-    float : (x y : Float) → T true → T (fits binary64 x) → T (fits binary64 y) → (u : Float) → scalarToF64 (S.Float64 y) ≡ Of u → Measured (S.Float64 x) (S.Float64 y) (exactIn binary64 y)
+    float : (x y : Float) → T true → T (fits binary64 x) → T (fits binary64 y) → (u : Float) → scalarToF64 (S.Float64 y) ≡ Of u → Measured (S.Float64 x)
+        (S.Float64 y) (exactIn binary64 y)
     float x nan t p q u e = no-number u e
     float x (inf s) t p q u e = no-number u e
-    float x (fin s m d) t p q u e = record { less = float-less s m d q x p; more = float-more s m d q x p; level = eq-place x (fin s m d) p q; turned = eq-place (fin s m d) x q p }
+    float x (fin s m d) t p q u e = record {
+      less = float-less s m d q x p;
+      more = float-more s m d q x p;
+      level = eq-place x (fin s m d) p q;
+      turned = eq-place (fin s m d) x q p;
+    }
 
 -- a literal that has a number is no NULL
 pub number-not-null : (l : ScalarValue) (x : Float) → scalarToF64 l ≡ Of x → T (not (isNull l))
@@ -169,7 +179,8 @@ pub record Tested (v l : ScalarValue) (x : Float) : Type 0 where
   pub atLeast : (lessScalar l v || sameScalar l v) ≡ okRange (placeOf v) (boundsBy GtEq x)
 
 -- of a value and a literal of one kind, neither NULL, each of the four comparisons is its bound. Assumes nothing
-pub tested : (v l : ScalarValue) → T (not (isNull v)) → T (sameKind (kindOf v) (kindOf l)) → Typed v → Typed l → (x : Float) → scalarToF64 l ≡ Of x → Tested v l x
+pub tested : (v l : ScalarValue) → T (not (isNull v)) → T (sameKind (kindOf v) (kindOf l)) → Typed v → Typed l → (x : Float) → scalarToF64 l ≡ Of x → Tested v
+    l x
 tested v l n k tv tl x e =
     go (subst (Measured v l) (sym (converts l x tl e .same)) (measured v l (one-kind v l n (number-not-null l x e) k) tv tl x e))
   where
@@ -178,7 +189,8 @@ tested v l n k tv tl x e =
       below = m .less;
       atMost = ap₂ (λ (a b : Bool). a || b) (m .less) (m .level) ∙ sym (below-cases (placeOf v) (exactIn binary64 x));
       above = m .more ∙ sym (and-true (aboveP false (exactIn binary64 x) (placeOf v)));
-      atLeast = ap₂ (λ (a b : Bool). a || b) (m .more) (m .turned) ∙ sym (above-cases (placeOf v) (exactIn binary64 x)) ∙ sym (and-true (aboveP true (exactIn binary64 x) (placeOf v)));
+      atLeast = ap₂ (λ (a b : Bool). a || b) (m .more) (m .turned) ∙ sym (above-cases (placeOf v) (exactIn binary64 x)) ∙ sym
+          (and-true (aboveP true (exactIn binary64 x) (placeOf v)));
     }
 
 -- a value that is no NaN is the same as itself. Assumes nothing
@@ -191,5 +203,6 @@ self-same (S.Int64 z) t n = eq→eqZ z z refl
 self-same (S.Float64 nan) t n = absurd n
 self-same (S.Float64 (inf true)) t n = subst T (sym (eq-place (inf true) (inf true) t t)) tt
 self-same (S.Float64 (inf false)) t n = subst T (sym (eq-place (inf false) (inf false) t t)) tt
-self-same (S.Float64 (fin s m e)) t n = subst T (sym (eq-place (fin s m e) (fin s m e) t t)) (eq→eqZ (exactIn binary64 (fin s m e)) (exactIn binary64 (fin s m e)) refl)
+self-same (S.Float64 (fin s m e)) t n = subst T (sym (eq-place (fin s m e) (fin s m e) t t))
+    (eq→eqZ (exactIn binary64 (fin s m e)) (exactIn binary64 (fin s m e)) refl)
 self-same (S.Date32 z) t n = eq→eqZ z z refl

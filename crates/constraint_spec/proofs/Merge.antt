@@ -11,7 +11,10 @@ use Rattle.scalar.specs.Kinds.{isNull}
 use Rattle.scalar.specs.Scalars.{Typed}
 use Rattle.scalar.specs.declared.ScalarValue.{ScalarValue}
 use Rattle.constraint_spec.specs.Values.{equals, Place, placeOf, okRange}
-use Rattle.constraint_spec.specs.Sets.{parentsOf, nonNulls, literals, handles, nonNullAt, literalAt, entryAt, handleAt, canonicalAt, flagIf, putNonNull, layRange, unionValues, addLiteral, roomFor, stepsTo, joinMember, joinClass, mergeLiteral, mergeRange, mergeNonNull, mergeResidual, mergeClasses, mergeLiterals, mergeRanges, mergeNonNulls, mergeResiduals, mergeValues, mergedSet, roomTo, mergeRoom, done, refusedWith, mergeFrom}
+use Rattle.constraint_spec.specs.Sets.{parentsOf, nonNulls, literals, handles, nonNullAt, literalAt, entryAt, handleAt, canonicalAt, flagIf}
+use Rattle.constraint_spec.specs.Sets.{putNonNull, layRange, unionValues, addLiteral, roomFor, stepsTo, joinMember, joinClass, mergeLiteral}
+use Rattle.constraint_spec.specs.Sets.{mergeRange, mergeNonNull, mergeResidual, mergeClasses, mergeLiterals, mergeRanges, mergeNonNulls}
+use Rattle.constraint_spec.specs.Sets.{mergeResiduals, mergeValues, mergedSet, roomTo, mergeRoom, done, refusedWith, mergeFrom}
 use Rattle.constraint_spec.specs.Meets.{nullOk, literalOk, entryOk, Core, Like, Together, Meets, Good}
 use Rattle.constraint_spec.specs.declared.ConstraintSet.{ConstraintSet}
 use Rattle.constraint_spec.proofs.Goods.{flag-good}
@@ -20,7 +23,8 @@ use Rattle.constraint_spec.proofs.Puts.{nor-l, nor-r, nor-i, null-good,
 use Rattle.constraint_spec.proofs.Steps.{steps-good, steps-iff, pick-iff, pick-has, pick-if}
 use Rattle.constraint_spec.proofs.Beside.{beside-self, beside-null, beside-lay}
 use Rattle.constraint_spec.proofs.Normal.{canonical-below, normalized-good}
-use Rattle.constraint_spec.proofs.Operations.{meets-by, normalize-meets, union-good, union-iff, addLiteral-good, addLiteral-iff, residual-good, residual-iff}
+use Rattle.constraint_spec.proofs.Operations.{meets-by, normalize-meets, union-good, union-iff, addLiteral-good, addLiteral-iff}
+use Rattle.constraint_spec.proofs.Operations.{residual-good, residual-iff}
 
 module _ (b : ConstraintSet) (g : Good b) where
   -- ---- each step keeps a set good
@@ -32,11 +36,13 @@ module _ (b : ConstraintSet) (g : Good b) where
 
   literal-step-good : (i : ℕ) → i < 128 → (t : ConstraintSet) → Good t → Good (mergeLiteral (literals b) i t)
   literal-step-good i hi t f =
-      pick-has Good (literalAt b i .present) (addLiteral t i (literalAt b i .value)) t (λ c. addLiteral-good t f i hi (literalAt b i .value) (g .typed i hi c)) f
+      pick-has Good (literalAt b i .present) (addLiteral t i (literalAt b i .value)) t
+      (λ c. addLiteral-good t f i hi (literalAt b i .value) (g .typed i hi c)) f
 
   range-step-good : (i : ℕ) → i < 128 → (t : ConstraintSet) → Good t → Good (mergeRange (b .ranges) i t)
   range-step-good i hi t f =
-      pick-has Good (entryAt b i .present) (layRange t (canonicalAt t i) (entryAt b i .range)) t (λ c. lay-good t f (canonicalAt t i) (canonical-below t f i hi) (entryAt b i .range) (g .sound i hi c)) f
+      pick-has Good (entryAt b i .present) (layRange t (canonicalAt t i) (entryAt b i .range)) t
+      (λ c. lay-good t f (canonicalAt t i) (canonical-below t f i hi) (entryAt b i .range) (g .sound i hi c)) f
 
   null-step-good : (i : ℕ) → i < 128 → (t : ConstraintSet) → Good t → Good (mergeNonNull (nonNulls b) i t)
   null-step-good i hi t f = pick-has Good (nonNullAt b i) (putNonNull t i) t (λ c. null-good t f i hi) f
@@ -90,11 +96,15 @@ module _ (b : ConstraintSet) (g : Good b) where
     abbrev Pair : ℕ → ℕ → Type 0
     Pair r i = T (eqb (canonicalAt b i) r && not (eqb i r)) → Like v r i
 
-    member-iff : (r : ℕ) → r < 128 → (i : ℕ) → i < 128 → (t : ConstraintSet) → Good t → Meets on v (joinMember (b .«equivalence_classes») r i t) ↔ (Meets on v t × Pair r i)
-    member-iff r hr i hi t f = pick-if (Meets on v) (eqb (canonicalAt b i) r && not (eqb i r)) (Like v r i) (unionValues t r i) t (λ c. union-iff t r i hr hi f on v tv)
+    member-iff : (r : ℕ) → r < 128 → (i : ℕ) → i < 128 → (t : ConstraintSet) → Good t → Meets on v (joinMember (b .«equivalence_classes») r i t) ↔
+        (Meets on v t × Pair r i)
+    member-iff r hr i hi t f = pick-if (Meets on v) (eqb (canonicalAt b i) r && not (eqb i r)) (Like v r i) (unionValues t r i) t
+        (λ c. union-iff t r i hr hi f on v tv)
 
-    class-iff : (r : ℕ) → r < 128 → (t : ConstraintSet) → Good t → Meets on v (joinClass (b .«equivalence_classes») r t) ↔ (Meets on v t × ((i : ℕ) → i < 128 → Pair r i))
-    class-iff r hr t f = steps-iff Good (Meets on v) (joinMember (b .«equivalence_classes») r) (Pair r) 128 (member-good r hr) (member-iff r hr) 128 (omega arith) t f
+    class-iff : (r : ℕ) → r < 128 → (t : ConstraintSet) → Good t → Meets on v (joinClass (b .«equivalence_classes») r t) ↔
+        (Meets on v t × ((i : ℕ) → i < 128 → Pair r i))
+    class-iff r hr t f = steps-iff Good (Meets on v) (joinMember (b .«equivalence_classes») r) (Pair r) 128 (member-good r hr) (member-iff r hr) 128
+        (omega arith) t f
 
     pairs-together : ((r : ℕ) → r < 128 → (i : ℕ) → i < 128 → Pair r i) → Together v (parentsOf b)
     pairs-together q i h = elim (ℕ-discrete i (canonicalAt b i)) [
@@ -105,9 +115,11 @@ module _ (b : ConstraintSet) (g : Good b) where
 
     together-pairs : Together v (parentsOf b) → (r : ℕ) → r < 128 → (i : ℕ) → i < 128 → Pair r i
     together-pairs w r hr i hi t =
-        subst (λ (x : ℕ). Like v x i) (eqb→eq (canonicalAt b i) r (and-l (eqb (canonicalAt b i) r) (not (eqb i r)) t)) (like-sym v tv i (canonicalAt b i) (w i hi))
+        subst (λ (x : ℕ). Like v x i) (eqb→eq (canonicalAt b i) r (and-l (eqb (canonicalAt b i) r) (not (eqb i r)) t))
+        (like-sym v tv i (canonicalAt b i) (w i hi))
 
-    literal-step : (i : ℕ) → i < 128 → (t : ConstraintSet) → Good t → Meets on v (mergeLiteral (literals b) i t) ↔ (Meets on v t × T (literalOk (v i) (literalAt b i)))
+    literal-step : (i : ℕ) → i < 128 → (t : ConstraintSet) → Good t → Meets on v (mergeLiteral (literals b) i t) ↔
+        (Meets on v t × T (literalOk (v i) (literalAt b i)))
     literal-step i hi t f =
         pick-iff (Meets on v) (literalAt b i .present) (equals (v i) (literalAt b i .value)) (addLiteral t i (literalAt b i .value)) t
         (λ c. addLiteral-iff t f i hi on v tv (literalAt b i .value) (g .typed i hi c))
@@ -115,20 +127,26 @@ module _ (b : ConstraintSet) (g : Good b) where
     range-step : (i : ℕ) → i < 128 → (t : ConstraintSet) → Good t → Meets on v (mergeRange (b .ranges) i t) ↔ (Meets on v t × T (entryOk (v i) (entryAt b i)))
     range-step i hi t f =
         pick-iff (Meets on v) (entryAt b i .present) (okRange (placeOf (v i)) (entryAt b i .range)) (layRange t (canonicalAt t i) (entryAt b i .range)) t
-        (λ c. meets-by on v t (layRange t (canonicalAt t i) (entryAt b i .range)) (beside-lay t t (beside-self t) (canonicalAt t i) (entryAt b i .range)) (T (okRange (placeOf (v i)) (entryAt b i .range)))
+        (λ c. meets-by on v t (layRange t (canonicalAt t i) (entryAt b i .range)) (beside-lay t t (beside-self t) (canonicalAt t i) (entryAt b i .range))
+        (T (okRange (placeOf (v i)) (entryAt b i .range)))
         (λ w.
         let r = canonicalAt t i in
         let e = like-place v tv i r (w i hi) in
         let n = entryAt b i .range in
-        let l = lay-iff v tv t f r (canonical-below t f i hi) n (g .sound i hi c) in
-        (λ m. let k = l .0 m in (k .0, subst (λ (p : Place). T (okRange p n)) (sym e) (k .1)), λ m. l .1 (m .0, subst (λ (p : Place). T (okRange p n)) e (m .1)))))
+        let l = lay-iff v tv t f r (canonical-below t f i hi) n (g .sound i hi c) in (
+          λ m. let k = l .0 m in (k .0, subst (λ (p : Place). T (okRange p n)) (sym e) (k .1)),
+          λ m. l .1
+              (m .0, subst (λ (p : Place). T (okRange p n)) e (m .1)),
+        )))
 
-    null-step : (i : ℕ) → i < 128 → (t : ConstraintSet) → Good t → Meets on v (mergeNonNull (nonNulls b) i t) ↔ (Meets on v t × T (nullOk (v i) (nonNullAt b i)))
+    null-step : (i : ℕ) → i < 128 → (t : ConstraintSet) → Good t → Meets on v (mergeNonNull (nonNulls b) i t) ↔
+        (Meets on v t × T (nullOk (v i) (nonNullAt b i)))
     null-step i hi t f =
         pick-iff (Meets on v) (nonNullAt b i) (not (isNull (v i))) (putNonNull t i) t
         (λ c. meets-by on v t (putNonNull t i) (beside-null t t (beside-self t) i) (T (not (isNull (v i)))) (λ w. null-iff v tv t f i hi))
 
-    residual-steps : (t : ConstraintSet) → Good t → (k : ℕ) → T (roomTo t (handles b) k) → Meets on v (stepsTo (mergeResidual (handles b)) k t) ↔ (Meets on v t × ((i : ℕ) → i < k → on (handleAt b i)))
+    residual-steps : (t : ConstraintSet) → Good t → (k : ℕ) → T (roomTo t (handles b) k) → Meets on v (stepsTo (mergeResidual (handles b)) k t) ↔
+        (Meets on v t × ((i : ℕ) → i < k → on (handleAt b i)))
     unfolding stepsTo roomTo
     residual-steps t f zero room = (λ m. (m, λ i h. absurd (omega arith)), λ m. m .0)
     residual-steps t f (suc k) room =
@@ -148,22 +166,34 @@ module _ (b : ConstraintSet) (g : Good b) where
       start-iff = (
         λ m. (
           record {
-            core = record { clear = nor-l (a .contradictory) (b .contradictory) (m .core .clear); nulls = m .core .nulls; equal = m .core .equal; within = m .core .within };
+            core = record {
+              clear = nor-l (a .contradictory) (b .contradictory) (m .core .clear);
+              nulls = m .core .nulls;
+              equal = m .core .equal;
+              within = m .core .within;
+            };
             together = m .together;
             residual = m .residual;
           },
           nor-r (a .contradictory) (b .contradictory) (m .core .clear),
         ),
         λ m. record {
-          core = record { clear = nor-i (a .contradictory) (b .contradictory) (m .0 .core .clear) (m .1); nulls = m .0 .core .nulls; equal = m .0 .core .equal; within = m .0 .core .within };
+          core = record {
+            clear = nor-i (a .contradictory) (b .contradictory) (m .0 .core .clear) (m .1);
+            nulls = m .0 .core .nulls;
+            equal = m .0 .core .equal;
+            within = m .0 .core .within;
+          };
           together = m .0 .together;
           residual = m .0 .residual;
         },
       )
 
-      classes-iff : Meets on v (mergeClasses (flagIf (b .contradictory) a) (b .«equivalence_classes»)) ↔ (Meets on v (flagIf (b .contradictory) a) × ((r : ℕ) → r < 128 → (i : ℕ) → i < 128 → Pair r i))
+      classes-iff : Meets on v (mergeClasses (flagIf (b .contradictory) a) (b .«equivalence_classes»)) ↔
+          (Meets on v (flagIf (b .contradictory) a) × ((r : ℕ) → r < 128 → (i : ℕ) → i < 128 → Pair r i))
       unfolding mergeClasses
-      classes-iff = steps-iff Good (Meets on v) (joinClass (b .«equivalence_classes»)) (λ (r : ℕ). (i : ℕ) → i < 128 → Pair r i) 128 class-good class-iff 128 (omega arith) (flagIf (b .contradictory) a) (start-good a ga)
+      classes-iff = steps-iff Good (Meets on v) (joinClass (b .«equivalence_classes»)) (λ (r : ℕ). (i : ℕ) → i < 128 → Pair r i) 128 class-good class-iff 128
+          (omega arith) (flagIf (b .contradictory) a) (start-good a ga)
 
       values-iff : Meets on v (mergeValues a b) ↔ (Meets on v a × (Core v b × Together v (parentsOf b)))
       unfolding mergeLiterals mergeRanges mergeNonNulls
@@ -171,9 +201,12 @@ module _ (b : ConstraintSet) (g : Good b) where
           let u1 = mergeClasses (flagIf (b .contradictory) a) (b .«equivalence_classes») in
           let u2 = mergeLiterals u1 (literals b) in
           let u3 = mergeRanges u2 (b .ranges) in
-          let l = steps-iff Good (Meets on v) (mergeLiteral (literals b)) (λ (i : ℕ). T (literalOk (v i) (literalAt b i))) 128 literal-step-good literal-step 128 (omega arith) u1 (classes-merged-good a ga) in
-          let r = steps-iff Good (Meets on v) (mergeRange (b .ranges)) (λ (i : ℕ). T (entryOk (v i) (entryAt b i))) 128 range-step-good range-step 128 (omega arith) u2 (literals-merged-good a ga) in
-          let n = steps-iff Good (Meets on v) (mergeNonNull (nonNulls b)) (λ (i : ℕ). T (nullOk (v i) (nonNullAt b i))) 128 null-step-good null-step 128 (omega arith) u3 (ranges-merged-good a ga) in (
+          let l = steps-iff Good (Meets on v) (mergeLiteral (literals b)) (λ (i : ℕ). T (literalOk (v i) (literalAt b i))) 128 literal-step-good literal-step
+          128 (omega arith) u1 (classes-merged-good a ga) in
+          let r = steps-iff Good (Meets on v) (mergeRange (b .ranges)) (λ (i : ℕ). T (entryOk (v i) (entryAt b i))) 128 range-step-good range-step 128
+          (omega arith) u2 (literals-merged-good a ga) in
+          let n = steps-iff Good (Meets on v) (mergeNonNull (nonNulls b)) (λ (i : ℕ). T (nullOk (v i) (nonNullAt b i))) 128 null-step-good null-step 128
+          (omega arith) u3 (ranges-merged-good a ga) in (
             λ m.
                 let x = n .0 m in
                 let y = r .0 (x .0) in

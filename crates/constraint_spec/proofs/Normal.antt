@@ -11,7 +11,9 @@ use Rattle.scalar.specs.Scalars.{Typed}
 use Rattle.scalar.specs.declared.ScalarValue.{ScalarValue}
 use Rattle.value_classes.proofs.RootLaws.{root-below}
 use Rattle.constraint_spec.specs.Values.{equals, placeOf, okRange}
-use Rattle.constraint_spec.specs.Sets.{none, blank, noEntry, parentsOf, nonNullAt, literalAt, entryAt, canonicalAt, withNonNulls, withLiterals, withRanges, putNonNull, putLiteral, putRange, moveNonNull, moveLiteral, moveRange, nonNullsMoved, literalsMoved, rangesMoved, normalized}
+use Rattle.constraint_spec.specs.Sets.{none, blank, noEntry, parentsOf, nonNullAt, literalAt, entryAt, canonicalAt, withNonNulls, withLiterals}
+use Rattle.constraint_spec.specs.Sets.{withRanges, putNonNull, putLiteral, putRange, moveNonNull, moveLiteral, moveRange, nonNullsMoved}
+use Rattle.constraint_spec.specs.Sets.{literalsMoved, rangesMoved, normalized}
 use Rattle.constraint_spec.specs.Meets.{nullOk, literalOk, entryOk, Core, Like, Together, SoundHolder, SoundEntry, Good}
 use Rattle.constraint_spec.specs.declared.Holder.{Holder}
 use Rattle.constraint_spec.specs.declared.Entry.{Entry}
@@ -55,7 +57,8 @@ module _ (s : ConstraintSet) (g : Good s) where
 
   literal-step-good : (i : ℕ) → i < 128 → (t : ConstraintSet) → Good t → Good (moveLiteral s i t)
   literal-step-good i h t f =
-      pick-has Good (literalAt s i .present) (putLiteral t (root i) (literalAt s i .value)) t (λ b. literal-good t f (root i) (root< i h) (literalAt s i .value) (g .typed i h b)) f
+      pick-has Good (literalAt s i .present) (putLiteral t (root i) (literalAt s i .value)) t
+      (λ b. literal-good t f (root i) (root< i h) (literalAt s i .value) (g .typed i h b)) f
 
   pub literals-moved-good : Good (literalsMoved s)
   unfolding literalsMoved
@@ -70,7 +73,8 @@ module _ (s : ConstraintSet) (g : Good s) where
 
   range-step-good : (i : ℕ) → i < 128 → (t : ConstraintSet) → Good t → Good (moveRange s i t)
   range-step-good i h t f =
-      pick-has Good (entryAt s i .present) (putRange t (root i) (entryAt s i .range)) t (λ b. range-good t f (root i) (root< i h) (entryAt s i .range) (g .sound i h b)) f
+      pick-has Good (entryAt s i .present) (putRange t (root i) (entryAt s i .range)) t
+      (λ b. range-good t f (root i) (root< i h) (entryAt s i .range) (g .sound i h b)) f
 
   pub ranges-moved-good : Good (rangesMoved s)
   unfolding rangesMoved
@@ -88,11 +92,17 @@ module _ (s : ConstraintSet) (g : Good s) where
     unfolding nonNullsMoved
     nulls-moved-core =
         let f = steps-iff Good (Core v) (moveNonNull s) (λ (i : ℕ). T (nullOk (v (root i)) (nonNullAt s i))) 128 null-step-good
-        (λ i h t f. pick-iff (Core v) (nonNullAt s i) (not (isNull (v (root i)))) (putNonNull t (root i)) t (λ b. null-iff v tv t f (root i) (root< i h))) 128 (omega arith) s1 g1 in (
+        (λ i h t f. pick-iff (Core v) (nonNullAt s i) (not (isNull (v (root i)))) (putNonNull t (root i)) t (λ b. null-iff v tv t f (root i) (root< i h))) 128
+        (omega arith) s1 g1 in (
           λ m.
               let k = f .0 m in
               let a = k .0 in
-              record { clear = a .clear; nulls = λ i h. like-nullOk v tv (root i) i (down i h) (nonNullAt s i) (k .1 i h); equal = a .equal; within = a .within },
+              record {
+                clear = a .clear;
+                nulls = λ i h. like-nullOk v tv (root i) i (down i h) (nonNullAt s i) (k .1 i h);
+                equal = a .equal;
+                within = a .within;
+              },
           λ m.
               f .1 (
                 core-nulls m (replicate 128 false) (λ i h. at-replicate (λ (b : Bool). T (nullOk (v i) b)) false false tt i h),
@@ -109,7 +119,12 @@ module _ (s : ConstraintSet) (g : Good s) where
           λ m.
               let k = f .0 m in
               let a = k .0 in
-              record { clear = a .clear; nulls = a .nulls; equal = λ i h. like-literalOk v tv (root i) i (down i h) (literalAt s i) (g .typed i h) (k .1 i h); within = a .within },
+              record {
+                clear = a .clear;
+                nulls = a .nulls;
+                equal = λ i h. like-literalOk v tv (root i) i (down i h) (literalAt s i) (g .typed i h) (k .1 i h);
+                within = a .within;
+              },
           λ m.
               f .1 (
                 core-literals m (replicate 128 none) (λ i h. at-replicate (λ (x : Holder). T (literalOk (v i) x)) none none tt i h),

@@ -27,7 +27,9 @@ use Rattle.comparison.specs.Operators.{bounding}
 use Rattle.comparison.specs.declared.BinaryOp.{BinaryOp}
 use Rattle.comparison.specs.declared.BinaryOp.the-variants.{Eq, NotEq, Lt, LtEq, Gt, GtEq, IsNotDistinctFrom}
 use Rattle.constraint_spec.specs.Values.{equals, Place, placeOf, okRange}
-use Rattle.constraint_spec.specs.Sets.{parentsOf, handles, handleAt, canonicalAt, withClasses, withResiduals, withFlag, putNonNull, putLiteral, putRange, layRange, crossCheck, normalized, unionValues, addNonNull, addLiteral, boundsBy, addBound, rangedBy, addRange, hasHandle, roomFor, pushResidual, done, refusedWith, addResidual}
+use Rattle.constraint_spec.specs.Sets.{parentsOf, handles, handleAt, canonicalAt, withClasses, withResiduals, withFlag, putNonNull, putLiteral}
+use Rattle.constraint_spec.specs.Sets.{putRange, layRange, crossCheck, normalized, unionValues, addNonNull, addLiteral, boundsBy, addBound}
+use Rattle.constraint_spec.specs.Sets.{rangedBy, addRange, hasHandle, roomFor, pushResidual, done, refusedWith, addResidual}
 use Rattle.constraint_spec.specs.Meets.{Core, Like, Together, Meets, SoundRange, Good}
 use Rattle.constraint_spec.specs.declared.ConstraintSet.{ConstraintSet}
 use Rattle.constraint_spec.proofs.ValueLaws.{or-elim, same-null}
@@ -62,7 +64,8 @@ module _ (v : ℕ → ScalarValue) (tv : (i : ℕ) → Typed (v i)) where
           ⊎-elim (λ e. together-pair p (w .0) a b h hb e)
           (⊎-elim
           (λ e. like-trans v tv a i b (together-pair p (w .0) a i h hi (e .0)) (like-trans v tv i j b (w .1) (together-pair p (w .0) j b hj hb (sym (e .1)))))
-          (λ e. like-trans v tv a j b (together-pair p (w .0) a j h hj (e .0)) (like-trans v tv j i b (like-sym v tv i j (w .1)) (together-pair p (w .0) i b hi hb (sym (e .1))))))
+          (λ e. like-trans v tv a j b (together-pair p (w .0) a j h hj (e .0))
+          (like-trans v tv j i b (like-sym v tv i j (w .1)) (together-pair p (w .0) i b hi hb (sym (e .1))))))
           (met a b .0 (sym (root-idempotent (joined p i j) new-falls a))),
     )
 
@@ -89,7 +92,8 @@ module _ (on : ℕ → Type 0) (v : ℕ → ScalarValue) (s t : ConstraintSet) (
   )
 
 -- normalizing changes nothing for a row. Assumes a good set
-pub normalize-meets : (on : ℕ → Type 0) (v : ℕ → ScalarValue) → ((i : ℕ) → Typed (v i)) → (s : ConstraintSet) → Good s → Meets on v (normalized s) ↔ Meets on v s
+pub normalize-meets : (on : ℕ → Type 0) (v : ℕ → ScalarValue) → ((i : ℕ) → Typed (v i)) → (s : ConstraintSet) → Good s → Meets on v (normalized s) ↔ Meets on
+    v s
 normalize-meets on v tv s g =
     let b = beside-normalized s s (beside-self s) in (
       λ m. from-core on v s (normalized s) b m (normalized-core s g v tv (subst (Together v) (beside-parents s (normalized s) b) (m .together)) .0 (m .core)),
@@ -132,17 +136,29 @@ module _ (s : ConstraintSet) (i j : ℕ) (hi : i < 128) (hj : j < 128) where
             λ m.
                 let k = n .0 m in
                 let c = k .core in
-                let x = w .0 (k .together) in
-                (record { core = record { clear = c .clear; nulls = c .nulls; equal = c .equal; within = c .within }; together = x .0; residual = k .residual }, x .1),
+                let x = w .0 (k .together) in (
+                  record {
+                    core = record { clear = c .clear; nulls = c .nulls; equal = c .equal; within = c .within };
+                    together = x .0;
+                    residual = k .residual;
+                  },
+                  x .1,
+                ),
             λ m.
                 let c = m .0 .core in
-                n .1 (record { core = record { clear = c .clear; nulls = c .nulls; equal = c .equal; within = c .within }; together = w .1 (m .0 .together, m .1); residual = m .0 .residual }),
+                n .1 (record {
+                  core = record { clear = c .clear; nulls = c .nulls; equal = c .equal; within = c .within };
+                  together = w .1
+                      (m .0 .together, m .1);
+                  residual = m .0 .residual;
+                }),
           )
 
       -- a row meets the set after a union exactly if it met the set and the two are one identity or have the same value. Assumes a good set
       pub union-iff : Meets on v (unionValues s i j) ↔ (Meets on v s × Like v i j)
       union-iff = elim (ℕ-discrete (canonicalAt s i) (canonicalAt s j)) [
-        | yes e ↦ subst (λ (t : ConstraintSet). Meets on v t ↔ (Meets on v s × Like v i j)) (sym (union-one e)) (λ m. (m, together-pair v tv (parentsOf s) (m .together) i j hi hj e), λ m. m .0)
+        | yes e ↦ subst (λ (t : ConstraintSet). Meets on v t ↔ (Meets on v s × Like v i j)) (sym (union-one e))
+            (λ m. (m, together-pair v tv (parentsOf s) (m .together) i j hi hj e), λ m. m .0)
         | no d ↦ subst (λ (t : ConstraintSet). Meets on v t ↔ (Meets on v s × Like v i j)) (sym (union-two d)) after-iff
       ]
 
@@ -221,9 +237,11 @@ module _ (s : ConstraintSet) (g : Good s) (i : ℕ) (hi : i < 128) where
       where
         no-null : T (isNull l) → T (equals (v i) l) → ⊥
         no-null n e =
-            T-not (isNull (v i)) (and-l (not (isNull (v i))) (sameScalar (v i) l) e) (subst T (sym (same-null (v i) l (and-r (not (isNull (v i))) (sameScalar (v i) l) e))) n)
+            T-not (isNull (v i)) (and-l (not (isNull (v i))) (sameScalar (v i) l) e)
+            (subst T (sym (same-null (v i) l (and-r (not (isNull (v i))) (sameScalar (v i) l) e))) n)
 
-        go : (b : Bool) → (T b → T (isNull l)) → Together v (parentsOf s) → Core v (cond b (withFlag s true) (crossCheck (putLiteral s1 r l))) ↔ (Core v s × T (equals (v i) l))
+        go : (b : Bool) → (T b → T (isNull l)) → Together v (parentsOf s) → Core v (cond b (withFlag s true) (crossCheck (putLiteral s1 r l))) ↔
+            (Core v s × T (equals (v i) l))
         go true n w = (λ m. absurd (m .clear), λ m. absurd (no-null (n tt) (m .1)))
         go false n w =
             let c = check-iff v tv (putLiteral s1 r l) (literal-good s1 g1 r hr l tl) in
@@ -308,7 +326,8 @@ module _ (s : ConstraintSet) (g : Good s) (h : ℕ) where
       go : (a b : Bool) → (T b → s .residuals < 64) → Good (cond a s (cond b (withResiduals s (set (handles s) (s .residuals) h) (s .residuals + 1)) s))
       go true b l = g
       go false false l = g
-      go false true l = residuals-good s g (set (handles s) (s .residuals) h) (s .residuals + 1) (length-set (handles s) (s .residuals) h ∙ g .handlesLong) (omega (arith, l tt))
+      go false true l = residuals-good s g (set (handles s) (s .residuals) h) (s .residuals + 1) (length-set (handles s) (s .residuals) h ∙ g .handlesLong)
+          (omega (arith, l tt))
 
   module _ (on : ℕ → Type 0) (v : ℕ → ScalarValue) where
     -- with a residual for which there is room, exactly if it is TRUE. Assumes a good set
@@ -340,7 +359,8 @@ module _ (s : ConstraintSet) (g : Good s) (h : ℕ) where
                 together = m .0 .together;
                 residual = λ k b. elim (decLt k (s .residuals)) [
                   | yes y ↦ subst on (sym (getD-set-other (handles s) (s .residuals) k h 0 (λ e. absurd (omega arith)))) (m .0 .residual k y)
-                  | no n ↦ subst (λ (x : ℕ). on (getD (set (handles s) (s .residuals) h) x 0)) (omega arith) (subst on (sym (getD-set-same (handles s) (s .residuals) h 0 c)) (m .1))
+                  | no n ↦ subst (λ (x : ℕ). on (getD (set (handles s) (s .residuals) h) x 0)) (omega arith)
+                      (subst on (sym (getD-set-same (handles s) (s .residuals) h 0 c)) (m .1))
                 ];
               },
             )

@@ -1,4 +1,5 @@
--- Where a value lies, against ranges: tightening a range by another admits what both admit, an empty range admits nothing, and a literal outside a range is the value of nothing within. Assumes nothing.
+-- Where a value lies, against ranges: tightening a range by another admits what both admit, an empty range admits nothing, and a literal outside a
+-- range is the value of nothing within. Assumes nothing.
 use mathlib.Core.Path.{_≡_, refl, sym, ap, ap₂, _∙_, subst}
 use mathlib.Core.Bool.{Bool, true, false, not, _&&_, _||_, cond, and-true, and-false}
 use Prim.Native.Nat.{ℕ}
@@ -11,7 +12,8 @@ use lib.Ieee.Bits.{is-true, is-false}
 use lib.Ieee.Fits.{and-i, and-l, and-r}
 use Rattle.scalar.specs.Exact.{eqZ, finite, exactIn, wholeIn}
 use Rattle.scalar.specs.Scalars.{scalarToF64, sameScalar, Typed, valueOf}
-use Rattle.value_range.specs.Ranges.{Sound, boundAt, unboundedRange, takesLower, takesUpper, tightenLower, tightenUpper, emptyRange, upTo, meetsUpper, meetsLower, within}
+use Rattle.value_range.specs.Ranges.{Sound, boundAt, unboundedRange, takesLower, takesUpper, tightenLower, tightenUpper, emptyRange, upTo}
+use Rattle.value_range.specs.Ranges.{meetsUpper, meetsLower, within}
 use Rattle.value_range.specs.declared.Bound.{Bound}
 use Rattle.value_range.specs.declared.ValueRange.{ValueRange}
 use Rattle.scalar.specs.declared.ScalarValue.{ScalarValue}
@@ -35,11 +37,13 @@ passed false true = refl
 passed false false = refl
 
 module _ (v : Float) (i : Bool) (fv : T (finite v)) (hv : T (fits binary64 v)) where
-  failed-upper : (t : Bool) (r : ValueRange) → (t ≡ false → T (r .upper .present)) → (not (cond t (record { lower = r .lower; upper = boundAt v i }) r .upper .present) || false) ≡ ((not (r .upper .present) || false) && false)
+  failed-upper : (t : Bool) (r : ValueRange) → (t ≡ false → T (r .upper .present))
+      → (not (cond t (record { lower = r .lower; upper = boundAt v i }) r .upper .present) || false) ≡ ((not (r .upper .present) || false) && false)
   failed-upper true r h = sym (and-false (not (r .upper .present) || false))
   failed-upper false r h = ap (λ (b : Bool). not b || false) (is-true (r .upper .present) (h refl)) ∙ sym (and-false (not (r .upper .present) || false))
 
-  failed-lower : (t : Bool) (r : ValueRange) → (t ≡ false → T (r .lower .present)) → (not (cond t (record { lower = boundAt v i; upper = r .upper }) r .lower .present) || false) ≡ ((not (r .lower .present) || false) && false)
+  failed-lower : (t : Bool) (r : ValueRange) → (t ≡ false → T (r .lower .present))
+      → (not (cond t (record { lower = boundAt v i; upper = r .upper }) r .lower .present) || false) ≡ ((not (r .lower .present) || false) && false)
   failed-lower true r h = sym (and-false (not (r .lower .present) || false))
   failed-lower false r h = ap (λ (b : Bool). not b || false) (is-true (r .lower .present) (h refl)) ∙ sym (and-false (not (r .lower .present) || false))
 
@@ -47,13 +51,15 @@ module _ (v : Float) (i : Bool) (fv : T (finite v)) (hv : T (fits binary64 v)) w
   there true q e = tt
   there false q e = absurd (subst T e tt)
 
-  pub ok-upper : (p : Place) (r : ValueRange) → Sound (r .upper) → okUpper p (tightenUpper r v i .upper) ≡ (okUpper p (r .upper) && belowP i p (exactIn binary64 v))
+  pub ok-upper : (p : Place) (r : ValueRange) → Sound (r .upper) → okUpper p (tightenUpper r v i .upper)
+      ≡ (okUpper p (r .upper) && belowP i p (exactIn binary64 v))
   ok-upper nowhere r s = failed-upper (takesUpper (r .upper) v i) r (λ e. there (r .upper .present) _ e)
   ok-upper lowest r s = passed (tightenUpper r v i .upper .present) (r .upper .present)
   ok-upper highest r s = failed-upper (takesUpper (r .upper) v i) r (λ e. there (r .upper .present) _ e)
   ok-upper (point x) r s = upper-tightened v i r fv hv x s
 
-  pub ok-lower : (p : Place) (r : ValueRange) → Sound (r .lower) → okLower p (tightenLower r v i .lower) ≡ (okLower p (r .lower) && aboveP i (exactIn binary64 v) p)
+  pub ok-lower : (p : Place) (r : ValueRange) → Sound (r .lower) → okLower p (tightenLower r v i .lower)
+      ≡ (okLower p (r .lower) && aboveP i (exactIn binary64 v) p)
   ok-lower nowhere r s = failed-lower (takesLower (r .lower) v i) r (λ e. there (r .lower .present) _ e)
   ok-lower lowest r s = failed-lower (takesLower (r .lower) v i) r (λ e. there (r .lower .present) _ e)
   ok-lower highest r s = passed (tightenLower r v i .lower .present) (r .lower .present)
@@ -67,7 +73,8 @@ upper-by : (p : Place) (t : ValueRange) (b : Bound) → Sound (t .upper) → Sou
 upper-by p t b st sb = go (b .present) sb
   where
     go : (q : Bool) → (T q → T (finite (b .value)) × T (fits binary64 (b .value)))
-        → okUpper p (cond q (tightenUpper t (b .value) (b .inclusive)) t .upper) ≡ (okUpper p (t .upper) && (not q || belowP (b .inclusive) p (exactIn binary64 (b .value))))
+        → okUpper p (cond q (tightenUpper t (b .value) (b .inclusive)) t .upper)
+        ≡ (okUpper p (t .upper) && (not q || belowP (b .inclusive) p (exactIn binary64 (b .value))))
     go true s = ok-upper (b .value) (b .inclusive) (s tt .0) (s tt .1) p t st
     go false s = sym (and-true (okUpper p (t .upper)))
 
@@ -89,7 +96,8 @@ lower-by : (p : Place) (t : ValueRange) (b : Bound) → Sound (t .lower) → Sou
 lower-by p t b st sb = go (b .present) sb
   where
     go : (q : Bool) → (T q → T (finite (b .value)) × T (fits binary64 (b .value)))
-        → okLower p (cond q (tightenLower t (b .value) (b .inclusive)) t .lower) ≡ (okLower p (t .lower) && (not q || aboveP (b .inclusive) (exactIn binary64 (b .value)) p))
+        → okLower p (cond q (tightenLower t (b .value) (b .inclusive)) t .lower)
+        ≡ (okLower p (t .lower) && (not q || aboveP (b .inclusive) (exactIn binary64 (b .value)) p))
     go true s = ok-lower (b .value) (b .inclusive) (s tt .0) (s tt .1) p t st
     go false s = sym (and-true (okLower p (t .lower)))
 
@@ -124,7 +132,8 @@ module _ (t r : ValueRange) (st : SoundRange t) (sr : SoundRange r) where
   ok-tighten p =
       ap₂ (λ (a b : Bool). a && b)
       (ap (okLower p) new-lower ∙ lower-by p t (r .lower) (st .0) (sr .0))
-      (upper-by p (lowerBy t (r .lower)) (r .upper) (subst Sound (sym kept-upper) (st .1)) (sr .1) ∙ ap (λ (b : Bound). okUpper p b && okUpper p (r .upper)) kept-upper)
+      (upper-by p (lowerBy t (r .lower)) (r .upper) (subst Sound (sym kept-upper) (st .1)) (sr .1) ∙ ap (λ (b : Bound). okUpper p b && okUpper p (r .upper))
+      kept-upper)
       ∙ regroup (okLower p (t .lower)) (okLower p (r .lower)) (okUpper p (t .upper)) (okUpper p (r .upper))
 
   pub tighten-sound : SoundRange (tightenBy t r)
@@ -142,7 +151,8 @@ pub ok-empty : (p : Place) (r : ValueRange) → SoundRange r → T (emptyRange r
 ok-empty nowhere r s e k = bare (r .lower .present) (and-l (r .lower .present) _ e) (and-l (not (r .lower .present) || false) _ k)
 ok-empty lowest r s e k = bare (r .lower .present) (and-l (r .lower .present) _ e) (and-l (not (r .lower .present) || false) _ k)
 ok-empty highest r s e k =
-    bare (r .upper .present) (and-l (r .upper .present) _ (and-r (r .lower .present) _ e)) (and-r (not (r .lower .present) || true) (not (r .upper .present) || false) k)
+    bare (r .upper .present) (and-l (r .upper .present) _ (and-r (r .lower .present) _ e))
+    (and-r (not (r .lower .present) || true) (not (r .upper .present) || false) k)
 ok-empty (point x) r s e k = subst T (nothing-within x r s (is-true (emptyRange r) e)) k
 
 -- ---- a literal outside a range
@@ -199,19 +209,22 @@ module _ (x : Float) (fx : T (finite x)) (hx : T (fits binary64 x)) (r : ValueRa
       let p = and-l (l .present) below b in
       below-no (l .inclusive) (ex x) (ex (l .value))
       (subst T
-      (ap₂ (λ (a c : Bool). a || (c && not (l .inclusive))) (lt-exact binary64 x (l .value) fx (s .0 p .0) hx (s .0 p .1)) (eq-exact binary64 x (l .value) fx (s .0 p .0) hx (s .0 p .1)))
+      (ap₂ (λ (a c : Bool). a || (c && not (l .inclusive))) (lt-exact binary64 x (l .value) fx (s .0 p .0) hx (s .0 p .1))
+      (eq-exact binary64 x (l .value) fx (s .0 p .0) hx (s .0 p .1)))
       (and-r (l .present) below b))
       (must (l .present) (upTo (l .inclusive) (ex (l .value)) (ex x)) p (and-l (okLower (point (ex x)) l) (okUpper (point (ex x)) u) k)))
       (λ b.
       let p = and-l (u .present) above b in
       above-no (u .inclusive) (ex x) (ex (u .value))
       (subst T
-      (ap₂ (λ (a c : Bool). a || (c && not (u .inclusive))) (lt-exact binary64 (u .value) x (s .1 p .0) fx (s .1 p .1) hx) (eq-exact binary64 x (u .value) fx (s .1 p .0) hx (s .1 p .1)))
+      (ap₂ (λ (a c : Bool). a || (c && not (u .inclusive))) (lt-exact binary64 (u .value) x (s .1 p .0) fx (s .1 p .1) hx)
+      (eq-exact binary64 x (u .value) fx (s .1 p .0) hx (s .1 p .1)))
       (and-r (u .present) above b))
       (must (u .present) (upTo (u .inclusive) (ex x) (ex (u .value))) p (and-r (okLower (point (ex x)) l) (okUpper (point (ex x)) u) k)))
 
 -- a value that is the literal is not in a range that the literal is outside of
-pub literal-outside : (v l : ScalarValue) → Typed v → Typed l → T (sameScalar v l) → (r : ValueRange) → SoundRange r → T (outside (scalarToF64 l) r) → T (okRange (placeOf v) r) → ⊥
+pub literal-outside : (v l : ScalarValue) → Typed v → Typed l → T (sameScalar v l) → (r : ValueRange) → SoundRange r → T (outside (scalarToF64 l) r) → T
+    (okRange (placeOf v) r) → ⊥
 literal-outside v l tv tl e r s = go (scalarToF64 l) refl
   where
     go : (n : Number) → scalarToF64 l ≡ n → T (outside n r) → T (okRange (placeOf v) r) → ⊥

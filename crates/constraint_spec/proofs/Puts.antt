@@ -18,7 +18,8 @@ use Rattle.scalar.specs.declared.ScalarValue.{ScalarValue}
 use Rattle.value_range.specs.Ranges.{unboundedRange, emptyRange}
 use Rattle.value_range.specs.declared.ValueRange.{ValueRange}
 use Rattle.constraint_spec.specs.Values.{equals, placeOf, Place, okRange}
-use Rattle.constraint_spec.specs.Sets.{none, held, blank, entryOf, nonNulls, literals, nonNullAt, literalAt, entryAt, withLiterals, clashes, putNonNull, putLiteral, rangeIn, tightenBy, putRange, layRange, outside, crossedAt, crossCheck}
+use Rattle.constraint_spec.specs.Sets.{none, held, blank, entryOf, nonNulls, literals, nonNullAt, literalAt, entryAt, withLiterals, clashes}
+use Rattle.constraint_spec.specs.Sets.{putNonNull, putLiteral, rangeIn, tightenBy, putRange, layRange, outside, crossedAt, crossCheck}
 use Rattle.constraint_spec.specs.Meets.{nullOk, literalOk, entryOk, Each, Core, SoundRange, SoundEntry, SoundHolder, Good}
 use Rattle.constraint_spec.specs.declared.Holder.{Holder}
 use Rattle.constraint_spec.specs.declared.Entry.{Entry}
@@ -47,7 +48,8 @@ must false q t u = absurd t
 pub none-from : (f : ℕ → Bool) (n i : ℕ) → ((j : ℕ) → i ≤ j → j < i + n → T (not (f j))) → T (not (anyFrom f i n))
 unfolding anyFrom
 none-from f zero i h = tt
-none-from f (suc n) i h = nor-i (f i) (anyFrom f (suc i) n) (h i (omega arith) (omega arith)) (none-from f n (suc i) (λ j lo hi. h j (omega arith) (omega arith)))
+none-from f (suc n) i h = nor-i (f i) (anyFrom f (suc i) n) (h i (omega arith) (omega arith))
+    (none-from f n (suc i) (λ j lo hi. h j (omega arith) (omega arith)))
 
 -- ---- one entry of a list, and all of them
 module _ {A : Type 0} (P : ℕ → A → Bool) (d : A) (l : List A) (r : ℕ) (x : A) (long : length l ≡ 128) (h : r < 128) where
@@ -113,13 +115,15 @@ module _ (v : ScalarValue) (tv : Typed v) where
   literal-put old so l tl n =
       ap (λ (c : Bool). literalOk v (cond c old (held l))) (is-false (clashes old l) n) ∙ go (old .present) so n
     where
-      go : (p : Bool) → (T p → Typed (old .value)) → T (not (p && not (sameScalar (old .value) l))) → equals v l ≡ ((not p || equals v (old .value)) && equals v l)
+      go : (p : Bool) → (T p → Typed (old .value)) → T (not (p && not (sameScalar (old .value) l))) → equals v l
+          ≡ ((not p || equals v (old .value)) && equals v l)
       go false s n = refl
       go true s n =
           absorbed (equals v (old .value)) (equals v l)
           (λ e.
           and-i (not (isNull v)) (sameScalar v (old .value)) (and-l (not (isNull v)) (sameScalar v l) e)
-          (same-trans v l (and-r (not (isNull v)) (sameScalar v l) e) tv tl (old .value) (s tt) (same-sym (old .value) l (not-not (sameScalar (old .value) l) n) (s tt) tl)))
+          (same-trans v l (and-r (not (isNull v)) (sameScalar v l) e) tv tl (old .value) (s tt)
+          (same-sym (old .value) l (not-not (sameScalar (old .value) l) n) (s tt) tl)))
         where
           absorbed : (a b : Bool) → (T b → T a) → b ≡ (a && b)
           absorbed true b f = refl
@@ -131,7 +135,8 @@ module _ (v : ScalarValue) (tv : Typed v) where
       let p = and-l (old .present) (not (sameScalar (old .value) l)) c in
       let k = must (old .present) (equals v (old .value)) p o in
       T-not (sameScalar (old .value) l) (and-r (old .present) (not (sameScalar (old .value) l)) c)
-      (same-trans (old .value) v (same-sym v (old .value) (and-r (not (isNull v)) (sameScalar v (old .value)) k) tv (so p)) (so p) tv l tl (and-r (not (isNull v)) (sameScalar v l) e))
+      (same-trans (old .value) v (same-sym v (old .value) (and-r (not (isNull v)) (sameScalar v (old .value)) k) tv (so p)) (so p) tv l tl
+      (and-r (not (isNull v)) (sameScalar v l) e))
 
 -- an entry's range, or the one without bounds
 in-sound : (e : Entry) → SoundEntry e → SoundRange (rangeIn e)
@@ -169,7 +174,8 @@ module _ (s : ConstraintSet) (g : Good s) (r : ℕ) (h : r < 128) where
   unfolding putLiteral
   literal-good l tl =
       flag-good (withLiterals s (set (literals s) r new))
-      (literals-good s g (set (literals s) r new) (length-set (literals s) r new ∙ g .literalsLong) (keeps SoundHolder none (literals s) r new (g .literalsLong) (either (clashes (literalAt s r) l)) (g .typed))) _
+      (literals-good s g (set (literals s) r new) (length-set (literals s) r new ∙ g .literalsLong)
+      (keeps SoundHolder none (literals s) r new (g .literalsLong) (either (clashes (literalAt s r) l)) (g .typed))) _
     where
       new : Holder
       new = cond (clashes (literalAt s r) l) (literalAt s r) (held l)
@@ -185,7 +191,8 @@ module _ (s : ConstraintSet) (g : Good s) (r : ℕ) (h : r < 128) where
     pub lay-good : Good (layRange s r n)
     unfolding layRange
     lay-good =
-        ranges-good s g (set (s .ranges) r (entryOf (tightenBy (rangeIn (entryAt s r)) n))) (length-set (s .ranges) r (entryOf (tightenBy (rangeIn (entryAt s r)) n)) ∙ g .rangesLong)
+        ranges-good s g (set (s .ranges) r (entryOf (tightenBy (rangeIn (entryAt s r)) n)))
+        (length-set (s .ranges) r (entryOf (tightenBy (rangeIn (entryAt s r)) n)) ∙ g .rangesLong)
         (keeps SoundEntry blank (s .ranges) r (entryOf (tightenBy (rangeIn (entryAt s r)) n)) (g .rangesLong) (λ t. new-sound) (g .sound))
 
     pub range-good : Good (putRange s r n)
@@ -220,7 +227,8 @@ module _ (v : ℕ → ScalarValue) (tv : (i : ℕ) → Typed (v i)) where
     pub literal-iff : (l : ScalarValue) → Typed l → Core v (putLiteral s r l) ↔ (Core v s × T (equals (v r) l))
     unfolding putLiteral
     literal-iff l tl =
-        let f = put-flag L none (literals s) r (cond (clashes (literalAt s r) l) (literalAt s r) (held l)) (g .literalsLong) h (s .contradictory) (clashes (literalAt s r) l) (equals (v r) l)
+        let f = put-flag L none (literals s) r (cond (clashes (literalAt s r) l) (literalAt s r) (held l)) (g .literalsLong) h (s .contradictory)
+        (clashes (literalAt s r) l) (equals (v r) l)
         (literal-put (v r) (tv r) (literalAt s r) (g .typed r h) l tl) (literal-clash (v r) (tv r) (literalAt s r) (g .typed r h) l tl) in (
           λ m. let k = f .0 (m .clear, m .equal) in (record { clear = k .0 .0; nulls = m .nulls; equal = k .0 .1; within = m .within }, k .1),
           λ m. let k = f .1 ((m .0 .clear, m .0 .equal), m .1) in record { clear = k .0; nulls = m .0 .nulls; equal = k .1; within = m .0 .within },
@@ -230,7 +238,8 @@ module _ (v : ℕ → ScalarValue) (tv : (i : ℕ) → Typed (v i)) where
     pub range-iff : (n : ValueRange) → SoundRange n → Core v (putRange s r n) ↔ (Core v s × T (okRange (placeOf (v r)) n))
     unfolding putRange layRange
     range-iff n sn =
-        let f = put-flag R blank (s .ranges) r (entryOf (tightenBy (rangeIn (entryAt s r)) n)) (g .rangesLong) h (s .contradictory) (emptyRange (tightenBy (rangeIn (entryAt s r)) n)) (okRange (placeOf (v r)) n)
+        let f = put-flag R blank (s .ranges) r (entryOf (tightenBy (rangeIn (entryAt s r)) n)) (g .rangesLong) h (s .contradictory)
+        (emptyRange (tightenBy (rangeIn (entryAt s r)) n)) (okRange (placeOf (v r)) n)
         (λ t. entry-put (v r) (entryAt s r) (g .sound r h) n sn) (entry-empty (v r) (entryAt s r) (g .sound r h) n sn) in (
           λ m. let k = f .0 (m .clear, m .within) in (record { clear = k .0 .0; nulls = m .nulls; equal = m .equal; within = k .0 .1 }, k .1),
           λ m. let k = f .1 ((m .0 .clear, m .0 .within), m .1) in record { clear = k .0; nulls = m .0 .nulls; equal = m .0 .equal; within = k .1 },
@@ -239,7 +248,8 @@ module _ (v : ℕ → ScalarValue) (tv : (i : ℕ) → Typed (v i)) where
     pub lay-iff : (n : ValueRange) → SoundRange n → Core v (layRange s r n) ↔ (Core v s × T (okRange (placeOf (v r)) n))
     unfolding layRange
     lay-iff n sn =
-        let f = put-iff R blank (s .ranges) r (entryOf (tightenBy (rangeIn (entryAt s r)) n)) (g .rangesLong) h (okRange (placeOf (v r)) n) (entry-put (v r) (entryAt s r) (g .sound r h) n sn) in (
+        let f = put-iff R blank (s .ranges) r (entryOf (tightenBy (rangeIn (entryAt s r)) n)) (g .rangesLong) h (okRange (placeOf (v r)) n)
+        (entry-put (v r) (entryAt s r) (g .sound r h) n sn) in (
           λ m. let k = f .0 (m .within) in (record { clear = m .clear; nulls = m .nulls; equal = m .equal; within = k .0 }, k .1),
           λ m. record { clear = m .0 .clear; nulls = m .0 .nulls; equal = m .0 .equal; within = f .1 (m .0 .within, m .1) },
         )

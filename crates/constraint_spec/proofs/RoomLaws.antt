@@ -14,13 +14,18 @@ use Rattle.lists.specs.Ranges.{anyFrom}
 use Rattle.scalar.specs.declared.ScalarValue.{ScalarValue}
 use Rattle.value_classes.specs.Classes.{unionOf}
 use Rattle.comparison.specs.declared.BinaryOp.{BinaryOp}
-use Rattle.constraint_spec.specs.Sets.{nonNulls, literals, handles, nonNullAt, literalAt, entryAt, handleAt, canonicalAt, withClasses, withResiduals, withFlag, flagIf, putNonNull, layRange, normalized, unionValues, addNonNull, addLiteral, addBound, hasHandle, roomFor, pushResidual, addResidual, stepsTo, joinMember, joinClass, mergeLiteral, mergeRange, mergeNonNull, mergeResidual, mergeClasses, mergeLiterals, mergeRanges, mergeNonNulls, mergeResiduals, mergeValues, mergedSet, roomTo, mergeRoom, mergeFrom}
+use Rattle.constraint_spec.specs.Sets.{nonNulls, literals, handles, nonNullAt, literalAt, entryAt, handleAt, canonicalAt, withClasses}
+use Rattle.constraint_spec.specs.Sets.{withResiduals, withFlag, flagIf, putNonNull, layRange, normalized, unionValues, addNonNull, addLiteral}
+use Rattle.constraint_spec.specs.Sets.{addBound, hasHandle, roomFor, pushResidual, addResidual, stepsTo, joinMember, joinClass, mergeLiteral}
+use Rattle.constraint_spec.specs.Sets.{mergeRange, mergeNonNull, mergeResidual, mergeClasses, mergeLiterals, mergeRanges, mergeNonNulls}
+use Rattle.constraint_spec.specs.Sets.{mergeResiduals, mergeValues, mergedSet, roomTo, mergeRoom, mergeFrom}
 use Rattle.constraint_spec.specs.Meets.{Good}
 use Rattle.constraint_spec.specs.Room.{listed, has, pushed, pushTo}
 use Rattle.constraint_spec.specs.declared.ConstraintSet.{ConstraintSet}
 use Rattle.constraint_spec.specs.declared.Applied.{Applied}
 use Rattle.constraint_spec.proofs.Steps.{steps-good, pick-has}
-use Rattle.constraint_spec.proofs.Beside.{Beside, beside-self, beside-null, beside-lay, beside-normalized, addNonNull-beside, addLiteral-beside, addBound-beside}
+use Rattle.constraint_spec.proofs.Beside.{Beside, beside-self, beside-null, beside-lay, beside-normalized, addNonNull-beside}
+use Rattle.constraint_spec.proofs.Beside.{addLiteral-beside, addBound-beside}
 use Rattle.constraint_spec.proofs.Operations.{residual-done, residual-refused}
 use Rattle.constraint_spec.proofs.Merge.{values-good, residual-steps-good, merge-done, merge-refused}
 
@@ -50,7 +55,8 @@ unfolding unionValues
 same-union s i j =
     let u = unionOf (s .«equivalence_classes») i j in
     let t = withClasses s (u .classes) in
-    pick-has (SameList s) (u .joined) (normalized t) s (λ b. same-through s t (normalized t) (record { handles = refl; count = refl }) (same-normalized t)) (same-self s)
+    pick-has (SameList s) (u .joined) (normalized t) s (λ b. same-through s t (normalized t) (record { handles = refl; count = refl }) (same-normalized t))
+    (same-self s)
 
 pub same-nonnull : (s : ConstraintSet) (i : ℕ) → SameList s (addNonNull s i)
 same-nonnull s i = beside-same s (addNonNull s i) (addNonNull-beside s i)
@@ -96,10 +102,12 @@ module _ (s : ConstraintSet) (few : s .residuals ≤ 64) (long : length (handles
     pushed-listed a e = ap (λ (b : Bool). cond b (listed s) (listed s ++ (h ∷ []))) (sym has-listed ∙ e)
 
     -- the list after h where there is room, and one too long where there is none
-    roomy : (a b : Bool) → hasHandle s h ≡ a → ltb (s .residuals) 64 ≡ b → T (a || b) → (listed (pushResidual s h) ≡ pushed (listed s) h) × (length (pushed (listed s) h) ≤ 64)
+    roomy : (a b : Bool) → hasHandle s h ≡ a → ltb (s .residuals) 64 ≡ b → T (a || b) → (listed (pushResidual s h) ≡ pushed (listed s) h)
+        × (length (pushed (listed s) h) ≤ 64)
     unfolding pushResidual
     roomy true b ea eb t = (
-      ap (λ (x : Bool). listed (cond x s (cond (ltb (s .residuals) 64) (withResiduals s (set (handles s) (s .residuals) h) (s .residuals + 1)) s))) ea ∙ sym (pushed-listed true ea),
+      ap (λ (x : Bool). listed (cond x s (cond (ltb (s .residuals) 64) (withResiduals s (set (handles s) (s .residuals) h) (s .residuals + 1)) s))) ea ∙ sym
+          (pushed-listed true ea),
       subst (λ (l : List ℕ). length l ≤ 64) (sym (pushed-listed true ea)) (omega (arith, length-listed)),
     )
     roomy false true ea eb t =
@@ -137,7 +145,8 @@ residual-fits s g h = go (roomFor s h) refl
     go : (b : Bool) → roomFor s h ≡ b → Fits (addResidual s h) (pushed (listed s) h)
     go true e =
         let t : T (roomFor s h) = subst T (sym e) tt in
-        subst (λ (a : Applied). Fits a (pushed (listed s) h)) (sym (residual-done s h t)) (inl (refl, room-noted s (g .few) (g .handlesLong) h t .0, room-noted s (g .few) (g .handlesLong) h t .1))
+        subst (λ (a : Applied). Fits a (pushed (listed s) h)) (sym (residual-done s h t))
+        (inl (refl, room-noted s (g .few) (g .handlesLong) h t .0, room-noted s (g .few) (g .handlesLong) h t .1))
     go false e =
         let t : T (not (roomFor s h)) = subst (λ (b : Bool). T (not b)) (sym e) tt in
         subst (λ (a : Applied). Fits a (pushed (listed s) h)) (sym (residual-refused s h t)) (inr (refl, room-full s (g .few) (g .handlesLong) h t))
@@ -148,16 +157,21 @@ module _ (b : ConstraintSet) where
   unfolding mergeNonNulls mergeRanges mergeLiterals mergeClasses
   same-values a =
       steps-good (SameList a) (mergeNonNull (nonNulls b)) 128
-      (λ i h t m. pick-has (SameList a) (nonNullAt b i) (putNonNull t i) t (λ c. same-through a t (putNonNull t i) m (beside-same t (putNonNull t i) (beside-null t t (beside-self t) i))) m) 128 (omega arith) _
+      (λ i h t m. pick-has (SameList a) (nonNullAt b i) (putNonNull t i) t
+      (λ c. same-through a t (putNonNull t i) m (beside-same t (putNonNull t i) (beside-null t t (beside-self t) i))) m) 128 (omega arith) _
       (steps-good (SameList a) (mergeRange (b .ranges)) 128
       (λ i h t m. pick-has (SameList a) (entryAt b i .present) (layRange t (canonicalAt t i) (entryAt b i .range)) t
-      (λ c. same-through a t (layRange t (canonicalAt t i) (entryAt b i .range)) m (beside-same t (layRange t (canonicalAt t i) (entryAt b i .range)) (beside-lay t t (beside-self t) (canonicalAt t i) (entryAt b i .range)))) m) 128 (omega arith) _
+      (λ c. same-through a t (layRange t (canonicalAt t i) (entryAt b i .range)) m
+      (beside-same t (layRange t (canonicalAt t i) (entryAt b i .range)) (beside-lay t t (beside-self t) (canonicalAt t i) (entryAt b i .range)))) m) 128
+      (omega arith) _
       (steps-good (SameList a) (mergeLiteral (literals b)) 128
-      (λ i h t m. pick-has (SameList a) (literalAt b i .present) (addLiteral t i (literalAt b i .value)) t (λ c. same-through a t (addLiteral t i (literalAt b i .value)) m (same-addLiteral t i (literalAt b i .value))) m) 128 (omega arith) _
+      (λ i h t m. pick-has (SameList a) (literalAt b i .present) (addLiteral t i (literalAt b i .value)) t
+      (λ c. same-through a t (addLiteral t i (literalAt b i .value)) m (same-addLiteral t i (literalAt b i .value))) m) 128 (omega arith) _
       (steps-good (SameList a) (joinClass (b .«equivalence_classes»)) 128
       (λ r hr t m.
       steps-good (SameList a) (joinMember (b .«equivalence_classes») r) 128
-      (λ i h u k. pick-has (SameList a) (eqb (canonicalAt b i) r && not (eqb i r)) (unionValues u r i) u (λ c. same-through a u (unionValues u r i) k (same-union u r i)) k) 128 (omega arith) t m)
+      (λ i h u k. pick-has (SameList a) (eqb (canonicalAt b i) r && not (eqb i r)) (unionValues u r i) u
+      (λ c. same-through a u (unionValues u r i) k (same-union u r i)) k) 128 (omega arith) t m)
       128 (omega arith) (flagIf (b .contradictory) a) (same-flag a _))))
 
   module _ (t : ConstraintSet) (g : Good t) (gb : Good b) where
@@ -184,7 +198,8 @@ module _ (b : ConstraintSet) where
         w = pushTo (listed t) (handles b) k
 
         next : (x : Bool) → roomFor u h ≡ x → roomTo t (handles b) k ≡ true → listed u ≡ w
-            → ((roomTo t (handles b) k && roomFor u h ≡ true) × (listed (pushResidual u h) ≡ pushed w h) × (length (pushed w h) ≤ 64)) ⊎ ((roomTo t (handles b) k && roomFor u h ≡ false) × (64 < length (pushed w h)))
+            → ((roomTo t (handles b) k && roomFor u h ≡ true) × (listed (pushResidual u h) ≡ pushed w h) × (length (pushed w h) ≤ 64))
+            ⊎ ((roomTo t (handles b) k && roomFor u h ≡ false) × (64 < length (pushed w h)))
         next true e r l =
             let f = residual-steps-good b gb t g k in
             let m = room-noted u (f .few) (f .handlesLong) h (subst T (sym e) tt) in
@@ -211,7 +226,8 @@ module _ (a b : ConstraintSet) (ga : Good a) (gb : Good b) where
   few : min (b .residuals) 64 ≡ b .residuals
   few = omega (arith, gb .few)
 
-  outcome : ((mergeRoom a b ≡ true) × (listed (mergedSet a b) ≡ jointList a b) × (length (jointList a b) ≤ 64)) ⊎ ((mergeRoom a b ≡ false) × (64 < length (jointList a b)))
+  outcome : ((mergeRoom a b ≡ true) × (listed (mergedSet a b) ≡ jointList a b) × (length (jointList a b) ≤ 64))
+      ⊎ ((mergeRoom a b ≡ false) × (64 < length (jointList a b)))
   unfolding mergeRoom mergedSet mergeResiduals
   outcome = go (merged b t (values-good b gb a ga) gb (min (b .residuals) 64))
     where
@@ -221,17 +237,25 @@ module _ (a b : ConstraintSet) (ga : Good a) (gb : Good b) where
       e : pushTo (listed t) (handles b) n ≡ jointList a b
       e = ap₂ (λ (l : List ℕ) (k : ℕ). pushTo l (handles b) k) (same-listed a t (same-values b a)) few
 
-      go : ((roomTo t (handles b) n ≡ true) × (listed (stepsTo (mergeResidual (handles b)) n t) ≡ pushTo (listed t) (handles b) n) × (length (pushTo (listed t) (handles b) n) ≤ 64))
+      go : ((roomTo t (handles b) n ≡ true) × (listed (stepsTo (mergeResidual (handles b)) n t) ≡ pushTo (listed t) (handles b) n)
+          × (length (pushTo (listed t) (handles b) n) ≤ 64))
           ⊎ ((roomTo t (handles b) n ≡ false) × (64 < length (pushTo (listed t) (handles b) n)))
-          → ((mergeRoom a b ≡ true) × (listed (mergedSet a b) ≡ jointList a b) × (length (jointList a b) ≤ 64)) ⊎ ((mergeRoom a b ≡ false) × (64 < length (jointList a b)))
-      go (inl m) = inl (m .0, same-listed (stepsTo (mergeResidual (handles b)) n t) (normalized (stepsTo (mergeResidual (handles b)) n t)) (same-normalized (stepsTo (mergeResidual (handles b)) n t)) ∙ m .1 ∙ e, subst (λ (l : List ℕ). length l ≤ 64) e (m .2))
+          → ((mergeRoom a b ≡ true) × (listed (mergedSet a b) ≡ jointList a b) × (length (jointList a b) ≤ 64))
+          ⊎ ((mergeRoom a b ≡ false) × (64 < length (jointList a b)))
+      go (inl m) = inl (
+        m .0,
+        same-listed (stepsTo (mergeResidual (handles b)) n t) (normalized (stepsTo (mergeResidual (handles b)) n t))
+            (same-normalized (stepsTo (mergeResidual (handles b)) n t)) ∙ m .1 ∙ e,
+        subst (λ (l : List ℕ). length l ≤ 64) e (m .2),
+      )
       go (inr m) = inr (m .0, subst (λ (l : List ℕ). 64 < length l) e (m .1))
 
   -- two sets merge exactly if the joint list does not pass 64. Assumes good sets
   pub merge-room : (mergeRoom a b ≡ true) ↔ (length (jointList a b) ≤ 64)
   merge-room = go outcome
     where
-      go : ((mergeRoom a b ≡ true) × (listed (mergedSet a b) ≡ jointList a b) × (length (jointList a b) ≤ 64)) ⊎ ((mergeRoom a b ≡ false) × (64 < length (jointList a b)))
+      go : ((mergeRoom a b ≡ true) × (listed (mergedSet a b) ≡ jointList a b) × (length (jointList a b) ≤ 64))
+          ⊎ ((mergeRoom a b ≡ false) × (64 < length (jointList a b)))
           → (mergeRoom a b ≡ true) ↔ (length (jointList a b) ≤ 64)
       go (inl m) = (λ e. m .2, λ e. m .0)
       go (inr m) = (λ e. absurd (subst T (sym e ∙ m .0) tt), λ e. absurd (omega (arith, e, m .1)))
@@ -240,7 +264,8 @@ module _ (a b : ConstraintSet) (ga : Good a) (gb : Good b) where
   pub merge-fits : Fits (mergeFrom a b) (jointList a b)
   merge-fits = go outcome
     where
-      go : ((mergeRoom a b ≡ true) × (listed (mergedSet a b) ≡ jointList a b) × (length (jointList a b) ≤ 64)) ⊎ ((mergeRoom a b ≡ false) × (64 < length (jointList a b)))
+      go : ((mergeRoom a b ≡ true) × (listed (mergedSet a b) ≡ jointList a b) × (length (jointList a b) ≤ 64))
+          ⊎ ((mergeRoom a b ≡ false) × (64 < length (jointList a b)))
           → Fits (mergeFrom a b) (jointList a b)
       go (inl m) = subst (λ (x : Applied). Fits x (jointList a b)) (sym (merge-done a b (m .0))) (inl (refl, m .1, m .2))
       go (inr m) = subst (λ (x : Applied). Fits x (jointList a b)) (sym (merge-refused a b (m .0))) (inr (refl, m .1))

@@ -11,7 +11,10 @@ use lib.ListN.{length, set}
 use Rattle.lists.proofs.RangeLaws.{and-left, and-right, and-both}
 use Rattle.value_classes.specs.Parents.{parentsOk, joined}
 use Rattle.value_classes.proofs.RootLaws.{Falls, falls, falls-ok, joined-length, joined-falls}
-use Rattle.constraint_spec.specs.Sets.{parentsOf, nonNulls, literals, handles, nonNullAt, literalAt, entryAt, handleAt, canonicalAt, withClasses, withResiduals, flagIf, setOk, putNonNull, layRange, normalized, unionValues, addLiteral, hasHandle, pushResidual, joinMember, joinClass, mergeLiteral, mergeRange, mergeNonNull, mergeResidual, mergeClasses, mergeLiterals, mergeRanges, mergeNonNulls, mergeResiduals, mergedSet}
+use Rattle.constraint_spec.specs.Sets.{parentsOf, nonNulls, literals, handles, nonNullAt, literalAt, entryAt, handleAt, canonicalAt}
+use Rattle.constraint_spec.specs.Sets.{withClasses, withResiduals, flagIf, setOk, putNonNull, layRange, normalized, unionValues, addLiteral}
+use Rattle.constraint_spec.specs.Sets.{hasHandle, pushResidual, joinMember, joinClass, mergeLiteral, mergeRange, mergeNonNull, mergeResidual}
+use Rattle.constraint_spec.specs.Sets.{mergeClasses, mergeLiterals, mergeRanges, mergeNonNulls, mergeResiduals, mergedSet}
 use Rattle.constraint_spec.specs.Meets.{SoundHolder, SoundEntry, Good}
 use Rattle.constraint_spec.specs.declared.ConstraintSet.{ConstraintSet}
 use Rattle.constraint_spec.proofs.Steps.{steps-good, pick-has}
@@ -86,7 +89,8 @@ pub ruled-residual : (s : ConstraintSet) (h : ℕ) → Ruled s → Ruled (pushRe
 unfolding pushResidual
 ruled-residual s h r =
     pick-has Ruled (hasHandle s h) s (cond (ltb (s .residuals) 64) (withResiduals s (set (handles s) (s .residuals) h) (s .residuals + 1)) s) (λ t. r)
-    (pick-has Ruled (ltb (s .residuals) 64) (withResiduals s (set (handles s) (s .residuals) h) (s .residuals + 1)) s (λ t. (r .0, r .1, omega (arith, ltb→lt (s .residuals) 64 t))) r)
+    (pick-has Ruled (ltb (s .residuals) 64) (withResiduals s (set (handles s) (s .residuals) h) (s .residuals + 1)) s
+    (λ t. (r .0, r .1, omega (arith, ltb→lt (s .residuals) 64 t))) r)
 
 -- and so does a merge, whatever is merged. Assumes that the first set keeps them
 pub ruled-merged : (a b : ConstraintSet) → Ruled a → Ruled (mergedSet a b)
@@ -95,10 +99,12 @@ ruled-merged a b ra =
     ruled-normalized _
     (steps-good Ruled (mergeResidual (handles b)) (min (b .residuals) 64) (λ k h t r. ruled-residual t (handleAt b k) r) (min (b .residuals) 64) (omega arith) _
     (steps-good Ruled (mergeNonNull (nonNulls b)) 128
-    (λ i h t r. pick-has Ruled (nonNullAt b i) (putNonNull t i) t (λ c. ruled-beside t (putNonNull t i) (beside-null t t (beside-self t) i) r) r) 128 (omega arith) _
+    (λ i h t r. pick-has Ruled (nonNullAt b i) (putNonNull t i) t (λ c. ruled-beside t (putNonNull t i) (beside-null t t (beside-self t) i) r) r) 128
+    (omega arith) _
     (steps-good Ruled (mergeRange (b .ranges)) 128
     (λ i h t r. pick-has Ruled (entryAt b i .present) (layRange t (canonicalAt t i) (entryAt b i .range)) t
-    (λ c. ruled-beside t (layRange t (canonicalAt t i) (entryAt b i .range)) (beside-lay t t (beside-self t) (canonicalAt t i) (entryAt b i .range)) r) r) 128 (omega arith) _
+    (λ c. ruled-beside t (layRange t (canonicalAt t i) (entryAt b i .range)) (beside-lay t t (beside-self t) (canonicalAt t i) (entryAt b i .range)) r) r) 128
+    (omega arith) _
     (steps-good Ruled (mergeLiteral (literals b)) 128
     (λ i h t r. pick-has Ruled (literalAt b i .present) (addLiteral t i (literalAt b i .value)) t
     (λ c. ruled-beside t (addLiteral t i (literalAt b i .value)) (addLiteral-beside t i (literalAt b i .value)) r) r) 128 (omega arith) _

@@ -11,7 +11,10 @@ use Rattle.value_range.specs.Ranges.{noBound, boundAt, unboundedRange}
 use Rattle.value_classes.specs.Parents.{parentIn, climb, rootOf, joined, each}
 use Rattle.value_classes.specs.Classes.{emptyClasses, unionOf}
 use Rattle.comparison.specs.declared.BinaryOp.the-variants.{Lt, LtEq, Gt, NotEq}
-use Rattle.constraint_spec.specs.Sets.{held, entryOf, literalAt, entryAt, canonicalAt, putNonNull, putLiteral, layRange, putRange, crossCheck, stepsTo, nonNullsMoved, literalsMoved, rangesMoved, normalized, unionValues, addLiteral, addBound, addRange, pushResidual, addResidual, mergeClasses, mergeLiterals, mergeRanges, mergeNonNulls, mergeResiduals, mergedSet, emptySet}
+use Rattle.constraint_spec.specs.Sets.{held, entryOf, literalAt, entryAt, canonicalAt, putNonNull, putLiteral, layRange, putRange, crossCheck}
+use Rattle.constraint_spec.specs.Sets.{stepsTo, nonNullsMoved, literalsMoved, rangesMoved, normalized, unionValues, addLiteral, addBound}
+use Rattle.constraint_spec.specs.Sets.{addRange, pushResidual, addResidual, mergeClasses, mergeLiterals, mergeRanges, mergeNonNulls}
+use Rattle.constraint_spec.specs.Sets.{mergeResiduals, mergedSet, emptySet}
 use Rattle.constraint_spec.specs.declared.ConstraintSet.{ConstraintSet}
 
 abbrev zeroPos : ScalarValue
@@ -35,18 +38,21 @@ unfolding addLiteral putNonNull putLiteral crossCheck anyFrom emptySet emptyClas
 nan-twice = refl
 
 -- a bound at 0.0 is not replaced by one at -0.0 of the same form
-zero-kept : entryAt (addBound (addBound emptySet 0 Lt (fin false 0 (pos 0))) 0 Lt (fin true 0 (pos 0))) 0 ≡ entryOf (record { lower = noBound; upper = boundAt (fin false 0 (pos 0)) false })
+zero-kept : entryAt (addBound (addBound emptySet 0 Lt (fin false 0 (pos 0))) 0 Lt (fin true 0 (pos 0))) 0 ≡ entryOf
+    (record { lower = noBound; upper = boundAt (fin false 0 (pos 0)) false })
 unfolding addBound putNonNull putRange layRange crossCheck anyFrom emptySet emptyClasses rootOf climb parentIn each lt eq
 zero-kept = refl
 
 -- of two equal literals that a union brings together the later identity's stays
 later-stays : literalAt (unionValues (addLiteral (addLiteral emptySet 1 zeroNeg) 5 zeroPos) 5 1) 1 ≡ held zeroPos
-unfolding unionValues unionOf joined normalized nonNullsMoved literalsMoved rangesMoved stepsTo addLiteral putNonNull putLiteral putRange layRange crossCheck anyFrom emptySet emptyClasses rootOf climb parentIn each lt eq
+unfolding unionValues unionOf joined normalized nonNullsMoved literalsMoved rangesMoved stepsTo addLiteral putNonNull putLiteral putRange layRange crossCheck
+    anyFrom emptySet emptyClasses rootOf climb parentIn each lt eq
 later-stays = refl
 
 -- literals that differ meet in a union: the flag is set, and the first identity's stays
 differ : unionValues (addLiteral (addLiteral emptySet 1 (S.Int32 (pos 5))) 5 (S.Int64 (pos 5))) 5 1 .contradictory ≡ true
-unfolding unionValues unionOf joined normalized nonNullsMoved literalsMoved rangesMoved stepsTo addLiteral putNonNull putLiteral putRange layRange crossCheck anyFrom emptySet emptyClasses rootOf climb parentIn each lt eq ofInt inFloat
+unfolding unionValues unionOf joined normalized nonNullsMoved literalsMoved rangesMoved stepsTo addLiteral putNonNull putLiteral putRange layRange crossCheck
+    anyFrom emptySet emptyClasses rootOf climb parentIn each lt eq ofInt inFloat
 differ = refl
 
 -- a literal outside the bounds sets the flag: 7 is not below 7, and is at most 7
@@ -80,11 +86,15 @@ abbrev right : ConstraintSet
 right = addLiteral (unionValues emptySet 3 9) 9 (S.Int32 (pos 2))
 
 merged-class : canonicalAt (mergedSet left right) 9 ≡ 0
-unfolding mergedSet mergeClasses mergeLiterals mergeRanges mergeNonNulls mergeResiduals addBound unionValues unionOf joined normalized nonNullsMoved literalsMoved rangesMoved stepsTo addLiteral putNonNull putLiteral putRange layRange crossCheck anyFrom pushResidual emptySet emptyClasses rootOf climb parentIn each lt eq ofInt inFloat
+unfolding mergedSet mergeClasses mergeLiterals mergeRanges mergeNonNulls mergeResiduals addBound unionValues unionOf joined normalized nonNullsMoved
+    literalsMoved rangesMoved stepsTo addLiteral putNonNull putLiteral putRange layRange crossCheck anyFrom pushResidual emptySet emptyClasses rootOf climb
+    parentIn each lt eq ofInt inFloat
 merged-class = refl
 
 merged-flag : mergedSet left right .contradictory ≡ true
-unfolding mergedSet mergeClasses mergeLiterals mergeRanges mergeNonNulls mergeResiduals addBound unionValues unionOf joined normalized nonNullsMoved literalsMoved rangesMoved stepsTo addLiteral putNonNull putLiteral putRange layRange crossCheck anyFrom pushResidual emptySet emptyClasses rootOf climb parentIn each lt eq ofInt inFloat
+unfolding mergedSet mergeClasses mergeLiterals mergeRanges mergeNonNulls mergeResiduals addBound unionValues unionOf joined normalized nonNullsMoved
+    literalsMoved rangesMoved stepsTo addLiteral putNonNull putLiteral putRange layRange crossCheck anyFrom pushResidual emptySet emptyClasses rootOf climb
+    parentIn each lt eq ofInt inFloat
 merged-flag = refl
 
 -- 64 residuals have room, and a 65th is refused; one that is there is not

@@ -89,7 +89,8 @@ same-trans =
     null x y e (S.Float64 z) r k = k
     null x y e (S.Date32 z) r k = k
 
-    float : (x y : Float) → T (fits binary64 x) → T (fits binary64 y) → placeOfFloat x ≡ placeOfFloat y → (u : ScalarValue) → Typed u → T (sameScalar (S.Float64 y) u) → T (sameScalar (S.Float64 x) u)
+    float : (x y : Float) → T (fits binary64 x) → T (fits binary64 y) → placeOfFloat x ≡ placeOfFloat y → (u : ScalarValue) → Typed u → T
+        (sameScalar (S.Float64 y) u) → T (sameScalar (S.Float64 x) u)
     float x y p q e (S.Null z) r k = k
     float x y p q e (S.Boolean z) r k = k
     float x y p q e (S.Int32 z) r k = k
@@ -108,7 +109,8 @@ same-sym =
     (λ x y t p q.
     let s = subst T (eq-place x y p q) t in
     let e = place-eq (placeOfFloat x) (placeOfFloat y) s in
-    subst T (sym (eq-place y x q p)) (subst (λ (a : Place). T (samePlace (placeOfFloat y) a)) (sym e) (subst (λ (a : Place). T (samePlace a (placeOfFloat y))) e s)))
+    subst T (sym (eq-place y x q p))
+    (subst (λ (a : Place). T (samePlace (placeOfFloat y) a)) (sym e) (subst (λ (a : Place). T (samePlace a (placeOfFloat y))) e s)))
     (λ x y t p q. eq→eqZ y x (sym (eqZ→eq x y t)))
   where
     turn : (x y : Bool) → T (Bool·beq x y) → T (Bool·beq y x)
@@ -150,10 +152,12 @@ module _ (v w : ScalarValue) (tv : Typed v) (tw : Typed w) where
   pub alike-trans : (u : ScalarValue) → Typed u → T (same v w) → T (same w u) → T (same v u)
   alike-trans u tu t k =
       or-elim (isNull w && isNull u) (sameScalar w u) k
-      (λ n. or-left (isNull v && isNull u) (sameScalar v u) (and-i (isNull v) (isNull u) (subst T (sym (alike-null t)) (and-l (isNull w) (isNull u) n)) (and-r (isNull w) (isNull u) n)))
+      (λ n. or-left (isNull v && isNull u) (sameScalar v u) (and-i (isNull v) (isNull u) (subst T (sym (alike-null t)) (and-l (isNull w) (isNull u) n))
+      (and-r (isNull w) (isNull u) n)))
       (λ s.
       or-elim (isNull v && isNull w) (sameScalar v w) t
-      (λ n. or-left (isNull v && isNull u) (sameScalar v u) (and-i (isNull v) (isNull u) (and-l (isNull v) (isNull w) n) (subst T (same-null w u s) (and-r (isNull v) (isNull w) n))))
+      (λ n. or-left (isNull v && isNull u) (sameScalar v u)
+      (and-i (isNull v) (isNull u) (and-l (isNull v) (isNull w) n) (subst T (same-null w u s) (and-r (isNull v) (isNull w) n))))
       (λ m. or-right (isNull v && isNull u) (sameScalar v u) (same-trans v w m tv tw u tu s)))
 
   pub alike-place : T (same v w) → placeOf v ≡ placeOf w

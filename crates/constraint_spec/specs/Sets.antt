@@ -45,7 +45,14 @@ entryOf r = record { present = true; range = r }
 
 -- what stands past the end of a list of entries, where nothing is ever recorded
 abbrev pub blank : Entry
-blank = record { present = false; range = record { lower = record { value = nan; present = false; inclusive = false }; upper = record { value = nan; present = false; inclusive = false } } }
+blank = record {
+  present = false;
+  range = record {
+    lower = record { value = nan; present = false; inclusive = false };
+    upper = record
+        { value = nan; present = false; inclusive = false };
+  };
+}
 
 -- ---- a set's fields
 abbrev pub parentsOf : ConstraintSet → List ℕ
@@ -75,22 +82,70 @@ handleAt s k = getD (handles s) k 0
 
 -- the set with one field anew
 abbrev pub withClasses : ConstraintSet → ValueEquivalenceClasses → ConstraintSet
-withClasses s k = record { «equivalence_classes» = k; «non_null_values» = nonNulls s; «literal_equalities» = literals s; ranges = s .ranges; «residual_predicates» = handles s; residuals = s .residuals; contradictory = s .contradictory }
+withClasses s k = record {
+  «equivalence_classes» = k;
+  «non_null_values» = nonNulls s;
+  «literal_equalities» = literals s;
+  ranges = s .ranges;
+  «residual_predicates» = handles s;
+  residuals = s .residuals;
+  contradictory = s .contradictory;
+}
 
 abbrev pub withNonNulls : ConstraintSet → List Bool → ConstraintSet
-withNonNulls s l = record { «equivalence_classes» = s .«equivalence_classes»; «non_null_values» = l; «literal_equalities» = literals s; ranges = s .ranges; «residual_predicates» = handles s; residuals = s .residuals; contradictory = s .contradictory }
+withNonNulls s l = record {
+  «equivalence_classes» = s .«equivalence_classes»;
+  «non_null_values» = l;
+  «literal_equalities» = literals s;
+  ranges = s .ranges;
+  «residual_predicates» = handles s;
+  residuals = s .residuals;
+  contradictory = s .contradictory;
+}
 
 abbrev pub withLiterals : ConstraintSet → List Holder → ConstraintSet
-withLiterals s l = record { «equivalence_classes» = s .«equivalence_classes»; «non_null_values» = nonNulls s; «literal_equalities» = l; ranges = s .ranges; «residual_predicates» = handles s; residuals = s .residuals; contradictory = s .contradictory }
+withLiterals s l = record {
+  «equivalence_classes» = s .«equivalence_classes»;
+  «non_null_values» = nonNulls s;
+  «literal_equalities» = l;
+  ranges = s .ranges;
+  «residual_predicates» = handles s;
+  residuals = s .residuals;
+  contradictory = s .contradictory;
+}
 
 abbrev pub withRanges : ConstraintSet → List Entry → ConstraintSet
-withRanges s l = record { «equivalence_classes» = s .«equivalence_classes»; «non_null_values» = nonNulls s; «literal_equalities» = literals s; ranges = l; «residual_predicates» = handles s; residuals = s .residuals; contradictory = s .contradictory }
+withRanges s l = record {
+  «equivalence_classes» = s .«equivalence_classes»;
+  «non_null_values» = nonNulls s;
+  «literal_equalities» = literals s;
+  ranges = l;
+  «residual_predicates» = handles s;
+  residuals = s .residuals;
+  contradictory = s .contradictory;
+}
 
 abbrev pub withResiduals : ConstraintSet → List ℕ → ℕ → ConstraintSet
-withResiduals s l n = record { «equivalence_classes» = s .«equivalence_classes»; «non_null_values» = nonNulls s; «literal_equalities» = literals s; ranges = s .ranges; «residual_predicates» = l; residuals = n; contradictory = s .contradictory }
+withResiduals s l n = record {
+  «equivalence_classes» = s .«equivalence_classes»;
+  «non_null_values» = nonNulls s;
+  «literal_equalities» = literals s;
+  ranges = s .ranges;
+  «residual_predicates» = l;
+  residuals = n;
+  contradictory = s .contradictory;
+}
 
 abbrev pub withFlag : ConstraintSet → Bool → ConstraintSet
-withFlag s c = record { «equivalence_classes» = s .«equivalence_classes»; «non_null_values» = nonNulls s; «literal_equalities» = literals s; ranges = s .ranges; «residual_predicates» = handles s; residuals = s .residuals; contradictory = c }
+withFlag s c = record {
+  «equivalence_classes» = s .«equivalence_classes»;
+  «non_null_values» = nonNulls s;
+  «literal_equalities» = literals s;
+  ranges = s .ranges;
+  «residual_predicates» = handles s;
+  residuals = s .residuals;
+  contradictory = c;
+}
 
 -- the flag is set where bad is true
 abbrev pub flagIf : Bool → ConstraintSet → ConstraintSet

@@ -8,7 +8,10 @@ use plan_identities::Identities;
 use plan_identities::ValueId;
 ghost use mathlib.Core.Path.{_≡_};
 ghost use Rattle.plan_data.specs.Nodes.{nodeOf};
-ghost use Rattle.derive_spec.specs.Columns.{itemAt, noColumns, lineageEntry, definitionEntry, withLineage, withDefinitions, assigned, defined, inserted, baseColumn, derivedColumn, carried, valueForExpr, computed, keyColumn, keyed, isColumnRef, scanStep, scanned, derivedStep, derivedColumns, projectStep, projected, renameStep, renamed, mapStep, mapped, keyOk, keysOk, keyStep, keysOf};
+ghost use Rattle.derive_spec.specs.Columns.{itemAt, noColumns, lineageEntry, definitionEntry, withLineage, withDefinitions, assigned, defined};
+ghost use Rattle.derive_spec.specs.Columns.{inserted, baseColumn, derivedColumn, carried, valueForExpr, computed, keyColumn, keyed, isColumnRef};
+ghost use Rattle.derive_spec.specs.Columns.{scanStep, scanned, derivedStep, derivedColumns, projectStep, projected, renameStep, renamed, mapStep};
+ghost use Rattle.derive_spec.specs.Columns.{mapped, keyOk, keysOk, keyStep, keysOf};
 
 // The k-th item of a list, 0 past the end of the table.
 fn item(items: &[u16], r: Run, k: usize) -> u16
@@ -290,7 +293,9 @@ fn map_step<'a>(
     k: usize,
     t: ColumnFacts,
 ) -> ColumnFacts
-    ensures { λ q. ⌜ q ≡ mapStep ids (nodeOf (now (kind .entry)) (now (code .entry)) (now (a .entry)) (now (b .entry)) (now (bits .entry)) (now (start .entry))) (now (items .entry)) (now (exprs .entry)) r k t ⌝ }
+    ensures { λ q.
+        ⌜ q ≡ mapStep ids (nodeOf (now (kind .entry)) (now (code .entry)) (now (a .entry)) (now (b .entry)) (now (bits .entry)) (now (start .entry)))
+        (now (items .entry)) (now (exprs .entry)) r k t ⌝ }
 {
     let c = item(items, r, k);
     let e = item(exprs, r, k);
@@ -311,7 +316,9 @@ pub fn map_columns<'a>(
     r: Run,
     g: ColumnFacts,
 ) -> ColumnFacts
-    ensures { λ q. ⌜ q ≡ mapped ids (nodeOf (now (kind .entry)) (now (code .entry)) (now (a .entry)) (now (b .entry)) (now (bits .entry)) (now (start .entry))) (now (items .entry)) (now (exprs .entry)) r g ⌝ }
+    ensures { λ q.
+        ⌜ q ≡ mapped ids (nodeOf (now (kind .entry)) (now (code .entry)) (now (a .entry)) (now (b .entry)) (now (bits .entry)) (now (start .entry)))
+        (now (items .entry)) (now (exprs .entry)) r g ⌝ }
 {
     let n = r.count;
     let mut t = g;
@@ -334,7 +341,8 @@ fn key_ok<'a>(
     r: Run,
     k: usize,
 ) -> bool
-    ensures { λ q. ⌜ q ≡ keyOk (nodeOf (now (kind .entry)) (now (code .entry)) (now (a .entry)) (now (b .entry)) (now (bits .entry)) (now (start .entry))) (now (items .entry)) r k ⌝ }
+    ensures { λ q. ⌜ q ≡ keyOk (nodeOf (now (kind .entry)) (now (code .entry)) (now (a .entry)) (now (b .entry)) (now (bits .entry)) (now (start .entry)))
+        (now (items .entry)) r k ⌝ }
 {
     let e = item(items, r, k);
     let x = plan_data::node_at(kind, code, a, b, bits, start, e as usize);
@@ -352,7 +360,8 @@ pub fn keys_ok<'a>(
     items: &'a [u16],
     r: Run,
 ) -> bool
-    ensures { λ q. ⌜ q ≡ keysOk (nodeOf (now (kind .entry)) (now (code .entry)) (now (a .entry)) (now (b .entry)) (now (bits .entry)) (now (start .entry))) (now (items .entry)) r ⌝ }
+    ensures { λ q. ⌜ q ≡ keysOk (nodeOf (now (kind .entry)) (now (code .entry)) (now (a .entry)) (now (b .entry)) (now (bits .entry)) (now (start .entry)))
+        (now (items .entry)) r ⌝ }
 {
     let n = r.count;
     let mut k: usize = 0;
@@ -378,7 +387,8 @@ fn key_step<'a>(
     k: usize,
     t: ColumnFacts,
 ) -> ColumnFacts
-    ensures { λ q. ⌜ q ≡ keyStep (nodeOf (now (kind .entry)) (now (code .entry)) (now (a .entry)) (now (b .entry)) (now (bits .entry)) (now (start .entry))) g (now (items .entry)) r k t ⌝ }
+    ensures { λ q. ⌜ q ≡ keyStep (nodeOf (now (kind .entry)) (now (code .entry)) (now (a .entry)) (now (b .entry)) (now (bits .entry)) (now (start .entry))) g
+        (now (items .entry)) r k t ⌝ }
 {
     let e = item(items, r, k);
     let x = plan_data::node_at(kind, code, a, b, bits, start, e as usize);
@@ -397,7 +407,8 @@ pub fn key_columns<'a>(
     items: &'a [u16],
     r: Run,
 ) -> ColumnFacts
-    ensures { λ q. ⌜ q ≡ keysOf (nodeOf (now (kind .entry)) (now (code .entry)) (now (a .entry)) (now (b .entry)) (now (bits .entry)) (now (start .entry))) g (now (items .entry)) r ⌝ }
+    ensures { λ q. ⌜ q ≡ keysOf (nodeOf (now (kind .entry)) (now (code .entry)) (now (a .entry)) (now (b .entry)) (now (bits .entry)) (now (start .entry))) g
+        (now (items .entry)) r ⌝ }
 {
     let n = r.count;
     let mut t = no_columns();

@@ -36,5 +36,6 @@ inputs-ready p h k both =
 pub apply-predicate-ready : (p : Plan) (f : LogicalFacts) (e : Expr) → Ready (f .constraints) → Ready (applyPredicate p f e .facts .constraints)
 apply-predicate-ready = apply-has Ready empty-ready predicate-ready merge-ready
 
-pub merge-inputs-ready : (p : Plan) (f g : LogicalFacts) (both : Bool) → Ready (f .constraints) → Ready (g .constraints) → Ready (mergeInputs p f g both .facts .constraints)
+pub merge-inputs-ready : (p : Plan) (f g : LogicalFacts) (both : Bool) → Ready (f .constraints) → Ready (g .constraints) → Ready
+    (mergeInputs p f g both .facts .constraints)
 merge-inputs-ready = merge-has Ready empty-ready predicate-ready merge-ready

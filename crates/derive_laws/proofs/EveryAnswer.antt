@@ -22,7 +22,8 @@ use Rattle.plan_data.specs.declared.JoinType.{JoinType}
 use Rattle.plan_data.specs.declared.JoinType.the-variants.{Inner, LeftSemi, LeftAnti, LeftOuter, Single, RightOuter, FullOuter, LeftMark}
 use Rattle.plan_data.specs.declared.Run.{Run}
 use Rattle.plan_data.specs.declared.OperatorData.{OperatorData}
-use Rattle.plan_data.specs.declared.OperatorData.the-variants.{Scan, ConstScan, TableFunction, Selection, Projection, Rename, Map, Aggregation, Sort, Limit, Output, CrossProduct, Join}
+use Rattle.plan_data.specs.declared.OperatorData.the-variants.{Scan, ConstScan, TableFunction, Selection, Projection, Rename, Map, Aggregation, Sort}
+use Rattle.plan_data.specs.declared.OperatorData.the-variants.{Limit, Output, CrossProduct, Join}
 use Rattle.plan_identities.specs.Identities.{identitiesOf}
 use Rattle.plan_identities.specs.declared.Identities.{Identities}
 use Rattle.apply_spec.specs.Facts.{emptyFacts, withConstraints, factsOk}
@@ -40,7 +41,8 @@ use Rattle.derive_spec.specs.declared.DeriveAnswer.{DeriveAnswer}
 use Rattle.derive_spec.proofs.Answers.{answer-made, answer-at, answer-past}
 
 module _ (P : ConstraintSet → Type 0) (nothing : P emptySet)
-    (apply : (p : Plan) (lineage : List ℕ) (s : ConstraintSet) (e : ℕ) → P s → predicateApplied p lineage s e .refused ≡ false → P (predicateApplied p lineage s e .constraints))
+    (apply : (p : Plan) (lineage : List ℕ) (s : ConstraintSet) (e : ℕ) → P s → predicateApplied p lineage s e .refused ≡ false → P
+    (predicateApplied p lineage s e .constraints))
     (merge : (a b : ConstraintSet) → P a → P b → P (mergeFrom a b .constraints)) where
   abbrev InFacts : LogicalFacts → Type 0
   InFacts f = P (f .constraints)
@@ -53,7 +55,8 @@ module _ (P : ConstraintSet → Type 0) (nothing : P emptySet)
   unfolding emptyFacts
   refused-has o = nothing
 
-  given-has : (d : DeriveAnswer) (make : LogicalFacts → DeriveAnswer) → InAnswer d → ((f : LogicalFacts) → InFacts f → InAnswer (make f)) → InAnswer (given d make)
+  given-has : (d : DeriveAnswer) (make : LogicalFacts → DeriveAnswer) → InAnswer d → ((f : LogicalFacts) → InFacts f → InAnswer (make f)) → InAnswer
+      (given d make)
   unfolding given
   given-has d make r g = pick-has InAnswer (isAccepted (d .outcome)) (make (d .facts)) d (λ t. g (d .facts) r) r
 
@@ -83,9 +86,11 @@ module _ (P : ConstraintSet → Type 0) (nothing : P emptySet)
   pub merged-has : (f g : LogicalFacts) (both : Bool) → InFacts f → InFacts g → InFacts (inputsMerged f g both .facts)
   unfolding inputsMerged
   merged-has f g both rf rg =
-      answered-has f (record { lineage = overridden (f .lineage) (g .lineage); definitions = overridden (f .definitions) (g .definitions); constraints = f .constraints })
+      answered-has f
+      (record { lineage = overridden (f .lineage) (g .lineage); definitions = overridden (f .definitions) (g .definitions); constraints = f .constraints })
       (cond both (mergeFrom (f .constraints) (g .constraints)) (done (f .constraints))) rf
-      (λ z. pick-has (λ (a : Applied). P (a .constraints)) both (mergeFrom (f .constraints) (g .constraints)) (done (f .constraints)) (λ t. merge (f .constraints) (g .constraints) rf rg) rf)
+      (λ z. pick-has (λ (a : Applied). P (a .constraints)) both (mergeFrom (f .constraints) (g .constraints)) (done (f .constraints))
+      (λ t. merge (f .constraints) (g .constraints) rf rg) rf)
 
   -- ---- each kind
   module _ (p : Plan) (h : Operator) where
@@ -94,7 +99,8 @@ module _ (P : ConstraintSet → Type 0) (nothing : P emptySet)
 
     joined-has : (on : Expr) (f g : LogicalFacts) (j : JoinType) → InFacts f → InFacts g → InAnswer (joined p ids h on f g j)
     joined-has on f g Inner rf rg =
-        given-has (fitted h (inputsMerged f g true)) _ (fitted-has h (inputsMerged f g true) (merged-has f g true rf rg)) (λ u r. fitted-has h (filtered p on u) (filtered-has p on u r))
+        given-has (fitted h (inputsMerged f g true)) _ (fitted-has h (inputsMerged f g true) (merged-has f g true rf rg))
+        (λ u r. fitted-has h (filtered p on u) (filtered-has p on u r))
     joined-has on f g LeftSemi rf rg = rf
     joined-has on f g LeftAnti rf rg = rf
     joined-has on f g (LeftMark c) rf rg = rf
@@ -106,7 +112,8 @@ module _ (P : ConstraintSet → Type 0) (nothing : P emptySet)
     grouped-has : (keys aggregates : Run) (f : LogicalFacts) → InAnswer (grouped p ids h keys aggregates f)
     unfolding grouped
     grouped-has keys aggregates f =
-        pick-has InAnswer (keysOk (nodeAt p) (p .items .a) keys) (accepted (factsWith (aggregated ids (nodeAt p) (p .items .a) keys aggregates (columnsIn f)) emptySet)) (refused (UnsupportedKey h))
+        pick-has InAnswer (keysOk (nodeAt p) (p .items .a) keys)
+        (accepted (factsWith (aggregated ids (nodeAt p) (p .items .a) keys aggregates (columnsIn f)) emptySet)) (refused (UnsupportedKey h))
         (λ t. nothing) (refused-has (UnsupportedKey h))
 
     module _ (l r : DeriveAnswer) (rl : InAnswer l) (rr : InAnswer r) where
@@ -138,7 +145,8 @@ module _ (P : ConstraintSet → Type 0) (nothing : P emptySet)
     answer-below zero h b = absurd (omega arith)
     answer-below (suc n) h b =
         subst InAnswer (sym (answer-made p h))
-        (operator-has p (record { 0 = h }) _ _ (entry-has h (λ i m. answer-below n i (omega arith)) _) (entry-has h (λ i m. answer-below n i (omega arith)) _) (operatorAt p h))
+        (operator-has p (record { 0 = h }) _ _ (entry-has h (λ i m. answer-below n i (omega arith)) _) (entry-has h (λ i m. answer-below n i (omega arith)) _)
+        (operatorAt p h))
 
     pub answer-has : (h : ℕ) → InAnswer (answerOf p h)
     answer-has h = answer-below (suc h) h (omega arith)
@@ -146,7 +154,8 @@ module _ (P : ConstraintSet → Type 0) (nothing : P emptySet)
   pub derived-has : (p : Plan) (h : ℕ) → InAnswer (deriveOf p h)
   unfolding deriveOf
   derived-has p h =
-      pick-has InAnswer (planOk p && ltb h (p .operators .count)) (answerOf p h) (refused (NoSuch (record { 0 = h }))) (λ t. answer-has p h) (refused-has (NoSuch (record { 0 = h })))
+      pick-has InAnswer (planOk p && ltb h (p .operators .count)) (answerOf p h) (refused (NoSuch (record { 0 = h }))) (λ t. answer-has p h)
+      (refused-has (NoSuch (record { 0 = h })))
 
   -- ---- the two entries that take facts
   pub apply-has : (p : Plan) (f : LogicalFacts) (e : Expr) → InFacts f → InFacts (applyPredicate p f e .facts)
@@ -159,5 +168,6 @@ module _ (P : ConstraintSet → Type 0) (nothing : P emptySet)
   pub merge-has : (p : Plan) (f g : LogicalFacts) (both : Bool) → InFacts f → InFacts g → InFacts (mergeInputs p f g both .facts)
   unfolding mergeInputs
   merge-has p f g both rf rg =
-      pick-has (λ (a : FactsAnswer). InFacts (a .facts)) (planOk p && (factsOk p f && factsOk p g)) (inputsMerged f g both) (record { facts = f; outcome = O.NoSuch })
+      pick-has (λ (a : FactsAnswer). InFacts (a .facts)) (planOk p && (factsOk p f && factsOk p g)) (inputsMerged f g both)
+      (record { facts = f; outcome = O.NoSuch })
       (λ t. merged-has f g both rf rg) rf

@@ -16,7 +16,13 @@ use Rattle.value_range.specs.Ranges.{unboundedRange}
 use Rattle.value_range.specs.declared.ValueRange.{ValueRange}
 use Rattle.value_classes.specs.Parents.{joined}
 use Rattle.value_classes.proofs.RootLaws.{Falls, falls, falls-ok, joined-length, joined-falls}
-use Rattle.constraint_spec.specs.Sets.{none, noEntry, blank, entryOf, parentsOf, nonNulls, literals, handles, nonNullAt, literalAt, entryAt, handleAt, canonicalAt, withClasses, withNonNulls, withLiterals, withRanges, withResiduals, withFlag, flagIf, emptySet, putNonNull, putLiteral, rangeIn, tightenBy, layRange, putRange, crossed, crossedAt, crossCheck, moveNonNull, moveLiteral, moveRange, nonNullsMoved, literalsMoved, rangesMoved, normalized, unionValues, addLiteral, hasHandle, pushResidual, done, refusedWith, joinMember, joinClass, mergeLiteral, mergeRange, mergeNonNull, mergeResidual, mergeClasses, mergeLiterals, mergeRanges, mergeNonNulls, mergeResiduals, mergeValues, mergedSet, mergeRoom, mergeFrom}
+use Rattle.constraint_spec.specs.Sets.{none, noEntry, blank, entryOf, parentsOf, nonNulls, literals, handles, nonNullAt, literalAt, entryAt}
+use Rattle.constraint_spec.specs.Sets.{handleAt, canonicalAt, withClasses, withNonNulls, withLiterals, withRanges, withResiduals, withFlag, flagIf}
+use Rattle.constraint_spec.specs.Sets.{emptySet, putNonNull, putLiteral, rangeIn, tightenBy, layRange, putRange, crossed, crossedAt, crossCheck}
+use Rattle.constraint_spec.specs.Sets.{moveNonNull, moveLiteral, moveRange, nonNullsMoved, literalsMoved, rangesMoved, normalized, unionValues}
+use Rattle.constraint_spec.specs.Sets.{addLiteral, hasHandle, pushResidual, done, refusedWith, joinMember, joinClass, mergeLiteral, mergeRange}
+use Rattle.constraint_spec.specs.Sets.{mergeNonNull, mergeResidual, mergeClasses, mergeLiterals, mergeRanges, mergeNonNulls, mergeResiduals}
+use Rattle.constraint_spec.specs.Sets.{mergeValues, mergedSet, mergeRoom, mergeFrom}
 use Rattle.constraint_spec.specs.declared.Holder.{Holder}
 use Rattle.constraint_spec.specs.declared.Entry.{Entry}
 use Rattle.constraint_spec.specs.declared.ConstraintSet.{ConstraintSet}
@@ -123,7 +129,8 @@ module _ (s : ConstraintSet) (g : Sorted s) where
   unfolding crossCheck
   sorted-check = record { many = g .many; fall = g .fall; room = g .room; bounds = g .bounds }
 
-  laid-bounded : (r : ℕ) (new : ValueRange) → BothComparable new → (i : ℕ) → Bounded (getD (set (s .ranges) r (entryOf (tightenBy (rangeIn (entryAt s r)) new))) i blank)
+  laid-bounded : (r : ℕ) (new : ValueRange) → BothComparable new → (i : ℕ) → Bounded
+      (getD (set (s .ranges) r (entryOf (tightenBy (rangeIn (entryAt s r)) new))) i blank)
   laid-bounded r new c =
       at-set Bounded (s .ranges) r (entryOf (tightenBy (rangeIn (entryAt s r)) new)) blank
       (λ z. comparable-tightened (rangeIn (entryAt s r)) new (comparable-in (entryAt s r) (g .bounds r)) c) (g .bounds)
@@ -141,21 +148,24 @@ module _ (s : ConstraintSet) (g : Sorted s) where
   sorted-push h =
       let u = withResiduals s (set (handles s) (s .residuals) h) (s .residuals + 1) in
       pick-has Sorted (hasHandle s h) s (cond (ltb (s .residuals) 64) u s) (λ t. g)
-      (pick-has Sorted (ltb (s .residuals) 64) u s (λ t. record { many = g .many; fall = g .fall; room = length-set (handles s) (s .residuals) h ∙ g .room; bounds = g .bounds }) g)
+      (pick-has Sorted (ltb (s .residuals) 64) u s
+      (λ t. record { many = g .many; fall = g .fall; room = length-set (handles s) (s .residuals) h ∙ g .room; bounds = g .bounds }) g)
 
 -- ---- the passes of `normalize`
 module _ (s : ConstraintSet) (g : Sorted s) where
   nulls-sorted : Sorted (nonNullsMoved s)
   unfolding nonNullsMoved
   nulls-sorted =
-      steps-good Sorted (moveNonNull s) 128 (λ i h u e. pick-has Sorted (nonNullAt s i) (putNonNull u (canonicalAt s i)) u (λ c. sorted-null u e (canonicalAt s i)) e) 128 (omega arith)
+      steps-good Sorted (moveNonNull s) 128 (λ i h u e. pick-has Sorted (nonNullAt s i) (putNonNull u (canonicalAt s i)) u
+      (λ c. sorted-null u e (canonicalAt s i)) e) 128 (omega arith)
       (withNonNulls s (replicate 128 false)) (record { many = g .many; fall = g .fall; room = g .room; bounds = g .bounds })
 
   literals-sorted : Sorted (literalsMoved s)
   unfolding literalsMoved
   literals-sorted =
       steps-good Sorted (moveLiteral s) 128
-      (λ i h u e. pick-has Sorted (literalAt s i .present) (putLiteral u (canonicalAt s i) (literalAt s i .value)) u (λ c. sorted-literal u e (canonicalAt s i) (literalAt s i .value)) e) 128 (omega arith)
+      (λ i h u e. pick-has Sorted (literalAt s i .present) (putLiteral u (canonicalAt s i) (literalAt s i .value)) u
+      (λ c. sorted-literal u e (canonicalAt s i) (literalAt s i .value)) e) 128 (omega arith)
       (withLiterals s (replicate 128 none)) (record { many = g .many; fall = g .fall; room = g .room; bounds = g .bounds })
 
   ranges-sorted : Sorted (rangesMoved s)
@@ -200,18 +210,21 @@ sorted-add s i l g =
     let s1 = putNonNull s r in
     let s2 = putLiteral s1 r l in
     pick-has Sorted (ltb i 128) (cond (isNull l) (withFlag s true) (crossCheck s2)) s
-    (λ t. pick-has Sorted (isNull l) (withFlag s true) (crossCheck s2) (λ n. sorted-flag s g true) (sorted-check s2 (sorted-literal s1 (sorted-null s g r) r l))) g
+    (λ t. pick-has Sorted (isNull l) (withFlag s true) (crossCheck s2) (λ n. sorted-flag s g true)
+    (sorted-check s2 (sorted-literal s1 (sorted-null s g r) r l))) g
 
 module _ (a b : ConstraintSet) (ga : Sorted a) (gb : (i : ℕ) → Bounded (entryAt b i)) where
   values-sorted : Sorted (mergeValues a b)
   unfolding mergeNonNulls mergeRanges mergeLiterals mergeClasses
   values-sorted =
-      steps-good Sorted (mergeNonNull (nonNulls b)) 128 (λ i h t g. pick-has Sorted (nonNullAt b i) (putNonNull t i) t (λ c. sorted-null t g i) g) 128 (omega arith) _
+      steps-good Sorted (mergeNonNull (nonNulls b)) 128 (λ i h t g. pick-has Sorted (nonNullAt b i) (putNonNull t i) t (λ c. sorted-null t g i) g) 128
+      (omega arith) _
       (steps-good Sorted (mergeRange (b .ranges)) 128
       (λ i h t g. pick-has Sorted (entryAt b i .present) (layRange t (canonicalAt t i) (entryAt b i .range)) t
       (λ c. sorted-lay t g (canonicalAt t i) (entryAt b i .range) (gb i (is-true (entryAt b i .present) c))) g) 128 (omega arith) _
       (steps-good Sorted (mergeLiteral (literals b)) 128
-      (λ i h t g. pick-has Sorted (literalAt b i .present) (addLiteral t i (literalAt b i .value)) t (λ c. sorted-add t i (literalAt b i .value) g) g) 128 (omega arith) _
+      (λ i h t g. pick-has Sorted (literalAt b i .present) (addLiteral t i (literalAt b i .value)) t (λ c. sorted-add t i (literalAt b i .value) g) g) 128
+      (omega arith) _
       (steps-good Sorted (joinClass (b .«equivalence_classes»)) 128
       (λ q hq t g. steps-good Sorted (joinMember (b .«equivalence_classes») q) 128
       (λ i hi u w. pick-has Sorted (eqb (canonicalAt b i) q && not (eqb i q)) (unionValues u q i) u (λ c. sorted-union u q i hq hi w) w) 128 (omega arith) t g)
@@ -221,7 +234,8 @@ module _ (a b : ConstraintSet) (ga : Sorted a) (gb : (i : ℕ) → Bounded (entr
   unfolding mergedSet mergeResiduals
   merged-ready =
       normalized-ready _
-      (steps-good Sorted (mergeResidual (handles b)) (min (b .residuals) 64) (λ k h t g. sorted-push t g (handleAt b k)) (min (b .residuals) 64) (omega arith) (mergeValues a b) values-sorted)
+      (steps-good Sorted (mergeResidual (handles b)) (min (b .residuals) 64) (λ k h t g. sorted-push t g (handleAt b k)) (min (b .residuals) 64) (omega arith)
+      (mergeValues a b) values-sorted)
 
 -- both sets as one, or, where the residuals find no room, the first
 pub merge-ready : (a b : ConstraintSet) → Ready a → Ready b → Ready (mergeFrom a b .constraints)

@@ -48,7 +48,8 @@ pub few-operators : (p : Plan) → planOk p ≡ true → p .operators .count ≤
 unfolding countsWithin
 few-operators p ok =
     leb-true (p .operators .count) 128
-    (and-left (leb (p .operators .count) 128) _ (and-right (leb (p .expressions .count) 1024) _ (and-right (leb (p .columns .count) 64) _ (rules p ok .counts))))
+    (and-left (leb (p .operators .count) 128) _
+    (and-right (leb (p .expressions .count) 1024) _ (and-right (leb (p .columns .count) 64) _ (rules p ok .counts))))
 
 module _ (p : Plan) where
   -- a table of 128 with the answers of the operators below k, and nothing beyond
@@ -66,7 +67,8 @@ module _ (p : Plan) where
     holds-input a i e =
         elim (decLt i k) [
           | yes l ↦ (let g : a ≡ i = omega arith in rw g (w .1 i (omega arith)))
-          | no n ↦ (let g : a ≡ k = omega arith in let m : k ≤ i = omega arith in rw g (w .1 k small ∙ answer-past p k k (omega arith) ∙ sym (answer-past p k i m)))
+          | no n ↦ (let g : a ≡ k = omega arith in let m : k ≤ i = omega arith in rw g
+              (w .1 k small ∙ answer-past p k k (omega arith) ∙ sym (answer-past p k i m)))
         ]
 
     holds-more : (d : DeriveAnswer) → d ≡ answerFrom p (answersTo p k) k → Holds (k + 1) (set t k d)
@@ -97,7 +99,8 @@ module _ (p : Plan) where
         (ed
         ∙ (λ j. operatorDerived p (ei j) (record { 0 = k }) (holds-input a x ea j) (holds-input b y eb j) o)
         ∙ (λ j. operatorDerived p (identitiesOf p) (record { 0 = k }) (getD (answersTo p k) (ex j) missing) (getD (answersTo p k) (ey j) missing) o)
-        ∙ (λ j. operatorDerived p (identitiesOf p) (record { 0 = k }) (getD (answersTo p k) (outerOf (eo j)) missing) (getD (answersTo p k) (innerOf (eo j)) missing) (eo j)))
+        ∙ (λ j. operatorDerived p (identitiesOf p) (record { 0 = k }) (getD (answersTo p k) (outerOf (eo j)) missing)
+        (getD (answersTo p k) (innerOf (eo j)) missing) (eo j)))
 
   pub holds-end : (k h : ℕ) (t : List DeriveAnswer) → h < 128 → h < k → Holds k t → getD t h past ≡ answerOf p h
   unfolding Holds

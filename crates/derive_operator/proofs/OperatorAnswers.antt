@@ -54,11 +54,13 @@ module _ (h : Operator) (a : FactsAnswer) (q : DeriveAnswer) where
   fit-no-such y e = rw y e
 
 -- ---- Aggregation, where b is the test of its keys
-module _ (p : Plan) (ids : Identities) (h : Operator) (keys aggregates : Run) (f : LogicalFacts) (b : Bool) (t : b ≡ keysOk (nodeAt p) (p .items .a) keys) (q : DeriveAnswer) where
+module _ (p : Plan) (ids : Identities) (h : Operator) (keys aggregates : Run) (f : LogicalFacts) (b : Bool) (t : b ≡ keysOk (nodeAt p) (p .items .a) keys)
+    (q : DeriveAnswer) where
   pub group-refused : b ≡ false → q ≡ refused (UnsupportedKey h) → q ≡ grouped p ids h keys aggregates f
   unfolding grouped
   group-refused n e = rw (sym t ∙ n) e
 
-  pub group-done : b ≡ true → q ≡ accepted (factsWith (aggregated ids (nodeAt p) (p .items .a) keys aggregates (columnsIn f)) emptySet) → q ≡ grouped p ids h keys aggregates f
+  pub group-done : b ≡ true → q ≡ accepted (factsWith (aggregated ids (nodeAt p) (p .items .a) keys aggregates (columnsIn f)) emptySet) → q ≡ grouped p ids h
+      keys aggregates f
   unfolding grouped
   group-done y e = rw (sym t ∙ y) e

@@ -47,14 +47,16 @@ module _ (x : Record) (st nc ne h : ℕ) (e : recordOk 3 x nc ne h ≡ true) whe
     a-below r =
         ltb-true (x .a) h
         (subst (λ (s : ℕ). handleOk s (x .a) nc ne h ≡ true) r
-        (and-left _ (handleOk (rowOf k .b) (x .b) nc ne h) (and-left _ (handleOk (rowOf k .c) (x .c) nc ne h) (and-left _ (handleOk (rowOf k .d) (x .d) nc ne h) held))))
+        (and-left _ (handleOk (rowOf k .b) (x .b) nc ne h)
+        (and-left _ (handleOk (rowOf k .c) (x .c) nc ne h) (and-left _ (handleOk (rowOf k .d) (x .d) nc ne h) held))))
 
     b-below : rowOf k .b ≡ 4 → x .b < h
     unfolding handleOk
     b-below r =
         ltb-true (x .b) h
         (subst (λ (s : ℕ). handleOk s (x .b) nc ne h ≡ true) r
-        (and-right (handleOk (rowOf k .a) (x .a) nc ne h) _ (and-left _ (handleOk (rowOf k .c) (x .c) nc ne h) (and-left _ (handleOk (rowOf k .d) (x .d) nc ne h) held))))
+        (and-right (handleOk (rowOf k .a) (x .a) nc ne h) _
+        (and-left _ (handleOk (rowOf k .c) (x .c) nc ne h) (and-left _ (handleOk (rowOf k .d) (x .d) nc ne h) held))))
 
     c-below : rowOf k .c ≡ 4 → x .c < h
     unfolding handleOk

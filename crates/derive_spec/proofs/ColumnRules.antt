@@ -21,7 +21,9 @@ use Rattle.plan_identities.specs.declared.Identities.{Identities}
 use Rattle.plan_identities.specs.declared.ValueId.the-variants.{Base, Derived}
 use Rattle.plan_identities.proofs.NumberLaws.{base-small, number-base, number-derived, number-held}
 use Rattle.apply_spec.specs.Entries.{override, overridden}
-use Rattle.derive_spec.specs.Columns.{itemAt, noColumns, lineageEntry, definitionEntry, assigned, defined, inserted, derivedColumn, carried, valueForExpr, computed, keyColumn, keyed, scanStep, scanned, derivedStep, derivedColumns, projectStep, projected, renameStep, renamed, mapStep, mapped, keyStep, keysOf, aggregated}
+use Rattle.derive_spec.specs.Columns.{itemAt, noColumns, lineageEntry, definitionEntry, assigned, defined, inserted, derivedColumn, carried}
+use Rattle.derive_spec.specs.Columns.{valueForExpr, computed, keyColumn, keyed, scanStep, scanned, derivedStep, derivedColumns, projectStep}
+use Rattle.derive_spec.specs.Columns.{projected, renameStep, renamed, mapStep, mapped, keyStep, keysOf, aggregated}
 use Rattle.derive_spec.specs.declared.ColumnFacts.{ColumnFacts}
 use Rattle.derive_spec.proofs.SetRules.{stored}
 
@@ -115,7 +117,8 @@ module _ (p : Plan) (few : p .columns .count ≤ 64) where
   derived-right : (c : Column) → c .0 < nc → RightEntry (RightIdentity nc) nc (c .0) (lineageEntry ids (Derived c))
   unfolding lineageEntry
   derived-right c l =
-      subst (λ (n : ℕ). RightEntry (RightIdentity nc) nc (c .0) (cond (ltb n 128) (n + 1) 0)) (sym (number-derived p c (omega arith)) ∙ sym (number-held p (Derived c)))
+      subst (λ (n : ℕ). RightEntry (RightIdentity nc) nc (c .0) (cond (ltb n 128) (n + 1) 0))
+      (sym (number-derived p c (omega arith)) ∙ sym (number-held p (Derived c)))
       (numbered-right nc (c .0) (64 + c .0) l (inr (omega arith, omega arith)))
 
   -- ---- one column
@@ -131,7 +134,8 @@ module _ (p : Plan) (few : p .columns .count ≤ 64) where
   made-derived t c l r = assigned-right t c _ r (derived-right (record { 0 = c }) l)
 
   carried-right : (g t : ColumnFacts) (to from : ℕ) → Right t
-      → RightEntry (RightIdentity nc) nc to (getD (g .lineage) from 0) → RightEntry (RightDefinition ne) nc to (getD (g .definitions) from 0) → Right (carried g t to from)
+      → RightEntry (RightIdentity nc) nc to (getD (g .lineage) from 0) → RightEntry (RightDefinition ne) nc to (getD (g .definitions) from 0) → Right
+      (carried g t to from)
   unfolding carried
   carried-right g t to from r q d = record {
     lineage = inserted-right (RightIdentity nc) nc (t .lineage) to (getD (g .lineage) from 0) (r .lineage) q;
@@ -169,7 +173,8 @@ module _ (p : Plan) (few : p .columns .count ≤ 64) where
   pub scanned-right : (items : List ℕ) (r : Run) → ItemsBelow nc items r → Right (scanned ids items r)
   unfolding scanned
   scanned-right items r b =
-      steps-good Right (scanStep ids items r) (r .count) (λ k l t q. assigned-right t (itemAt items r k) _ q (base-right (record { 0 = itemAt items r k }) (b k l)))
+      steps-good Right (scanStep ids items r) (r .count)
+      (λ k l t q. assigned-right t (itemAt items r k) _ q (base-right (record { 0 = itemAt items r k }) (b k l)))
       (r .count) (omega arith) noColumns (nothing-right nc ne)
 
   pub derivedColumns-right : (items : List ℕ) (r : Run) (t : ColumnFacts) → ItemsBelow nc items r → Right t → Right (derivedColumns ids items r t)
@@ -181,7 +186,8 @@ module _ (p : Plan) (few : p .columns .count ≤ 64) where
   unfolding projected
   projected-right g items r q =
       steps-good Right (projectStep g items r) (r .count)
-      (λ k l t w. carried-right g t (itemAt items r k) (itemAt items r k) w (q .lineage (itemAt items r k)) (q .definitions (itemAt items r k))) (r .count) (omega arith) noColumns (nothing-right nc ne)
+      (λ k l t w. carried-right g t (itemAt items r k) (itemAt items r k) w (q .lineage (itemAt items r k)) (q .definitions (itemAt items r k))) (r .count)
+      (omega arith) noColumns (nothing-right nc ne)
 
   pub renamed-right : (g : ColumnFacts) (items originals : List ℕ) (r : Run) → ItemsBelow nc items r → Right g → Right (renamed g items originals r)
   unfolding renamed
@@ -189,11 +195,14 @@ module _ (p : Plan) (few : p .columns .count ≤ 64) where
       steps-good Right (renameStep g items originals r) (r .count)
       (λ k l t w.
       carried-right g t (itemAt items r k) (itemAt originals r k) w
-      (moved (RightIdentity nc) nc (itemAt originals r k) (itemAt items r k) (getD (g .lineage) (itemAt originals r k) 0) (b k l) (q .lineage (itemAt originals r k)))
-      (moved (RightDefinition ne) nc (itemAt originals r k) (itemAt items r k) (getD (g .definitions) (itemAt originals r k) 0) (b k l) (q .definitions (itemAt originals r k))))
+      (moved (RightIdentity nc) nc (itemAt originals r k) (itemAt items r k) (getD (g .lineage) (itemAt originals r k) 0) (b k l)
+      (q .lineage (itemAt originals r k)))
+      (moved (RightDefinition ne) nc (itemAt originals r k) (itemAt items r k) (getD (g .definitions) (itemAt originals r k) 0) (b k l)
+      (q .definitions (itemAt originals r k))))
       (r .count) (omega arith) noColumns (nothing-right nc ne)
 
-  pub mapped-right : (node : ℕ → ExprData) (items exprs : List ℕ) (r : Run) (g : ColumnFacts) → ItemsBelow nc items r → ItemsBelow ne exprs r → Right g → Right (mapped ids node items exprs r g)
+  pub mapped-right : (node : ℕ → ExprData) (items exprs : List ℕ) (r : Run) (g : ColumnFacts) → ItemsBelow nc items r → ItemsBelow ne exprs r → Right g
+      → Right (mapped ids node items exprs r g)
   unfolding mapped
   mapped-right node items exprs r g b m q =
       steps-good Right (mapStep ids node items exprs r) (r .count)
@@ -204,4 +213,5 @@ module _ (p : Plan) (few : p .columns .count ≤ 64) where
   unfolding keysOf
   aggregated-right node items keys aggregates g b q =
       derivedColumns-right items aggregates (keysOf node g items keys) b
-      (steps-good Right (keyStep node g items keys) (keys .count) (λ k l t w. keyed-right g t q w (node (itemAt items keys k))) (keys .count) (omega arith) noColumns (nothing-right nc ne))
+      (steps-good Right (keyStep node g items keys) (keys .count) (λ k l t w. keyed-right g t q w (node (itemAt items keys k))) (keys .count) (omega arith)
+      noColumns (nothing-right nc ne))

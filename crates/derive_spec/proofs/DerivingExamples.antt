@@ -16,7 +16,9 @@ use Rattle.value_range.specs.Ranges.{noBound, boundAt}
 use Rattle.value_range.specs.declared.ValueRange.{ValueRange}
 use Rattle.value_classes.specs.Parents.{parentIn, climb, rootOf, joined, each}
 use Rattle.value_classes.specs.Classes.{emptyClasses, unionOf}
-use Rattle.constraint_spec.specs.Sets.{none, held, noEntry, entryOf, emptySet, stepsTo, putNonNull, putLiteral, layRange, putRange, crossCheck, normalized, nonNullsMoved, literalsMoved, rangesMoved, unionValues, addNonNull, addLiteral, addBound, addRange, pushResidual, addResidual}
+use Rattle.constraint_spec.specs.Sets.{none, held, noEntry, entryOf, emptySet, stepsTo, putNonNull, putLiteral, layRange, putRange, crossCheck}
+use Rattle.constraint_spec.specs.Sets.{normalized, nonNullsMoved, literalsMoved, rangesMoved, unionValues, addNonNull, addLiteral, addBound}
+use Rattle.constraint_spec.specs.Sets.{addRange, pushResidual, addResidual}
 use Rattle.constraint_spec.specs.declared.Holder.{Holder}
 use Rattle.constraint_spec.specs.declared.Entry.{Entry}
 use Rattle.constraint_spec.specs.declared.ConstraintSet.{ConstraintSet}
@@ -29,7 +31,8 @@ use Rattle.apply_spec.specs.Facts.{emptyFacts}
 use Rattle.apply_spec.specs.Conjuncts.{joinedOf, conjunctsTo}
 use Rattle.apply_spec.specs.Apply.{comparisonApplied, conjunctApplied, allApplied}
 use Rattle.apply_spec.specs.Entries.{predicateApplied, overridden, inputsMerged}
-use Rattle.derive_spec.specs.Columns.{lineageEntry, definitionEntry, assigned, defined, carried, computed, keyColumn, scanned, derivedColumns, projected, renamed, mapped, keysOk, keysOf}
+use Rattle.derive_spec.specs.Columns.{lineageEntry, definitionEntry, assigned, defined, carried, computed, keyColumn, scanned, derivedColumns}
+use Rattle.derive_spec.specs.Columns.{projected, renamed, mapped, keysOk, keysOf}
 use Rattle.derive_spec.specs.Operators.{accepted, refused, given, filtered, grouped}
 use Rattle.derive_spec.specs.Deriving.{answersTo, answerOf, deriveOf}
 use Rattle.derive_spec.specs.declared.DeriveAnswer.{DeriveAnswer}
@@ -92,13 +95,19 @@ below n = entryOf (record { lower = noBound; upper = boundAt (ofInt binary64 (po
 abbrev worked : Plan
 worked =
     planOf (2 ∷ 2 ∷ [])
-    (0x20 ∷ 0x20 ∷ 0x22 ∷ 0x12 ∷ 0x22 ∷ 0x23 ∷ []) (0 ∷ 0 ∷ 0 ∷ 0 ∷ 2 ∷ 0 ∷ []) (0 ∷ 1 ∷ 0 ∷ 0 ∷ 1 ∷ 2 ∷ []) (0 ∷ 0 ∷ 1 ∷ 0 ∷ 3 ∷ 0 ∷ []) [] (0 ∷ 0 ∷ 0 ∷ 7 ∷ [])
+    (0x20 ∷ 0x20 ∷ 0x22 ∷ 0x12 ∷ 0x22 ∷ 0x23 ∷ []) (0 ∷ 0 ∷ 0 ∷ 0 ∷ 2 ∷ 0 ∷ []) (0 ∷ 1 ∷ 0 ∷ 0 ∷ 1 ∷ 2 ∷ []) (0 ∷ 0 ∷ 1 ∷ 0 ∷ 3 ∷ 0 ∷ []) []
+    (0 ∷ 0 ∷ 0 ∷ 7 ∷ [])
     (0x30 ∷ 0x33 ∷ []) [] (0 ∷ 5 ∷ []) (2 ∷ 0 ∷ []) [] (2 ∷ 0 ∷ [])
     (2 ∷ 4 ∷ 0 ∷ 1 ∷ []) []
 
 -- `facts 1 0`, `column 0 b0`, `column 1 b1`, `class b0 b1`, `nonnull b0`, `range b0 - 401c000000000000x`
 worked-case : deriveOf worked 1 ≡ factsOf (1 ∷ 2 ∷ []) [] (setOf (set alone 1 0) true none (below 7) [] false)
-unfolding deriveOf planOk countsWithin allFrom exprOkOf recordOk listsOk rowOf lineOf bitsOk handleOk countOf moreOf itemOk operatorOkOf scansOf anyFrom countFrom answerOf answersTo operatorData identitiesOf filled baseOf byKey tableIn firstFrom numberBy lineageEntry definitionEntry scanned derivedColumns projected renamed mapped computed carried keysOk keysOf keyColumn grouped stepsTo assigned defined given filtered emptyFacts predicateApplied allApplied conjunctsTo joinedOf conjunctApplied comparisonApplied exprData inputsMerged overridden addRange addBound addNonNull addLiteral addResidual pushResidual unionValues unionOf joined normalized nonNullsMoved literalsMoved rangesMoved putNonNull putLiteral putRange layRange crossCheck emptySet emptyClasses each rootOf climb parentIn lt eq ofInt
+unfolding deriveOf planOk countsWithin allFrom exprOkOf recordOk listsOk rowOf lineOf bitsOk handleOk countOf moreOf itemOk operatorOkOf scansOf anyFrom
+    countFrom answerOf answersTo operatorData identitiesOf filled baseOf byKey tableIn firstFrom numberBy lineageEntry definitionEntry scanned derivedColumns
+    projected renamed mapped computed carried keysOk keysOf keyColumn grouped stepsTo assigned defined given filtered emptyFacts predicateApplied allApplied
+    conjunctsTo joinedOf conjunctApplied comparisonApplied exprData inputsMerged overridden addRange addBound addNonNull addLiteral addResidual pushResidual
+    unionValues unionOf joined normalized nonNullsMoved literalsMoved rangesMoved putNonNull putLiteral putRange layRange crossCheck emptySet emptyClasses
+    each rootOf climb parentIn lt eq ofInt
 worked-case = refl
 
 -- ---- z < n with an Int64 n, over a Scan of z: the comparison is expression 2
@@ -109,12 +118,22 @@ lessPlan n =
 
 -- case 1: the bound 2^53, exclusive
 case-1 : deriveOf (lessPlan 9007199254740992) 1 ≡ factsOf (1 ∷ []) [] (setOf alone true none (below 9007199254740992) [] false)
-unfolding deriveOf planOk countsWithin allFrom exprOkOf recordOk listsOk rowOf lineOf bitsOk handleOk countOf moreOf itemOk operatorOkOf scansOf anyFrom countFrom answerOf answersTo operatorData identitiesOf filled baseOf byKey tableIn firstFrom numberBy lineageEntry definitionEntry scanned derivedColumns projected renamed mapped computed carried keysOk keysOf keyColumn grouped stepsTo assigned defined given filtered emptyFacts predicateApplied allApplied conjunctsTo joinedOf conjunctApplied comparisonApplied exprData inputsMerged overridden addRange addBound addNonNull addLiteral addResidual pushResidual unionValues unionOf joined normalized nonNullsMoved literalsMoved rangesMoved putNonNull putLiteral putRange layRange crossCheck emptySet emptyClasses each rootOf climb parentIn lt eq ofInt
+unfolding deriveOf planOk countsWithin allFrom exprOkOf recordOk listsOk rowOf lineOf bitsOk handleOk countOf moreOf itemOk operatorOkOf scansOf anyFrom
+    countFrom answerOf answersTo operatorData identitiesOf filled baseOf byKey tableIn firstFrom numberBy lineageEntry definitionEntry scanned derivedColumns
+    projected renamed mapped computed carried keysOk keysOf keyColumn grouped stepsTo assigned defined given filtered emptyFacts predicateApplied allApplied
+    conjunctsTo joinedOf conjunctApplied comparisonApplied exprData inputsMerged overridden addRange addBound addNonNull addLiteral addResidual pushResidual
+    unionValues unionOf joined normalized nonNullsMoved literalsMoved rangesMoved putNonNull putLiteral putRange layRange crossCheck emptySet emptyClasses
+    each rootOf climb parentIn lt eq ofInt
 case-1 = refl
 
 -- case 2: residual only
 case-2 : deriveOf (lessPlan 9007199254740993) 1 ≡ factsOf (1 ∷ []) [] (setOf alone false none noEntry (2 ∷ []) false)
-unfolding deriveOf planOk countsWithin allFrom exprOkOf recordOk listsOk rowOf lineOf bitsOk handleOk countOf moreOf itemOk operatorOkOf scansOf anyFrom countFrom answerOf answersTo operatorData identitiesOf filled baseOf byKey tableIn firstFrom numberBy lineageEntry definitionEntry scanned derivedColumns projected renamed mapped computed carried keysOk keysOf keyColumn grouped stepsTo assigned defined given filtered emptyFacts predicateApplied allApplied conjunctsTo joinedOf conjunctApplied comparisonApplied exprData inputsMerged overridden addRange addBound addNonNull addLiteral addResidual pushResidual unionValues unionOf joined normalized nonNullsMoved literalsMoved rangesMoved putNonNull putLiteral putRange layRange crossCheck emptySet emptyClasses each rootOf climb parentIn lt eq ofInt
+unfolding deriveOf planOk countsWithin allFrom exprOkOf recordOk listsOk rowOf lineOf bitsOk handleOk countOf moreOf itemOk operatorOkOf scansOf anyFrom
+    countFrom answerOf answersTo operatorData identitiesOf filled baseOf byKey tableIn firstFrom numberBy lineageEntry definitionEntry scanned derivedColumns
+    projected renamed mapped computed carried keysOk keysOf keyColumn grouped stepsTo assigned defined given filtered emptyFacts predicateApplied allApplied
+    conjunctsTo joinedOf conjunctApplied comparisonApplied exprData inputsMerged overridden addRange addBound addNonNull addLiteral addResidual pushResidual
+    unionValues unionOf joined normalized nonNullsMoved literalsMoved rangesMoved putNonNull putLiteral putRange layRange crossCheck emptySet emptyClasses
+    each rootOf climb parentIn lt eq ofInt
 case-2 = refl
 
 -- ---- case 9: z = 5 with an Int32 5, then with an Int64 5: contradictory, and the first literal stays
@@ -124,11 +143,21 @@ twicePlan =
     (0x30 ∷ 0x33 ∷ 0x33 ∷ []) [] (0 ∷ 2 ∷ 4 ∷ []) (1 ∷ 0 ∷ 1 ∷ []) [] [] (0 ∷ []) []
 
 case-9 : deriveOf twicePlan 2 ≡ factsOf (1 ∷ []) [] (setOf alone true (held (S.Int32 (pos 5))) noEntry [] true)
-unfolding deriveOf planOk countsWithin allFrom exprOkOf recordOk listsOk rowOf lineOf bitsOk handleOk countOf moreOf itemOk operatorOkOf scansOf anyFrom countFrom answerOf answersTo operatorData identitiesOf filled baseOf byKey tableIn firstFrom numberBy lineageEntry definitionEntry scanned derivedColumns projected renamed mapped computed carried keysOk keysOf keyColumn grouped stepsTo assigned defined given filtered emptyFacts predicateApplied allApplied conjunctsTo joinedOf conjunctApplied comparisonApplied exprData inputsMerged overridden addRange addBound addNonNull addLiteral addResidual pushResidual unionValues unionOf joined normalized nonNullsMoved literalsMoved rangesMoved putNonNull putLiteral putRange layRange crossCheck emptySet emptyClasses each rootOf climb parentIn lt eq ofInt
+unfolding deriveOf planOk countsWithin allFrom exprOkOf recordOk listsOk rowOf lineOf bitsOk handleOk countOf moreOf itemOk operatorOkOf scansOf anyFrom
+    countFrom answerOf answersTo operatorData identitiesOf filled baseOf byKey tableIn firstFrom numberBy lineageEntry definitionEntry scanned derivedColumns
+    projected renamed mapped computed carried keysOk keysOf keyColumn grouped stepsTo assigned defined given filtered emptyFacts predicateApplied allApplied
+    conjunctsTo joinedOf conjunctApplied comparisonApplied exprData inputsMerged overridden addRange addBound addNonNull addLiteral addResidual pushResidual
+    unionValues unionOf joined normalized nonNullsMoved literalsMoved rangesMoved putNonNull putLiteral putRange layRange crossCheck emptySet emptyClasses
+    each rootOf climb parentIn lt eq ofInt
 case-9 = refl
 
 before-9 : deriveOf twicePlan 1 ≡ factsOf (1 ∷ []) [] (setOf alone true (held (S.Int32 (pos 5))) noEntry [] false)
-unfolding deriveOf planOk countsWithin allFrom exprOkOf recordOk listsOk rowOf lineOf bitsOk handleOk countOf moreOf itemOk operatorOkOf scansOf anyFrom countFrom answerOf answersTo operatorData identitiesOf filled baseOf byKey tableIn firstFrom numberBy lineageEntry definitionEntry scanned derivedColumns projected renamed mapped computed carried keysOk keysOf keyColumn grouped stepsTo assigned defined given filtered emptyFacts predicateApplied allApplied conjunctsTo joinedOf conjunctApplied comparisonApplied exprData inputsMerged overridden addRange addBound addNonNull addLiteral addResidual pushResidual unionValues unionOf joined normalized nonNullsMoved literalsMoved rangesMoved putNonNull putLiteral putRange layRange crossCheck emptySet emptyClasses each rootOf climb parentIn lt eq ofInt
+unfolding deriveOf planOk countsWithin allFrom exprOkOf recordOk listsOk rowOf lineOf bitsOk handleOk countOf moreOf itemOk operatorOkOf scansOf anyFrom
+    countFrom answerOf answersTo operatorData identitiesOf filled baseOf byKey tableIn firstFrom numberBy lineageEntry definitionEntry scanned derivedColumns
+    projected renamed mapped computed carried keysOk keysOf keyColumn grouped stepsTo assigned defined given filtered emptyFacts predicateApplied allApplied
+    conjunctsTo joinedOf conjunctApplied comparisonApplied exprData inputsMerged overridden addRange addBound addNonNull addLiteral addResidual pushResidual
+    unionValues unionOf joined normalized nonNullsMoved literalsMoved rangesMoved putNonNull putLiteral putRange layRange crossCheck emptySet emptyClasses
+    each rootOf climb parentIn lt eq ofInt
 before-9 = refl
 
 -- ---- Map over a Scan of column 0, expressions 0 to 2 its reference, that of column 1, and x = x. Column 1 refers to column 0, column 2 to column 1,
@@ -141,7 +170,12 @@ mapPlan =
     (0 ∷ 1 ∷ 2 ∷ 3 ∷ 3 ∷ []) (0 ∷ 0 ∷ 1 ∷ 2 ∷ 0 ∷ [])
 
 map-case : deriveOf mapPlan 1 ≡ factsOf (1 ∷ 1 ∷ 1 ∷ 1 ∷ []) (0 ∷ 0 ∷ 0 ∷ 3 ∷ []) emptySet
-unfolding deriveOf planOk countsWithin allFrom exprOkOf recordOk listsOk rowOf lineOf bitsOk handleOk countOf moreOf itemOk operatorOkOf scansOf anyFrom countFrom answerOf answersTo operatorData identitiesOf filled baseOf byKey tableIn firstFrom numberBy lineageEntry definitionEntry scanned derivedColumns projected renamed mapped computed carried keysOk keysOf keyColumn grouped stepsTo assigned defined given filtered emptyFacts predicateApplied allApplied conjunctsTo joinedOf conjunctApplied comparisonApplied exprData inputsMerged overridden addRange addBound addNonNull addLiteral addResidual pushResidual unionValues unionOf joined normalized nonNullsMoved literalsMoved rangesMoved putNonNull putLiteral putRange layRange crossCheck emptySet emptyClasses each rootOf climb parentIn lt eq ofInt
+unfolding deriveOf planOk countsWithin allFrom exprOkOf recordOk listsOk rowOf lineOf bitsOk handleOk countOf moreOf itemOk operatorOkOf scansOf anyFrom
+    countFrom answerOf answersTo operatorData identitiesOf filled baseOf byKey tableIn firstFrom numberBy lineageEntry definitionEntry scanned derivedColumns
+    projected renamed mapped computed carried keysOk keysOf keyColumn grouped stepsTo assigned defined given filtered emptyFacts predicateApplied allApplied
+    conjunctsTo joinedOf conjunctApplied comparisonApplied exprData inputsMerged overridden addRange addBound addNonNull addLiteral addResidual pushResidual
+    unionValues unionOf joined normalized nonNullsMoved literalsMoved rangesMoved putNonNull putLiteral putRange layRange crossCheck emptySet emptyClasses
+    each rootOf climb parentIn lt eq ofInt
 map-case = refl
 
 -- ---- over a Selection z < 5 of a Scan of z (operator 1), by operators 2 to 5: a Rename of z to column 1, an Aggregation by z with column 1 as its
@@ -149,22 +183,38 @@ map-case = refl
 abbrev keepPlan : Plan
 keepPlan =
     planOf (3 ∷ 3 ∷ []) (0x20 ∷ 0x13 ∷ 0x22 ∷ []) (0 ∷ 0 ∷ 2 ∷ []) [] (0 ∷ 0 ∷ 1 ∷ []) [] (0 ∷ 5 ∷ [])
-    (0x30 ∷ 0x33 ∷ 0x35 ∷ 0x37 ∷ 0x31 ∷ 0x3C ∷ []) (0 ∷ 0 ∷ 0 ∷ 0 ∷ 0 ∷ 3 ∷ []) (0 ∷ 2 ∷ 1 ∷ 1 ∷ 1 ∷ 2 ∷ []) (1 ∷ 0 ∷ 1 ∷ 1 ∷ 0 ∷ 4 ∷ []) (0 ∷ 0 ∷ 0 ∷ 1 ∷ 0 ∷ 1 ∷ []) (0 ∷ 0 ∷ 1 ∷ 2 ∷ 4 ∷ [])
+    (0x30 ∷ 0x33 ∷ 0x35 ∷ 0x37 ∷ 0x31 ∷ 0x3C ∷ []) (0 ∷ 0 ∷ 0 ∷ 0 ∷ 0 ∷ 3 ∷ []) (0 ∷ 2 ∷ 1 ∷ 1 ∷ 1 ∷ 2 ∷ []) (1 ∷ 0 ∷ 1 ∷ 1 ∷ 0 ∷ 4 ∷ [])
+    (0 ∷ 0 ∷ 0 ∷ 1 ∷ 0 ∷ 1 ∷ []) (0 ∷ 0 ∷ 1 ∷ 2 ∷ 4 ∷ [])
     (0 ∷ 1 ∷ 0 ∷ 1 ∷ 1 ∷ []) []
 
 -- the renamed column alone, with the input's constraints
 rename-case : deriveOf keepPlan 2 ≡ factsOf (0 ∷ 1 ∷ []) [] (setOf alone true none (below 5) [] false)
-unfolding deriveOf planOk countsWithin allFrom exprOkOf recordOk listsOk rowOf lineOf bitsOk handleOk countOf moreOf itemOk operatorOkOf scansOf anyFrom countFrom answerOf answersTo operatorData identitiesOf filled baseOf byKey tableIn firstFrom numberBy lineageEntry definitionEntry scanned derivedColumns projected renamed mapped computed carried keysOk keysOf keyColumn grouped stepsTo assigned defined given filtered emptyFacts predicateApplied allApplied conjunctsTo joinedOf conjunctApplied comparisonApplied exprData inputsMerged overridden addRange addBound addNonNull addLiteral addResidual pushResidual unionValues unionOf joined normalized nonNullsMoved literalsMoved rangesMoved putNonNull putLiteral putRange layRange crossCheck emptySet emptyClasses each rootOf climb parentIn lt eq ofInt
+unfolding deriveOf planOk countsWithin allFrom exprOkOf recordOk listsOk rowOf lineOf bitsOk handleOk countOf moreOf itemOk operatorOkOf scansOf anyFrom
+    countFrom answerOf answersTo operatorData identitiesOf filled baseOf byKey tableIn firstFrom numberBy lineageEntry definitionEntry scanned derivedColumns
+    projected renamed mapped computed carried keysOk keysOf keyColumn grouped stepsTo assigned defined given filtered emptyFacts predicateApplied allApplied
+    conjunctsTo joinedOf conjunctApplied comparisonApplied exprData inputsMerged overridden addRange addBound addNonNull addLiteral addResidual pushResidual
+    unionValues unionOf joined normalized nonNullsMoved literalsMoved rangesMoved putNonNull putLiteral putRange layRange crossCheck emptySet emptyClasses
+    each rootOf climb parentIn lt eq ofInt
 rename-case = refl
 
 -- the key's lineage and the aggregate, Derived, without constraints
 aggregation-case : deriveOf keepPlan 3 ≡ factsOf (1 ∷ 66 ∷ []) [] emptySet
-unfolding deriveOf planOk countsWithin allFrom exprOkOf recordOk listsOk rowOf lineOf bitsOk handleOk countOf moreOf itemOk operatorOkOf scansOf anyFrom countFrom answerOf answersTo operatorData identitiesOf filled baseOf byKey tableIn firstFrom numberBy lineageEntry definitionEntry scanned derivedColumns projected renamed mapped computed carried keysOk keysOf keyColumn grouped stepsTo assigned defined given filtered emptyFacts predicateApplied allApplied conjunctsTo joinedOf conjunctApplied comparisonApplied exprData inputsMerged overridden addRange addBound addNonNull addLiteral addResidual pushResidual unionValues unionOf joined normalized nonNullsMoved literalsMoved rangesMoved putNonNull putLiteral putRange layRange crossCheck emptySet emptyClasses each rootOf climb parentIn lt eq ofInt
+unfolding deriveOf planOk countsWithin allFrom exprOkOf recordOk listsOk rowOf lineOf bitsOk handleOk countOf moreOf itemOk operatorOkOf scansOf anyFrom
+    countFrom answerOf answersTo operatorData identitiesOf filled baseOf byKey tableIn firstFrom numberBy lineageEntry definitionEntry scanned derivedColumns
+    projected renamed mapped computed carried keysOk keysOf keyColumn grouped stepsTo assigned defined given filtered emptyFacts predicateApplied allApplied
+    conjunctsTo joinedOf conjunctApplied comparisonApplied exprData inputsMerged overridden addRange addBound addNonNull addLiteral addResidual pushResidual
+    unionValues unionOf joined normalized nonNullsMoved literalsMoved rangesMoved putNonNull putLiteral putRange layRange crossCheck emptySet emptyClasses
+    each rootOf climb parentIn lt eq ofInt
 aggregation-case = refl
 
 -- both lineages, and nothing of the right's constraints
 outer-case : deriveOf keepPlan 5 ≡ factsOf (1 ∷ 66 ∷ []) [] emptySet
-unfolding deriveOf planOk countsWithin allFrom exprOkOf recordOk listsOk rowOf lineOf bitsOk handleOk countOf moreOf itemOk operatorOkOf scansOf anyFrom countFrom answerOf answersTo operatorData identitiesOf filled baseOf byKey tableIn firstFrom numberBy lineageEntry definitionEntry scanned derivedColumns projected renamed mapped computed carried keysOk keysOf keyColumn grouped stepsTo assigned defined given filtered emptyFacts predicateApplied allApplied conjunctsTo joinedOf conjunctApplied comparisonApplied exprData inputsMerged overridden addRange addBound addNonNull addLiteral addResidual pushResidual unionValues unionOf joined normalized nonNullsMoved literalsMoved rangesMoved putNonNull putLiteral putRange layRange crossCheck emptySet emptyClasses each rootOf climb parentIn lt eq ofInt
+unfolding deriveOf planOk countsWithin allFrom exprOkOf recordOk listsOk rowOf lineOf bitsOk handleOk countOf moreOf itemOk operatorOkOf scansOf anyFrom
+    countFrom answerOf answersTo operatorData identitiesOf filled baseOf byKey tableIn firstFrom numberBy lineageEntry definitionEntry scanned derivedColumns
+    projected renamed mapped computed carried keysOk keysOf keyColumn grouped stepsTo assigned defined given filtered emptyFacts predicateApplied allApplied
+    conjunctsTo joinedOf conjunctApplied comparisonApplied exprData inputsMerged overridden addRange addBound addNonNull addLiteral addResidual pushResidual
+    unionValues unionOf joined normalized nonNullsMoved literalsMoved rangesMoved putNonNull putLiteral putRange layRange crossCheck emptySet emptyClasses
+    each rootOf climb parentIn lt eq ofInt
 outer-case = refl
 
 -- ---- who refuses. Operators 1 and 2 are Aggregations of the Scan 0 by the literal 1; 3 is a product of 2, outer, with 1; 4 is an Output of 0
@@ -176,22 +226,42 @@ refusePlan =
 
 -- a key that is no column reference
 key-refused : deriveOf refusePlan 1 ≡ refused (UnsupportedKey (record { 0 = 1 }))
-unfolding deriveOf planOk countsWithin allFrom exprOkOf recordOk listsOk rowOf lineOf bitsOk handleOk countOf moreOf itemOk operatorOkOf scansOf anyFrom countFrom answerOf answersTo operatorData identitiesOf filled baseOf byKey tableIn firstFrom numberBy lineageEntry definitionEntry scanned derivedColumns projected renamed mapped computed carried keysOk keysOf keyColumn grouped stepsTo assigned defined given filtered emptyFacts predicateApplied allApplied conjunctsTo joinedOf conjunctApplied comparisonApplied exprData inputsMerged overridden addRange addBound addNonNull addLiteral addResidual pushResidual unionValues unionOf joined normalized nonNullsMoved literalsMoved rangesMoved putNonNull putLiteral putRange layRange crossCheck emptySet emptyClasses each rootOf climb parentIn lt eq ofInt
+unfolding deriveOf planOk countsWithin allFrom exprOkOf recordOk listsOk rowOf lineOf bitsOk handleOk countOf moreOf itemOk operatorOkOf scansOf anyFrom
+    countFrom answerOf answersTo operatorData identitiesOf filled baseOf byKey tableIn firstFrom numberBy lineageEntry definitionEntry scanned derivedColumns
+    projected renamed mapped computed carried keysOk keysOf keyColumn grouped stepsTo assigned defined given filtered emptyFacts predicateApplied allApplied
+    conjunctsTo joinedOf conjunctApplied comparisonApplied exprData inputsMerged overridden addRange addBound addNonNull addLiteral addResidual pushResidual
+    unionValues unionOf joined normalized nonNullsMoved literalsMoved rangesMoved putNonNull putLiteral putRange layRange crossCheck emptySet emptyClasses
+    each rootOf climb parentIn lt eq ofInt
 key-refused = refl
 
 -- the outer input counts, though the inner one has the lower handle
 outer-refused : deriveOf refusePlan 3 ≡ refused (UnsupportedKey (record { 0 = 2 }))
-unfolding deriveOf planOk countsWithin allFrom exprOkOf recordOk listsOk rowOf lineOf bitsOk handleOk countOf moreOf itemOk operatorOkOf scansOf anyFrom countFrom answerOf answersTo operatorData identitiesOf filled baseOf byKey tableIn firstFrom numberBy lineageEntry definitionEntry scanned derivedColumns projected renamed mapped computed carried keysOk keysOf keyColumn grouped stepsTo assigned defined given filtered emptyFacts predicateApplied allApplied conjunctsTo joinedOf conjunctApplied comparisonApplied exprData inputsMerged overridden addRange addBound addNonNull addLiteral addResidual pushResidual unionValues unionOf joined normalized nonNullsMoved literalsMoved rangesMoved putNonNull putLiteral putRange layRange crossCheck emptySet emptyClasses each rootOf climb parentIn lt eq ofInt
+unfolding deriveOf planOk countsWithin allFrom exprOkOf recordOk listsOk rowOf lineOf bitsOk handleOk countOf moreOf itemOk operatorOkOf scansOf anyFrom
+    countFrom answerOf answersTo operatorData identitiesOf filled baseOf byKey tableIn firstFrom numberBy lineageEntry definitionEntry scanned derivedColumns
+    projected renamed mapped computed carried keysOk keysOf keyColumn grouped stepsTo assigned defined given filtered emptyFacts predicateApplied allApplied
+    conjunctsTo joinedOf conjunctApplied comparisonApplied exprData inputsMerged overridden addRange addBound addNonNull addLiteral addResidual pushResidual
+    unionValues unionOf joined normalized nonNullsMoved literalsMoved rangesMoved putNonNull putLiteral putRange layRange crossCheck emptySet emptyClasses
+    each rootOf climb parentIn lt eq ofInt
 outer-refused = refl
 
 -- an operator that is not reached does not refuse
 unreached : deriveOf refusePlan 4 ≡ factsOf (1 ∷ []) [] emptySet
-unfolding deriveOf planOk countsWithin allFrom exprOkOf recordOk listsOk rowOf lineOf bitsOk handleOk countOf moreOf itemOk operatorOkOf scansOf anyFrom countFrom answerOf answersTo operatorData identitiesOf filled baseOf byKey tableIn firstFrom numberBy lineageEntry definitionEntry scanned derivedColumns projected renamed mapped computed carried keysOk keysOf keyColumn grouped stepsTo assigned defined given filtered emptyFacts predicateApplied allApplied conjunctsTo joinedOf conjunctApplied comparisonApplied exprData inputsMerged overridden addRange addBound addNonNull addLiteral addResidual pushResidual unionValues unionOf joined normalized nonNullsMoved literalsMoved rangesMoved putNonNull putLiteral putRange layRange crossCheck emptySet emptyClasses each rootOf climb parentIn lt eq ofInt
+unfolding deriveOf planOk countsWithin allFrom exprOkOf recordOk listsOk rowOf lineOf bitsOk handleOk countOf moreOf itemOk operatorOkOf scansOf anyFrom
+    countFrom answerOf answersTo operatorData identitiesOf filled baseOf byKey tableIn firstFrom numberBy lineageEntry definitionEntry scanned derivedColumns
+    projected renamed mapped computed carried keysOk keysOf keyColumn grouped stepsTo assigned defined given filtered emptyFacts predicateApplied allApplied
+    conjunctsTo joinedOf conjunctApplied comparisonApplied exprData inputsMerged overridden addRange addBound addNonNull addLiteral addResidual pushResidual
+    unionValues unionOf joined normalized nonNullsMoved literalsMoved rangesMoved putNonNull putLiteral putRange layRange crossCheck emptySet emptyClasses
+    each rootOf climb parentIn lt eq ofInt
 unreached = refl
 
 -- an operator that is not there: the number that was asked for
 no-such : deriveOf refusePlan 5 ≡ refused (NoSuch (record { 0 = 5 }))
-unfolding deriveOf planOk countsWithin allFrom exprOkOf recordOk listsOk rowOf lineOf bitsOk handleOk countOf moreOf itemOk operatorOkOf scansOf anyFrom countFrom answerOf answersTo operatorData identitiesOf filled baseOf byKey tableIn firstFrom numberBy lineageEntry definitionEntry scanned derivedColumns projected renamed mapped computed carried keysOk keysOf keyColumn grouped stepsTo assigned defined given filtered emptyFacts predicateApplied allApplied conjunctsTo joinedOf conjunctApplied comparisonApplied exprData inputsMerged overridden addRange addBound addNonNull addLiteral addResidual pushResidual unionValues unionOf joined normalized nonNullsMoved literalsMoved rangesMoved putNonNull putLiteral putRange layRange crossCheck emptySet emptyClasses each rootOf climb parentIn lt eq ofInt
+unfolding deriveOf planOk countsWithin allFrom exprOkOf recordOk listsOk rowOf lineOf bitsOk handleOk countOf moreOf itemOk operatorOkOf scansOf anyFrom
+    countFrom answerOf answersTo operatorData identitiesOf filled baseOf byKey tableIn firstFrom numberBy lineageEntry definitionEntry scanned derivedColumns
+    projected renamed mapped computed carried keysOk keysOf keyColumn grouped stepsTo assigned defined given filtered emptyFacts predicateApplied allApplied
+    conjunctsTo joinedOf conjunctApplied comparisonApplied exprData inputsMerged overridden addRange addBound addNonNull addLiteral addResidual pushResidual
+    unionValues unionOf joined normalized nonNullsMoved literalsMoved rangesMoved putNonNull putLiteral putRange layRange crossCheck emptySet emptyClasses
+    each rootOf climb parentIn lt eq ofInt
 no-such = refl
 
 -- ---- a Scan of x (operator 0) under a Selection x < 5 (1), a ConstScan of x (2), and above them a RightOuter and a FullOuter join of the
@@ -223,14 +293,29 @@ joinPlan = record {
 
 -- right lineage overrides left; RightOuter keeps the right's constraints, FullOuter none
 right-case : deriveOf joinPlan 3 ≡ factsOf (1 ∷ []) [] (setOf alone true none (below 5) [] false)
-unfolding deriveOf planOk countsWithin allFrom exprOkOf recordOk listsOk rowOf lineOf bitsOk handleOk countOf moreOf itemOk operatorOkOf scansOf anyFrom countFrom answerOf answersTo operatorData identitiesOf filled baseOf byKey tableIn firstFrom numberBy lineageEntry definitionEntry scanned derivedColumns projected renamed mapped computed carried keysOk keysOf keyColumn grouped stepsTo assigned defined given filtered emptyFacts predicateApplied allApplied conjunctsTo joinedOf conjunctApplied comparisonApplied exprData inputsMerged overridden addRange addBound addNonNull addLiteral addResidual pushResidual unionValues unionOf joined normalized nonNullsMoved literalsMoved rangesMoved putNonNull putLiteral putRange layRange crossCheck emptySet emptyClasses each rootOf climb parentIn lt eq ofInt
+unfolding deriveOf planOk countsWithin allFrom exprOkOf recordOk listsOk rowOf lineOf bitsOk handleOk countOf moreOf itemOk operatorOkOf scansOf anyFrom
+    countFrom answerOf answersTo operatorData identitiesOf filled baseOf byKey tableIn firstFrom numberBy lineageEntry definitionEntry scanned derivedColumns
+    projected renamed mapped computed carried keysOk keysOf keyColumn grouped stepsTo assigned defined given filtered emptyFacts predicateApplied allApplied
+    conjunctsTo joinedOf conjunctApplied comparisonApplied exprData inputsMerged overridden addRange addBound addNonNull addLiteral addResidual pushResidual
+    unionValues unionOf joined normalized nonNullsMoved literalsMoved rangesMoved putNonNull putLiteral putRange layRange crossCheck emptySet emptyClasses
+    each rootOf climb parentIn lt eq ofInt
 right-case = refl
 
 full-case : deriveOf joinPlan 4 ≡ factsOf (1 ∷ []) [] emptySet
-unfolding deriveOf planOk countsWithin allFrom exprOkOf recordOk listsOk rowOf lineOf bitsOk handleOk countOf moreOf itemOk operatorOkOf scansOf anyFrom countFrom answerOf answersTo operatorData identitiesOf filled baseOf byKey tableIn firstFrom numberBy lineageEntry definitionEntry scanned derivedColumns projected renamed mapped computed carried keysOk keysOf keyColumn grouped stepsTo assigned defined given filtered emptyFacts predicateApplied allApplied conjunctsTo joinedOf conjunctApplied comparisonApplied exprData inputsMerged overridden addRange addBound addNonNull addLiteral addResidual pushResidual unionValues unionOf joined normalized nonNullsMoved literalsMoved rangesMoved putNonNull putLiteral putRange layRange crossCheck emptySet emptyClasses each rootOf climb parentIn lt eq ofInt
+unfolding deriveOf planOk countsWithin allFrom exprOkOf recordOk listsOk rowOf lineOf bitsOk handleOk countOf moreOf itemOk operatorOkOf scansOf anyFrom
+    countFrom answerOf answersTo operatorData identitiesOf filled baseOf byKey tableIn firstFrom numberBy lineageEntry definitionEntry scanned derivedColumns
+    projected renamed mapped computed carried keysOk keysOf keyColumn grouped stepsTo assigned defined given filtered emptyFacts predicateApplied allApplied
+    conjunctsTo joinedOf conjunctApplied comparisonApplied exprData inputsMerged overridden addRange addBound addNonNull addLiteral addResidual pushResidual
+    unionValues unionOf joined normalized nonNullsMoved literalsMoved rangesMoved putNonNull putLiteral putRange layRange crossCheck emptySet emptyClasses
+    each rootOf climb parentIn lt eq ofInt
 full-case = refl
 
 -- LeftMark gives the left's facts, and the marker is Derived
 mark-case : deriveOf joinPlan 5 ≡ factsOf (65 ∷ 66 ∷ []) [] emptySet
-unfolding deriveOf planOk countsWithin allFrom exprOkOf recordOk listsOk rowOf lineOf bitsOk handleOk countOf moreOf itemOk operatorOkOf scansOf anyFrom countFrom answerOf answersTo operatorData identitiesOf filled baseOf byKey tableIn firstFrom numberBy lineageEntry definitionEntry scanned derivedColumns projected renamed mapped computed carried keysOk keysOf keyColumn grouped stepsTo assigned defined given filtered emptyFacts predicateApplied allApplied conjunctsTo joinedOf conjunctApplied comparisonApplied exprData inputsMerged overridden addRange addBound addNonNull addLiteral addResidual pushResidual unionValues unionOf joined normalized nonNullsMoved literalsMoved rangesMoved putNonNull putLiteral putRange layRange crossCheck emptySet emptyClasses each rootOf climb parentIn lt eq ofInt
+unfolding deriveOf planOk countsWithin allFrom exprOkOf recordOk listsOk rowOf lineOf bitsOk handleOk countOf moreOf itemOk operatorOkOf scansOf anyFrom
+    countFrom answerOf answersTo operatorData identitiesOf filled baseOf byKey tableIn firstFrom numberBy lineageEntry definitionEntry scanned derivedColumns
+    projected renamed mapped computed carried keysOk keysOf keyColumn grouped stepsTo assigned defined given filtered emptyFacts predicateApplied allApplied
+    conjunctsTo joinedOf conjunctApplied comparisonApplied exprData inputsMerged overridden addRange addBound addNonNull addLiteral addResidual pushResidual
+    unionValues unionOf joined normalized nonNullsMoved literalsMoved rangesMoved putNonNull putLiteral putRange layRange crossCheck emptySet emptyClasses
+    each rootOf climb parentIn lt eq ofInt
 mark-case = refl

@@ -17,7 +17,8 @@ use Rattle.plan_data.specs.declared.Run.{Run}
 use Rattle.plan_data.specs.declared.JoinType.{JoinType}
 use Rattle.plan_data.specs.declared.JoinType.the-variants.{Inner, LeftSemi, LeftAnti, LeftOuter, Single, RightOuter, FullOuter, LeftMark}
 use Rattle.plan_data.specs.declared.OperatorData.{OperatorData}
-use Rattle.plan_data.specs.declared.OperatorData.the-variants.{Scan, ConstScan, TableFunction, Selection, Projection, Rename, Map, Aggregation, Sort, Limit, Output, CrossProduct, Join}
+use Rattle.plan_data.specs.declared.OperatorData.the-variants.{Scan, ConstScan, TableFunction, Selection, Projection, Rename, Map, Aggregation, Sort}
+use Rattle.plan_data.specs.declared.OperatorData.the-variants.{Limit, Output, CrossProduct, Join}
 use Rattle.plan_identities.specs.Identities.{identitiesOf}
 use Rattle.plan_identities.specs.declared.Identities.{Identities}
 use Rattle.apply_spec.specs.Facts.{emptyFacts}
@@ -72,7 +73,8 @@ module _ (p : Plan) (ids : Identities) (h : Operator) where
 
   clean-grouped : (keys aggregates : Run) (f : LogicalFacts) → Clean (grouped p ids h keys aggregates f)
   unfolding grouped
-  clean-grouped keys aggregates f = clean-cond (keysOk (nodeAt p) (p .items .a) keys) _ _ (clean-done (factsWith (aggregated ids (nodeAt p) (p .items .a) keys aggregates (columnsIn f)) emptySet)) (clean-refused (UnsupportedKey h))
+  clean-grouped keys aggregates f = clean-cond (keysOk (nodeAt p) (p .items .a) keys) _ _
+      (clean-done (factsWith (aggregated ids (nodeAt p) (p .items .a) keys aggregates (columnsIn f)) emptySet)) (clean-refused (UnsupportedKey h))
 
   module _ (l r : DeriveAnswer) (cl : Clean l) (cr : Clean r) where
     clean-operator : (o : OperatorData) → Clean (operatorDerived p ids h l r o)
@@ -103,7 +105,8 @@ module _ (p : Plan) where
   clean-below zero h l = absurd (omega arith)
   clean-below (suc n) h l =
       subst Clean (sym (answer-made p h))
-      (clean-operator p (identitiesOf p) (record { 0 = h }) _ _ (clean-entry h (λ i m. clean-below n i (omega arith)) _) (clean-entry h (λ i m. clean-below n i (omega arith)) _) (operatorAt p h))
+      (clean-operator p (identitiesOf p) (record { 0 = h }) _ _ (clean-entry h (λ i m. clean-below n i (omega arith)) _)
+      (clean-entry h (λ i m. clean-below n i (omega arith)) _) (operatorAt p h))
 
   -- every refusal has empty facts
   pub refused-empty : (h : ℕ) → Clean (deriveOf p h)

@@ -25,7 +25,8 @@ use Rattle.plan_data.specs.declared.Run.{Run}
 use Rattle.plan_data.specs.declared.JoinType.{JoinType}
 use Rattle.plan_data.specs.declared.JoinType.the-variants.{Inner, LeftSemi, LeftAnti, LeftOuter, Single, RightOuter, FullOuter, LeftMark}
 use Rattle.plan_data.specs.declared.OperatorData.{OperatorData}
-use Rattle.plan_data.specs.declared.OperatorData.the-variants.{Scan, ConstScan, TableFunction, Selection, Projection, Rename, Map, Aggregation, Sort, Limit, Output, CrossProduct, Join}
+use Rattle.plan_data.specs.declared.OperatorData.the-variants.{Scan, ConstScan, TableFunction, Selection, Projection, Rename, Map, Aggregation, Sort}
+use Rattle.plan_data.specs.declared.OperatorData.the-variants.{Limit, Output, CrossProduct, Join}
 use Rattle.plan_identities.specs.Identities.{identitiesOf}
 use Rattle.plan_identities.specs.declared.Identities.{Identities}
 use Rattle.apply_spec.specs.Facts.{refusalOf, emptyFacts, withConstraints, identityOf, lineageOk, definitionOk, residualOk, factsOk}
@@ -44,7 +45,9 @@ use Rattle.derive_spec.specs.declared.DeriveOutcome.the-variants.{Unsupp
 use Rattle.derive_spec.specs.declared.DeriveAnswer.{DeriveAnswer}
 use Rattle.derive_spec.proofs.Answers.{answer-made, answer-at, answer-past}
 use Rattle.derive_spec.proofs.SetRules.{RightSet, empty-right, merge-right, predicate-right}
-use Rattle.derive_spec.proofs.ColumnRules.{RightEntry, RightEntries, overridden-right, RightIdentity, RightDefinition, RightColumns, nothing-right, made-derived, scanned-right, derivedColumns-right, projected-right, renamed-right, mapped-right, aggregated-right}
+use Rattle.derive_spec.proofs.ColumnRules.{RightEntry, RightEntries, overridden-right, RightIdentity, RightDefinition, RightColumns}
+use Rattle.derive_spec.proofs.ColumnRules.{nothing-right, made-derived, scanned-right, derivedColumns-right, projected-right, renamed-right}
+use Rattle.derive_spec.proofs.ColumnRules.{mapped-right, aggregated-right}
 use Rattle.derive_spec.proofs.OperatorRanges.{MarkerBelow, InRange, operator-ranges}
 
 -- facts that keep the rules in a plan of nc columns and ne expressions, whatever the length of their arrays
@@ -77,7 +80,8 @@ lineage-ok : (nc : ℕ) (l : List ℕ) → RightEntries (RightIdentity nc) nc l 
 unfolding lineageOk
 lineage-ok nc l r c = or-none (getD l c 0) _ (go (r c))
   where
-    go : RightEntry (RightIdentity nc) nc c (getD l c 0) → (getD l c 0 ≡ 0) ⊎ ((ltb c nc && (ltb (identityOf l c) nc || (leb 64 (identityOf l c) && ltb (identityOf l c) (64 + nc)))) ≡ true)
+    go : RightEntry (RightIdentity nc) nc c (getD l c 0) → (getD l c 0 ≡ 0)
+        ⊎ ((ltb c nc && (ltb (identityOf l c) nc || (leb 64 (identityOf l c) && ltb (identityOf l c) (64 + nc)))) ≡ true)
     go (inl z) = inl z
     go (inr q) = inr (and-both (ltb c nc) _ (lt-ltb c nc (q .0)) (identity-ok nc (identityOf l c) (q .1)))
 
@@ -94,10 +98,13 @@ unfolding factsOk
 right-ok p f r =
     let nc = p .columns .count in
     let ne = p .expressions .count in
-    and-both (allFrom (lineageOk (f .lineage) nc) 0 64) _ (all-of (lineageOk (f .lineage) nc) 64 0 (λ c lo hi. lineage-ok nc (f .lineage) (r .columns .lineage) c))
-    (and-both (allFrom (definitionOk (f .definitions) nc ne) 0 64) _ (all-of (definitionOk (f .definitions) nc ne) 64 0 (λ c lo hi. definition-ok nc ne (f .definitions) (r .columns .definitions) c))
+    and-both (allFrom (lineageOk (f .lineage) nc) 0 64) _
+    (all-of (lineageOk (f .lineage) nc) 64 0 (λ c lo hi. lineage-ok nc (f .lineage) (r .columns .lineage) c))
+    (and-both (allFrom (definitionOk (f .definitions) nc ne) 0 64) _
+    (all-of (definitionOk (f .definitions) nc ne) 64 0 (λ c lo hi. definition-ok nc ne (f .definitions) (r .columns .definitions) c))
     (and-both (setOk (f .constraints)) _ (ruled-ok (f .constraints) (r .set .rules))
-    (all-of (residualOk (f .constraints) ne) (f .constraints .residuals) 0 (λ k lo hi. lt-ltb (handleAt (f .constraints) k) ne (r .set .below k (omega arith))))))
+    (all-of (residualOk (f .constraints) ne) (f .constraints .residuals) 0
+    (λ k lo hi. lt-ltb (handleAt (f .constraints) k) ne (r .set .below k (omega arith))))))
 
 -- every identity of a right lineage is one of the 128
 right-within : (nc : ℕ) (l : List ℕ) → nc ≤ 64 → RightEntries (RightIdentity nc) nc l → Within l
@@ -122,7 +129,8 @@ module _ (p : Plan) (few : p .columns .count ≤ 64) where
   ids = identitiesOf p
 
   -- ---- answers
-  with-columns : (t : ColumnFacts) (s : ConstraintSet) → RightColumns (p .columns .count) (p .expressions .count) t → RightSet (p .expressions .count) s → Right (factsWith t s)
+  with-columns : (t : ColumnFacts) (s : ConstraintSet) → RightColumns (p .columns .count) (p .expressions .count) t → RightSet (p .expressions .count) s
+      → Right (factsWith t s)
   with-columns t s c r = record { columns = c; set = r }
 
   with-empty : (t : ColumnFacts) → RightColumns (p .columns .count) (p .expressions .count) t → Right (factsWith t emptySet)
@@ -132,7 +140,8 @@ module _ (p : Plan) (few : p .columns .count ≤ 64) where
   refused-right : (o : DeriveOutcome) → RightAnswer (refused o)
   refused-right o = empty-facts (p .columns .count) (p .expressions .count)
 
-  given-right : (d : DeriveAnswer) (make : LogicalFacts → DeriveAnswer) → RightAnswer d → ((f : LogicalFacts) → Right f → RightAnswer (make f)) → RightAnswer (given d make)
+  given-right : (d : DeriveAnswer) (make : LogicalFacts → DeriveAnswer) → RightAnswer d → ((f : LogicalFacts) → Right f → RightAnswer (make f)) → RightAnswer
+      (given d make)
   unfolding given
   given-right d make r g = pick-has RightAnswer (isAccepted (d .outcome)) (make (d .facts)) d (λ t. g (d .facts) r) r
 
@@ -147,7 +156,8 @@ module _ (p : Plan) (few : p .columns .count ≤ 64) where
   -- ---- applying and merging
   answered-right : (old f : LogicalFacts) (a : Applied) → Right old → Right (withConstraints f (a .constraints)) → Right (answered old f a .facts)
   answered-right old f a q r =
-      pick-has (λ (x : FactsAnswer). Right (x .facts)) (a .refused) (record { facts = old; outcome = O.Residuals }) (record { facts = withConstraints f (a .constraints); outcome = O.Accepted })
+      pick-has (λ (x : FactsAnswer). Right (x .facts)) (a .refused) (record { facts = old; outcome = O.Residuals })
+      (record { facts = withConstraints f (a .constraints); outcome = O.Accepted })
       (λ t. q) r
 
   filtered-right : (e : Expr) (f : LogicalFacts) → e .0 < p .expressions .count → Right f → Right (filtered p e f .facts)
@@ -159,19 +169,23 @@ module _ (p : Plan) (few : p .columns .count ≤ 64) where
       })
 
   both-columns : (f g : LogicalFacts) → Right f → Right g
-      → RightColumns (p .columns .count) (p .expressions .count) (record { lineage = overridden (f .lineage) (g .lineage); definitions = overridden (f .definitions) (g .definitions) })
+      → RightColumns (p .columns .count) (p .expressions .count)
+      (record { lineage = overridden (f .lineage) (g .lineage); definitions = overridden (f .definitions) (g .definitions) })
   both-columns f g rf rg = record {
     lineage = overridden-right (RightIdentity (p .columns .count)) (p .columns .count) (f .lineage) (g .lineage) (rf .columns .lineage) (rg .columns .lineage);
-    definitions = overridden-right (RightDefinition (p .expressions .count)) (p .columns .count) (f .definitions) (g .definitions) (rf .columns .definitions) (rg .columns .definitions);
+    definitions = overridden-right (RightDefinition (p .expressions .count)) (p .columns .count) (f .definitions) (g .definitions) (rf .columns .definitions)
+        (rg .columns .definitions);
   }
 
   merged-right : (f g : LogicalFacts) (merge : Bool) → Right f → Right g → Right (inputsMerged f g merge .facts)
   unfolding inputsMerged
   merged-right f g merge rf rg =
-      answered-right f (record { lineage = overridden (f .lineage) (g .lineage); definitions = overridden (f .definitions) (g .definitions); constraints = f .constraints })
+      answered-right f
+      (record { lineage = overridden (f .lineage) (g .lineage); definitions = overridden (f .definitions) (g .definitions); constraints = f .constraints })
       (cond merge (mergeFrom (f .constraints) (g .constraints)) (done (f .constraints))) rf (record {
         columns = both-columns f g rf rg;
-        set = pick-has (λ (a : Applied). RightSet (p .expressions .count) (a .constraints)) merge (mergeFrom (f .constraints) (g .constraints)) (done (f .constraints))
+        set = pick-has (λ (a : Applied). RightSet (p .expressions .count) (a .constraints)) merge (mergeFrom (f .constraints) (g .constraints))
+            (done (f .constraints))
             (λ t. merge-right (p .expressions .count) (f .constraints) (g .constraints) (rf .set) (rg .set)) (rf .set);
       })
 
@@ -190,28 +204,38 @@ module _ (p : Plan) (few : p .columns .count ≤ 64) where
     joined-right on f g RightOuter l m rf rg = record { columns = merged-right f g false rf rg .columns; set = rg .set }
     joined-right on f g FullOuter l m rf rg = record { columns = merged-right f g false rf rg .columns; set = empty-right (p .expressions .count) }
 
-    grouped-right : (keys aggregates : Run) (f : LogicalFacts) → InRange (p .columns .count) (p .expressions .count) (p .items .a) (p .items .b) (Aggregation h keys aggregates) → Right f
+    grouped-right : (keys aggregates : Run) (f : LogicalFacts) → InRange (p .columns .count) (p .expressions .count) (p .items .a) (p .items .b)
+        (Aggregation h keys aggregates) → Right f
         → RightAnswer (grouped p ids h keys aggregates f)
     unfolding grouped
     grouped-right keys aggregates f b r =
-        pick-has RightAnswer (keysOk (nodeAt p) (p .items .a) keys) (accepted (factsWith (aggregated ids (nodeAt p) (p .items .a) keys aggregates (columnsIn f)) emptySet)) (refused (UnsupportedKey h))
+        pick-has RightAnswer (keysOk (nodeAt p) (p .items .a) keys)
+        (accepted (factsWith (aggregated ids (nodeAt p) (p .items .a) keys aggregates (columnsIn f)) emptySet)) (refused (UnsupportedKey h))
         (λ t. with-empty _ (aggregated-right p few (nodeAt p) (p .items .a) keys aggregates (columnsIn f) b (r .columns))) (refused-right (UnsupportedKey h))
 
     module _ (l r : DeriveAnswer) (rl : RightAnswer l) (rr : RightAnswer r) where
-      operator-right : (o : OperatorData) → InRange (p .columns .count) (p .expressions .count) (p .items .a) (p .items .b) o → RightAnswer (operatorDerived p ids h l r o)
+      operator-right : (o : OperatorData) → InRange (p .columns .count) (p .expressions .count) (p .items .a) (p .items .b) o → RightAnswer
+          (operatorDerived p ids h l r o)
       operator-right (Scan table columns) b = with-empty _ (scanned-right p few (p .items .a) columns b)
-      operator-right (ConstScan columns) b = with-empty _ (derivedColumns-right p few (p .items .a) columns noColumns b (nothing-right (p .columns .count) (p .expressions .count)))
-      operator-right (TableFunction columns) b = with-empty _ (derivedColumns-right p few (p .items .a) columns noColumns b (nothing-right (p .columns .count) (p .expressions .count)))
+      operator-right (ConstScan columns) b = with-empty _
+          (derivedColumns-right p few (p .items .a) columns noColumns b (nothing-right (p .columns .count) (p .expressions .count)))
+      operator-right (TableFunction columns) b = with-empty _
+          (derivedColumns-right p few (p .items .a) columns noColumns b (nothing-right (p .columns .count) (p .expressions .count)))
       operator-right (Selection e i) b = given-right l _ rl (λ f q. fitted-right h (filtered p e f) (filtered-right e f b q))
-      operator-right (Projection i columns) b = given-right l _ rl (λ f q. with-columns _ (f .constraints) (projected-right p few (columnsIn f) (p .items .a) columns (q .columns)) (q .set))
-      operator-right (Rename i defs) b = given-right l _ rl (λ f q. with-columns _ (f .constraints) (renamed-right p few (columnsIn f) (p .items .a) (p .items .b) defs b (q .columns)) (q .set))
+      operator-right (Projection i columns) b = given-right l _ rl
+          (λ f q. with-columns _ (f .constraints) (projected-right p few (columnsIn f) (p .items .a) columns (q .columns)) (q .set))
+      operator-right (Rename i defs) b = given-right l _ rl
+          (λ f q. with-columns _ (f .constraints) (renamed-right p few (columnsIn f) (p .items .a) (p .items .b) defs b (q .columns)) (q .set))
       operator-right (Map i computations) b =
-          given-right l _ rl (λ f q. with-columns _ (f .constraints) (mapped-right p few (nodeAt p) (p .items .a) (p .items .b) computations (columnsIn f) (b .0) (b .1) (q .columns)) (q .set))
+          given-right l _ rl
+          (λ f q. with-columns _ (f .constraints) (mapped-right p few (nodeAt p) (p .items .a) (p .items .b) computations (columnsIn f) (b .0) (b .1)
+          (q .columns)) (q .set))
       operator-right (Aggregation i keys aggregates) b = given-right l _ rl (λ f q. grouped-right keys aggregates f b q)
       operator-right (Sort i keys) b = rl
       operator-right (Limit i) b = rl
       operator-right (Output i) b = rl
-      operator-right (CrossProduct o i) b = given-right l _ rl (λ f q. given-right r _ rr (λ g w. fitted-right h (inputsMerged f g true) (merged-right f g true q w)))
+      operator-right (CrossProduct o i) b = given-right l _ rl
+          (λ f q. given-right r _ rr (λ g w. fitted-right h (inputsMerged f g true) (merged-right f g true q w)))
       operator-right (Join j on o i) b = given-right l _ rl (λ f q. given-right r _ rr (λ g w. joined-right on f g j (b .0) (b .1) q w))
 
 -- ---- in handle order
@@ -238,7 +262,8 @@ module _ (p : Plan) (ok : planOk p ≡ true) where
   answer-below zero h b l = absurd (omega arith)
   answer-below (suc n) h b l =
       subst RightHere (sym (answer-made p h))
-      (operator-right p few (record { 0 = h }) _ _ (entry-right h (λ i m. answer-below n i (omega arith) (omega arith)) _) (entry-right h (λ i m. answer-below n i (omega arith) (omega arith)) _)
+      (operator-right p few (record { 0 = h }) _ _ (entry-right h (λ i m. answer-below n i (omega arith) (omega arith)) _)
+      (entry-right h (λ i m. answer-below n i (omega arith) (omega arith)) _)
       (operatorAt p h) (operator-ranges p ok h l))
 
 -- what deriving hands out keeps the rules, also where it refuses, since a refusal has empty facts
@@ -284,11 +309,13 @@ derived-applies p ok h e l =
 merged-other : (f g : LogicalFacts) (merge : Bool) → refusalOf (inputsMerged f g merge .outcome) ≡ 8 → ⊥
 unfolding inputsMerged
 merged-other f g merge =
-    answered-other f (record { lineage = overridden (f .lineage) (g .lineage); definitions = overridden (f .definitions) (g .definitions); constraints = f .constraints })
+    answered-other f
+    (record { lineage = overridden (f .lineage) (g .lineage); definitions = overridden (f .definitions) (g .definitions); constraints = f .constraints })
     (cond merge (mergeFrom (f .constraints) (g .constraints)) (done (f .constraints)))
 
 -- nor does `merge_inputs`
-pub derived-merges : (p : Plan) → planOk p ≡ true → (h k : ℕ) (merge : Bool) → refusalOf (mergeInputs p (deriveOf p h .facts) (deriveOf p k .facts) merge .outcome) ≡ 8 → ⊥
+pub derived-merges : (p : Plan) → planOk p ≡ true → (h k : ℕ) (merge : Bool) → refusalOf
+    (mergeInputs p (deriveOf p h .facts) (deriveOf p k .facts) merge .outcome) ≡ 8 → ⊥
 unfolding mergeInputs
 derived-merges p ok h k merge = rw (ok, derived-ok p h, derived-ok p k) (merged-other (deriveOf p h .facts) (deriveOf p k .facts) merge)
 
@@ -301,13 +328,15 @@ apply-right p f e r = go (planOk p) (ltb (e .0) (p .expressions .count)) (factsO
     answer : Bool → FactsAnswer
     answer b = cond b (answered f f (predicateApplied p (f .lineage) (f .constraints) (e .0))) (record { facts = f; outcome = O.NoSuch })
 
-    go : (a b c : Bool) → planOk p ≡ a → ltb (e .0) (p .expressions .count) ≡ b → RightFacts (p .columns .count) (p .expressions .count) (answer (a && (b && c)) .facts)
+    go : (a b c : Bool) → planOk p ≡ a → ltb (e .0) (p .expressions .count) ≡ b → RightFacts (p .columns .count) (p .expressions .count)
+        (answer (a && (b && c)) .facts)
     go true true true ea eb = filtered-right p (few p ea) e f (ltb-true (e .0) (p .expressions .count) eb) r
     go true true false ea eb = r
     go true false c ea eb = r
     go false b c ea eb = r
 
-pub merge-inputs-right : (p : Plan) (f g : LogicalFacts) (merge : Bool) → RightFacts (p .columns .count) (p .expressions .count) f → RightFacts (p .columns .count) (p .expressions .count) g
+pub merge-inputs-right : (p : Plan) (f g : LogicalFacts) (merge : Bool) → RightFacts (p .columns .count) (p .expressions .count) f → RightFacts
+    (p .columns .count) (p .expressions .count) g
     → RightFacts (p .columns .count) (p .expressions .count) (mergeInputs p f g merge .facts)
 unfolding mergeInputs
 merge-inputs-right p f g merge rf rg = go (planOk p) (factsOk p f && factsOk p g) refl
@@ -370,11 +399,13 @@ ok-right p f long e =
         lineage = all-right (RightIdentity nc) nc (f .lineage) (long .lineage)
             (λ c l. lineage-right nc (f .lineage) c (all-at (lineageOk (f .lineage) nc) 64 0 (and-left _ _ e) c (omega arith) (omega arith)));
         definitions = all-right (RightDefinition ne) nc (f .definitions) (long .definitions)
-            (λ c l. definition-right nc ne (f .definitions) c (all-at (definitionOk (f .definitions) nc ne) 64 0 (and-left _ _ e2) c (omega arith) (omega arith)));
+            (λ c l. definition-right nc ne (f .definitions) c (all-at (definitionOk (f .definitions) nc ne) 64 0 (and-left _ _ e2) c (omega arith)
+            (omega arith)));
       };
       set = record {
         rules = ruled (f .constraints) (long .parents) (and-left _ _ e3);
-        below = λ k l. ltb-true (handleAt (f .constraints) k) ne (all-at (residualOk (f .constraints) ne) (f .constraints .residuals) 0 (and-right (setOk (f .constraints)) _ e3) k (omega arith) (omega arith));
+        below = λ k l. ltb-true (handleAt (f .constraints) k) ne
+            (all-at (residualOk (f .constraints) ne) (f .constraints .residuals) 0 (and-right (setOk (f .constraints)) _ e3) k (omega arith) (omega arith));
       };
     }
 
@@ -383,5 +414,6 @@ pub applied-ok : (p : Plan) (f : LogicalFacts) (e : Expr) → ArraysLong f → f
 applied-ok p f e long y = right-ok p (applyPredicate p f e .facts) (apply-right p f e (ok-right p f long y))
 
 -- and so does what `merge_inputs` hands back
-pub merged-ok : (p : Plan) (f g : LogicalFacts) (merge : Bool) → ArraysLong f → ArraysLong g → factsOk p f ≡ true → factsOk p g ≡ true → factsOk p (mergeInputs p f g merge .facts) ≡ true
+pub merged-ok : (p : Plan) (f g : LogicalFacts) (merge : Bool) → ArraysLong f → ArraysLong g → factsOk p f ≡ true → factsOk p g ≡ true → factsOk p
+    (mergeInputs p f g merge .facts) ≡ true
 merged-ok p f g merge lf lg yf yg = right-ok p (mergeInputs p f g merge .facts) (merge-inputs-right p f g merge (ok-right p f lf yf) (ok-right p g lg yg))

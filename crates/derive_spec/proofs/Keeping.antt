@@ -24,7 +24,9 @@ use Rattle.plan_identities.specs.declared.ValueId.the-variants.{Derived}
 use Rattle.apply_spec.specs.Facts.{emptyFacts}
 use Rattle.apply_spec.specs.Entries.{overridden, inputsMerged}
 use Rattle.apply_spec.specs.declared.LogicalFacts.{LogicalFacts}
-use Rattle.derive_spec.specs.Columns.{itemAt, lineageEntry, noColumns, columnsIn, factsWith, inserted, assigned, carried, computed, keyColumn, keyed, keysOk, derivedColumns, keyStep, keysOf, derivedStep, projected, projectStep, renamed, renameStep, aggregated}
+use Rattle.derive_spec.specs.Columns.{itemAt, lineageEntry, noColumns, columnsIn, factsWith, inserted, assigned, carried, computed, keyColumn}
+use Rattle.derive_spec.specs.Columns.{keyed, keysOk, derivedColumns, keyStep, keysOf, derivedStep, projected, projectStep, renamed, renameStep}
+use Rattle.derive_spec.specs.Columns.{aggregated}
 use Rattle.derive_spec.specs.Operators.{accepted, refused, joined, grouped}
 use Rattle.derive_spec.specs.declared.ColumnFacts.{ColumnFacts}
 use Rattle.derive_spec.specs.declared.DeriveOutcome.the-variants.{Accepted, UnsupportedKey}
@@ -39,23 +41,27 @@ module _ (p : Plan) (ids : Identities) (h : Operator) (on : Expr) (f g : Logical
   left-anti = refl
 
   -- both lineages and definitions, right over left
-  left-outer : joined p ids h on f g LeftOuter ≡ accepted (record { lineage = overridden (f .lineage) (g .lineage); definitions = overridden (f .definitions) (g .definitions); constraints = f .constraints })
+  left-outer : joined p ids h on f g LeftOuter ≡ accepted
+      (record { lineage = overridden (f .lineage) (g .lineage); definitions = overridden (f .definitions) (g .definitions); constraints = f .constraints })
   unfolding inputsMerged
   left-outer = refl
 
   single : joined p ids h on f g Single ≡ joined p ids h on f g LeftOuter
   single = refl
 
-  right-outer : joined p ids h on f g RightOuter ≡ accepted (record { lineage = overridden (f .lineage) (g .lineage); definitions = overridden (f .definitions) (g .definitions); constraints = g .constraints })
+  right-outer : joined p ids h on f g RightOuter ≡ accepted
+      (record { lineage = overridden (f .lineage) (g .lineage); definitions = overridden (f .definitions) (g .definitions); constraints = g .constraints })
   unfolding inputsMerged
   right-outer = refl
 
-  full-outer : joined p ids h on f g FullOuter ≡ accepted (record { lineage = overridden (f .lineage) (g .lineage); definitions = overridden (f .definitions) (g .definitions); constraints = emptySet })
+  full-outer : joined p ids h on f g FullOuter ≡ accepted
+      (record { lineage = overridden (f .lineage) (g .lineage); definitions = overridden (f .definitions) (g .definitions); constraints = emptySet })
   unfolding inputsMerged
   full-outer = refl
 
   -- the marker is Derived, and all else is the left's
-  left-mark : (c : Column) → joined p ids h on f g (LeftMark c) ≡ accepted (record { lineage = set (f .lineage) (c .0) (lineageEntry ids (Derived c)); definitions = f .definitions; constraints = f .constraints })
+  left-mark : (c : Column) → joined p ids h on f g (LeftMark c) ≡ accepted
+      (record { lineage = set (f .lineage) (c .0) (lineageEntry ids (Derived c)); definitions = f .definitions; constraints = f .constraints })
   unfolding assigned
   left-mark c = refl
 
@@ -65,7 +71,8 @@ module _ (p : Plan) (ids : Identities) (h : Operator) (keys aggregates : Run) (f
   unfolding grouped emptyFacts
   grouped-free = go (keysOk (nodeAt p) (p .items .a) keys)
     where
-      go : (b : Bool) → cond b (accepted (factsWith (aggregated ids (nodeAt p) (p .items .a) keys aggregates (columnsIn f)) emptySet)) (refused (UnsupportedKey h)) .facts .constraints ≡ emptySet
+      go : (b : Bool) → cond b (accepted (factsWith (aggregated ids (nodeAt p) (p .items .a) keys aggregates (columnsIn f)) emptySet))
+          (refused (UnsupportedKey h)) .facts .constraints ≡ emptySet
       go true = refl
       go false = refl
 
@@ -118,13 +125,15 @@ module _ (g : ColumnFacts) (items originals : List ℕ) (r : Run) (c : ℕ) wher
   unfolding stepsTo carried
   rename-lineage zero u = nowhere 64 c
   rename-lineage (suc n) u =
-      elsewhere (stepsTo (renameStep g items originals r) n noColumns .lineage) (itemAt items r n) c (getD (g .lineage) (itemAt originals r n) 0) (u n (omega arith)) ∙ rename-lineage n (λ k l. u k (omega arith))
+      elsewhere (stepsTo (renameStep g items originals r) n noColumns .lineage) (itemAt items r n) c (getD (g .lineage) (itemAt originals r n) 0)
+      (u n (omega arith)) ∙ rename-lineage n (λ k l. u k (omega arith))
 
   rename-definitions : (n : ℕ) → Unlisted n → getD (stepsTo (renameStep g items originals r) n noColumns .definitions) c 0 ≡ 0
   unfolding stepsTo carried
   rename-definitions zero u = nowhere 64 c
   rename-definitions (suc n) u =
-      elsewhere (stepsTo (renameStep g items originals r) n noColumns .definitions) (itemAt items r n) c (getD (g .definitions) (itemAt originals r n) 0) (u n (omega arith)) ∙ rename-definitions n (λ k l. u k (omega arith))
+      elsewhere (stepsTo (renameStep g items originals r) n noColumns .definitions) (itemAt items r n) c (getD (g .definitions) (itemAt originals r n) 0)
+      (u n (omega arith)) ∙ rename-definitions n (λ k l. u k (omega arith))
 
   -- Rename forgets every other column
   pub rename-forgets : Unlisted (r .count) → (getD (renamed g items originals r .lineage) c 0 ≡ 0) × (getD (renamed g items originals r .definitions) c 0 ≡ 0)

@@ -22,7 +22,8 @@ use Rattle.plan_data.specs.Nodes.{runOf, operatorData}
 use Rattle.plan_data.specs.declared.JoinType.{JoinType}
 use Rattle.plan_data.specs.declared.JoinType.the-variants.{Inner, LeftSemi, LeftAnti, LeftOuter, Single, RightOuter, FullOuter, LeftMark}
 use Rattle.plan_data.specs.declared.OperatorData.{OperatorData}
-use Rattle.plan_data.specs.declared.OperatorData.the-variants.{Scan, ConstScan, TableFunction, Selection, Projection, Rename, Map, Aggregation, Sort, Limit, Output, CrossProduct, Join}
+use Rattle.plan_data.specs.declared.OperatorData.the-variants.{Scan, ConstScan, TableFunction, Selection, Projection, Rename, Map, Aggregation, Sort}
+use Rattle.plan_data.specs.declared.OperatorData.the-variants.{Limit, Output, CrossProduct, Join}
 use Rattle.derive_spec.specs.Deriving.{operatorAt}
 use Rattle.derive_spec.proofs.ColumnRules.{ItemsBelow}
 
@@ -97,7 +98,8 @@ module _ (nc ne np : ℕ) where
     unfolding itemOk
     item-expressions e k l =
         as-expression (rowOf i .b) (getD ib (from + k) 0) e
-        (second (handleOk (rowOf i .a) (getD ia (from + k) 0) nc ne np) _ _ _ (all-at (itemOk ia ib i nc ne np) n from all (from + k) (omega arith) (omega arith)))
+        (second (handleOk (rowOf i .a) (getD ia (from + k) 0) nc ne np) _ _ _
+        (all-at (itemOk ia ib i nc ne np) n from all (from + k) (omega arith) (omega arith)))
 
 module _ (x : Record) (st nc ne np used : ℕ) (ia ib : List ℕ) (ok : recordOk 3 x nc ne np ≡ true) (lists : listsOk ia ib used x st nc ne np ≡ true) where
   handles : handlesOk (rowOf (x .kind)) x nc ne np ≡ true
@@ -130,7 +132,8 @@ module _ (x : Record) (st nc ne np used : ℕ) (ia ib : List ℕ) (ok : recordOk
 
     d-column : rowOf k .d ≡ 2 → x .d < nc
     d-column e =
-        as-column nc ne np (rowOf k .d) (x .d) e (fourth (handleOk (rowOf k .a) (x .a) nc ne np) (handleOk (rowOf k .b) (x .b) nc ne np) (handleOk (rowOf k .c) (x .c) nc ne np) _ held)
+        as-column nc ne np (rowOf k .d) (x .d) e (fourth (handleOk (rowOf k .a) (x .a) nc ne np) (handleOk (rowOf k .b) (x .b) nc ne np)
+        (handleOk (rowOf k .c) (x .c) nc ne np) _ held)
 
     -- the n items of the kind i
     firsts : (i n : ℕ) → rowOf k .item ≡ i → countOf (rowOf k) x ≡ n → allFrom (itemOk ia ib i nc ne np) st n ≡ true
@@ -157,7 +160,8 @@ module _ (x : Record) (st nc ne np used : ℕ) (ia ib : List ℕ) (ok : recordOk
       (either P (eqb (x .kind) 0x33) _ _ (λ t. a-expression 0x33 t refl)
       (either P (eqb (x .kind) 0x34) _ _ (λ t. columns 0x34 t 0x40 (x .b) refl refl refl)
       (either P (eqb (x .kind) 0x35) _ _ (λ t. columns 0x35 t 0x41 (x .b) refl refl refl)
-      (either P (eqb (x .kind) 0x36) _ _ (λ t. (columns 0x36 t 0x42 (x .b) refl refl refl, item-expressions nc ne np ia ib 0x42 st (x .b) (firsts 0x36 t 0x42 (x .b) refl refl) refl))
+      (either P (eqb (x .kind) 0x36) _ _
+      (λ t. (columns 0x36 t 0x42 (x .b) refl refl refl, item-expressions nc ne np ia ib 0x42 st (x .b) (firsts 0x36 t 0x42 (x .b) refl refl) refl))
       (either P (eqb (x .kind) 0x37) _ _ (λ t. item-columns nc ne np ia ib 0x40 (st + x .b) (x .c) (lasts 0x37 t (x .b) (x .c) refl refl) refl)
       (either P (eqb (x .kind) 0x38) _ _ (λ t. tt)
       (either P (eqb (x .kind) 0x39) _ _ (λ t. tt)
@@ -173,5 +177,6 @@ pub operator-ranges : (p : Plan) → planOk p ≡ true → (h : ℕ) → h < p .
 unfolding operatorOkOf
 operator-ranges p ok h l =
     let e = rules p ok .operator h l in
-    record-ranges (operatorRecord p h) (operatorStart p h) (p .columns .count) (p .expressions .count) h (p .items .count) (p .items .a) (p .items .b) (and-left _ _ e)
+    record-ranges (operatorRecord p h) (operatorStart p h) (p .columns .count) (p .expressions .count) h (p .items .count) (p .items .a) (p .items .b)
+    (and-left _ _ e)
     (and-right (recordOk 3 (operatorRecord p h) (p .columns .count) (p .expressions .count) h) _ e)

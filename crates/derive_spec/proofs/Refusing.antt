@@ -21,7 +21,8 @@ use Rattle.plan_data.specs.declared.Run.{Run}
 use Rattle.plan_data.specs.declared.JoinType.{JoinType}
 use Rattle.plan_data.specs.declared.JoinType.the-variants.{Inner, LeftSemi, LeftAnti, LeftOuter, Single, RightOuter, FullOuter, LeftMark}
 use Rattle.plan_data.specs.declared.OperatorData.{OperatorData}
-use Rattle.plan_data.specs.declared.OperatorData.the-variants.{Scan, ConstScan, TableFunction, Selection, Projection, Rename, Map, Aggregation, Sort, Limit, Output, CrossProduct, Join}
+use Rattle.plan_data.specs.declared.OperatorData.the-variants.{Scan, ConstScan, TableFunction, Selection, Projection, Rename, Map, Aggregation, Sort}
+use Rattle.plan_data.specs.declared.OperatorData.the-variants.{Limit, Output, CrossProduct, Join}
 use Rattle.plan_identities.specs.Identities.{identitiesOf}
 use Rattle.plan_identities.specs.declared.Identities.{Identities}
 use Rattle.apply_spec.specs.Facts.{withConstraints}
@@ -32,7 +33,8 @@ use Rattle.apply_spec.specs.declared.LogicalFacts.{LogicalFacts}
 use Rattle.apply_spec.specs.declared.Outcome.the-variants as O
 use Rattle.apply_spec.proofs.Refusals.{Roomy}
 use Rattle.derive_spec.specs.Columns.{columnsIn, factsWith, keysOk, aggregated}
-use Rattle.derive_spec.specs.Operators.{refusalOf, refuserOf, isAccepted, accepted, refused, given, fitted, filtered, joined, grouped, operatorDerived, outerOf, innerOf}
+use Rattle.derive_spec.specs.Operators.{refusalOf, refuserOf, isAccepted, accepted, refused, given, fitted, filtered, joined, grouped}
+use Rattle.derive_spec.specs.Operators.{operatorDerived, outerOf, innerOf}
 use Rattle.derive_spec.specs.Deriving.{operatorAt, missing, answerFrom, answersTo, answerOf, deriveOf}
 use Rattle.derive_spec.specs.Residuals.{predicateList, bothLists, joinList, operatorList, residualsAt, keysFine, IsInput, Reached, here, through}
 use Rattle.derive_spec.specs.declared.DeriveOutcome.{DeriveOutcome}
@@ -52,7 +54,8 @@ Fine p h = (length (residualsAt p h) ≤ 64) × (keysFine p (operatorAt p h) ≡
 -- what the answer d of the operator h says
 pub data Told (p : Plan) (h : ℕ) (d : DeriveAnswer) : Type 0 where
   -- facts, with no more residuals than there is room for; its inputs have facts too
-  facts : d .outcome ≡ Accepted → Roomy (d .facts .constraints) → Fine p h → ((i : ℕ) → IsInput (operatorAt p h) i → answerOf p i .outcome ≡ Accepted) → Told p h d
+  facts : d .outcome ≡ Accepted → Roomy (d .facts .constraints) → Fine p h → ((i : ℕ) → IsInput (operatorAt p h) i → answerOf p i .outcome ≡ Accepted) → Told
+      p h d
   -- refusal 7 by an operator that is reached, whose list would pass 64
   full : (q : ℕ) → Reached p h q → d .outcome ≡ Residuals (numbered q) → 64 < length (residualsAt p q) → Told p h d
   -- refusal 6 by an operator that is reached, and has a key that is no column reference
@@ -68,7 +71,8 @@ module _ (p : Plan) (h : ℕ) where
   given-told d make i u (key q w e n) f = subst (λ (o : DeriveOutcome). Told p h (cond (isAccepted o) (make (d .facts)) d)) (sym e) (key q (through u w) e n)
 
   -- an input's answer is used as it is by Sort, Limit and Output
-  passed-on : (d : DeriveAnswer) (i : ℕ) → IsInput (operatorAt p h) i → Told p i d → (d .outcome ≡ Accepted → Roomy (d .facts .constraints) → Told p h d) → Told p h d
+  passed-on : (d : DeriveAnswer) (i : ℕ) → IsInput (operatorAt p h) i → Told p i d → (d .outcome ≡ Accepted → Roomy (d .facts .constraints) → Told p h d)
+      → Told p h d
   passed-on d i u (facts e r fine up) f = f e r
   passed-on d i u (full q w e n) f = full q (through u w) e n
   passed-on d i u (key q w e n) f = key q (through u w) e n
@@ -86,7 +90,8 @@ module _ (p : Plan) (h : ℕ) where
     -- h is fine, and its inputs have facts
     fine-here : length listHere ≤ 64 → keysFine p o ≡ true → Fine p h
     fine-here n k =
-        subst (λ (x : OperatorData). (length (operatorList p (answerOf p (outerOf x) .facts) (answerOf p (innerOf x) .facts) x) ≤ 64) × (keysFine p x ≡ true)) (sym is) (n, k)
+        subst (λ (x : OperatorData). (length (operatorList p (answerOf p (outerOf x) .facts) (answerOf p (innerOf x) .facts) x) ≤ 64) × (keysFine p x ≡ true))
+        (sym is) (n, k)
 
     abbrev Inputs : Type 0
     Inputs = (i : ℕ) → IsInput (operatorAt p h) i → answerOf p i .outcome ≡ Accepted
@@ -94,18 +99,31 @@ module _ (p : Plan) (h : ℕ) where
     -- what applying and merging say
     answered-told : Inputs → keysFine p o ≡ true → (old f : LogicalFacts) (a : Applied) → Kept a listHere → Told p h (fitted (numbered h) (answered old f a))
     answered-told up k old f a (inl m) =
-        subst (λ (t : Bool). Told p h (fitted (numbered h) (cond t (record { facts = old; outcome = O.Residuals }) (record { facts = withConstraints f (a .constraints); outcome = O.Accepted })))) (sym (m .0)) (facts refl (m .1) (fine-here (m .3) k) up)
+        subst (λ (t : Bool). Told p h
+        (fitted (numbered h)
+        (cond t (record { facts = old; outcome = O.Residuals }) (record { facts = withConstraints f (a .constraints); outcome = O.Accepted }))))
+        (sym (m .0)) (facts refl (m .1) (fine-here (m .3) k) up)
     answered-told up k old f a (inr m) =
-        subst (λ (t : Bool). Told p h (fitted (numbered h) (cond t (record { facts = old; outcome = O.Residuals }) (record { facts = withConstraints f (a .constraints); outcome = O.Accepted })))) (sym (m .0)) (full-here _ refl (m .1))
+        subst (λ (t : Bool). Told p h
+        (fitted (numbered h)
+        (cond t (record { facts = old; outcome = O.Residuals }) (record { facts = withConstraints f (a .constraints); outcome = O.Accepted }))))
+        (sym (m .0)) (full-here _ refl (m .1))
 
-    filter-told : Inputs → keysFine p o ≡ true → (e : Expr) (f : LogicalFacts) → Kept (predicateApplied p (f .lineage) (f .constraints) (e .0)) listHere → Told p h (fitted (numbered h) (filtered p e f))
+    filter-told : Inputs → keysFine p o ≡ true → (e : Expr) (f : LogicalFacts) → Kept (predicateApplied p (f .lineage) (f .constraints) (e .0)) listHere
+        → Told p h (fitted (numbered h) (filtered p e f))
     unfolding filtered
     filter-told up y e f k = answered-told up y f f (predicateApplied p (f .lineage) (f .constraints) (e .0)) k
 
-    merge-told : Inputs → keysFine p o ≡ true → (f g : LogicalFacts) → Kept (mergeFrom (f .constraints) (g .constraints)) listHere → Told p h (fitted (numbered h) (inputsMerged f g true))
+    merge-told : Inputs → keysFine p o ≡ true → (f g : LogicalFacts) → Kept (mergeFrom (f .constraints) (g .constraints)) listHere → Told p h
+        (fitted (numbered h) (inputsMerged f g true))
     unfolding inputsMerged
     merge-told up y f g k =
-        answered-told up y f (record { lineage = overridden (f .lineage) (g .lineage); definitions = overridden (f .definitions) (g .definitions); constraints = f .constraints }) (mergeFrom (f .constraints) (g .constraints)) k
+        answered-told up y f
+        (record {
+          lineage = overridden (f .lineage) (g .lineage);
+          definitions = overridden (f .definitions) (g .definitions);
+          constraints = f .constraints;
+        }) (mergeFrom (f .constraints) (g .constraints)) k
 
     -- Inner: first both lists, then the predicate
     inner-told : Inputs → keysFine p o ≡ true → (on : Expr) (f g : LogicalFacts) → Roomy (f .constraints) → Roomy (g .constraints)
@@ -121,19 +139,26 @@ module _ (p : Plan) (h : ℕ) where
         m = record { lineage = overridden (f .lineage) (g .lineage); definitions = overridden (f .definitions) (g .definitions); constraints = a .constraints }
 
         both : Bool → DeriveAnswer
-        both t = given (fitted (numbered h) (cond t (record { facts = f; outcome = O.Residuals }) (record { facts = m; outcome = O.Accepted }))) (λ m. fitted (numbered h) (filtered p on m))
+        both t = given (fitted (numbered h) (cond t (record { facts = f; outcome = O.Residuals }) (record { facts = m; outcome = O.Accepted })))
+            (λ m. fitted (numbered h) (filtered p on m))
 
         go : Kept a (bothLists (f .constraints) (g .constraints)) → Told p h (both (a .refused))
         go (inl k) =
             subst (λ (t : Bool). Told p h (both t)) (sym (k .0))
             (filter-told up y on m
-            (subst (Kept (predicateApplied p (m .lineage) (m .constraints) (on .0))) (ap (λ (l : List ℕ). predicateList p (m .lineage) l (on .0)) (k .2) ∙ sym e)
+            (subst (Kept (predicateApplied p (m .lineage) (m .constraints) (on .0))) (ap (λ (l : List ℕ). predicateList p (m .lineage) l (on .0)) (k .2) ∙ sym
+            e)
             (predicate-kept p (m .lineage) (m .constraints) (k .1) (on .0))))
         go (inr k) =
             subst (λ (t : Bool). Told p h (both t)) (sym (k .0))
             (full-here _ refl
             (subst (λ (l : List ℕ). 64 < length l) (sym e)
-            (omega (arith, k .1, list-grows (conjunctRecorded (overridden (f .lineage) (g .lineage)) (nodeAt p)) (bothLists (f .constraints) (g .constraints)) (conjunctsOf (nodeAt p) (p .items .a) (on .0))))))
+            (omega (
+              arith,
+              k .1,
+              list-grows (conjunctRecorded (overridden (f .lineage) (g .lineage)) (nodeAt p)) (bothLists (f .constraints) (g .constraints))
+                  (conjunctsOf (nodeAt p) (p .items .a) (on .0)),
+            ))))
 
   -- ---- each kind
   module _ (told : (i : ℕ) → IsInput (operatorAt p h) i → Told p i (answerOf p i)) where
@@ -145,7 +170,8 @@ module _ (p : Plan) (h : ℕ) where
     input o is i u = subst (λ (x : OperatorData). IsInput x i) (sym is) u
 
     -- all inputs have facts where those of the node have
-    inputs : (o : OperatorData) → operatorAt p h ≡ o → ((i : ℕ) → IsInput o i → answerOf p i .outcome ≡ Accepted) → (i : ℕ) → IsInput (operatorAt p h) i → answerOf p i .outcome ≡ Accepted
+    inputs : (o : OperatorData) → operatorAt p h ≡ o → ((i : ℕ) → IsInput o i → answerOf p i .outcome ≡ Accepted) → (i : ℕ) → IsInput (operatorAt p h) i
+        → answerOf p i .outcome ≡ Accepted
     inputs o is f i u = f i (subst (λ (x : OperatorData). IsInput x i) is u)
 
     one : (j : ℕ) → answerOf p j .outcome ≡ Accepted → (i : ℕ) → i ≡ j → answerOf p i .outcome ≡ Accepted
@@ -157,7 +183,8 @@ module _ (p : Plan) (h : ℕ) where
 
     -- an answer with a set that has room, by a node that adds no residual
     module _ (o : OperatorData) (is : operatorAt p h ≡ o) (none : listHere o is ≡ []) (k : keysFine p o ≡ true) where
-      plain : ((i : ℕ) → IsInput o i → answerOf p i .outcome ≡ Accepted) → (d : DeriveAnswer) → d .outcome ≡ Accepted → Roomy (d .facts .constraints) → Told p h d
+      plain : ((i : ℕ) → IsInput o i → answerOf p i .outcome ≡ Accepted) → (d : DeriveAnswer) → d .outcome ≡ Accepted → Roomy (d .facts .constraints) → Told p
+          h d
       plain up d e r = facts e r (fine-here o is (subst (λ (l : List ℕ). length l ≤ 64) (sym none) (omega arith)) k) (inputs o is up)
 
       -- over one input, which is made into something else
@@ -177,14 +204,16 @@ module _ (p : Plan) (h : ℕ) where
         → Told p h (joined p ids (numbered h) on (answerOf p (outer .0) .facts) (answerOf p (inner .0) .facts) j)
     unfolding inputsMerged
     joined-told Inner on outer inner is eo ei rf rg =
-        inner-told (Join Inner on outer inner) is (inputs (Join Inner on outer inner) is (two (outer .0) (inner .0) eo ei)) refl on (answerOf p (outer .0) .facts) (answerOf p (inner .0) .facts) rf rg refl
+        inner-told (Join Inner on outer inner) is (inputs (Join Inner on outer inner) is (two (outer .0) (inner .0) eo ei)) refl on
+        (answerOf p (outer .0) .facts) (answerOf p (inner .0) .facts) rf rg refl
     joined-told LeftSemi on outer inner is eo ei rf rg = plain (Join LeftSemi on outer inner) is refl refl (two (outer .0) (inner .0) eo ei) _ refl rf
     joined-told LeftAnti on outer inner is eo ei rf rg = plain (Join LeftAnti on outer inner) is refl refl (two (outer .0) (inner .0) eo ei) _ refl rf
     joined-told (LeftMark c) on outer inner is eo ei rf rg = plain (Join (LeftMark c) on outer inner) is refl refl (two (outer .0) (inner .0) eo ei) _ refl rf
     joined-told LeftOuter on outer inner is eo ei rf rg = plain (Join LeftOuter on outer inner) is refl refl (two (outer .0) (inner .0) eo ei) _ refl rf
     joined-told Single on outer inner is eo ei rf rg = plain (Join Single on outer inner) is refl refl (two (outer .0) (inner .0) eo ei) _ refl rf
     joined-told RightOuter on outer inner is eo ei rf rg = plain (Join RightOuter on outer inner) is refl refl (two (outer .0) (inner .0) eo ei) _ refl rg
-    joined-told FullOuter on outer inner is eo ei rf rg = plain (Join FullOuter on outer inner) is refl refl (two (outer .0) (inner .0) eo ei) _ refl roomy-empty
+    joined-told FullOuter on outer inner is eo ei rf rg = plain (Join FullOuter on outer inner) is refl refl (two (outer .0) (inner .0) eo ei) _ refl
+        roomy-empty
 
     grouped-told : (i : Operator) (keys aggregates : Run) → operatorAt p h ≡ Aggregation i keys aggregates → answerOf p (i .0) .outcome ≡ Accepted
         → Told p h (grouped p ids (numbered h) keys aggregates (answerOf p (i .0) .facts))
@@ -192,7 +221,9 @@ module _ (p : Plan) (h : ℕ) where
     grouped-told i keys aggregates is up = go (keysOk (nodeAt p) (p .items .a) keys) refl
       where
         go : (b : Bool) → keysOk (nodeAt p) (p .items .a) keys ≡ b
-            → Told p h (cond b (accepted (factsWith (aggregated ids (nodeAt p) (p .items .a) keys aggregates (columnsIn (answerOf p (i .0) .facts))) emptySet)) (refused (UnsupportedKey (numbered h))))
+            → Told p h
+            (cond b (accepted (factsWith (aggregated ids (nodeAt p) (p .items .a) keys aggregates (columnsIn (answerOf p (i .0) .facts))) emptySet))
+            (refused (UnsupportedKey (numbered h))))
         go true e = plain (Aggregation i keys aggregates) is refl e (one (i .0) up) _ refl roomy-empty
         go false e = key h here refl (ap (keysFine p) is ∙ e)
 
@@ -219,7 +250,8 @@ module _ (p : Plan) (h : ℕ) where
         let w = input (CrossProduct o i) is (i .0) (inr refl) in
         given-told (answerOf p (o .0)) _ (o .0) u (told (o .0) u)
         (λ eo rf. given-told (answerOf p (i .0)) _ (i .0) w (told (i .0) w)
-        (λ ei rg. merge-told (CrossProduct o i) is (inputs (CrossProduct o i) is (two (o .0) (i .0) eo ei)) refl (answerOf p (o .0) .facts) (answerOf p (i .0) .facts)
+        (λ ei rg. merge-told (CrossProduct o i) is (inputs (CrossProduct o i) is (two (o .0) (i .0) eo ei)) refl (answerOf p (o .0) .facts)
+        (answerOf p (i .0) .facts)
         (merge-kept (answerOf p (o .0) .facts .constraints) (answerOf p (i .0) .facts .constraints) rf rg)))
     operator-told (Join j on o i) is =
         let u = input (Join j on o i) is (o .0) (inl refl) in
@@ -230,7 +262,8 @@ module _ (p : Plan) (h : ℕ) where
 -- ---- a plan that keeps the rules
 module _ (p : Plan) (ok : planOk p ≡ true) where
   -- the rule of deriving, as the Rust has it: an answer from the answers of the inputs
-  by-inputs : (h : ℕ) (l r l2 r2 : DeriveAnswer) (o : OperatorData) → ((i : ℕ) → IsInput o i → i ≡ outerOf o → l ≡ l2) → ((i : ℕ) → IsInput o i → i ≡ innerOf o → r ≡ r2)
+  by-inputs : (h : ℕ) (l r l2 r2 : DeriveAnswer) (o : OperatorData) → ((i : ℕ) → IsInput o i → i ≡ outerOf o → l ≡ l2)
+      → ((i : ℕ) → IsInput o i → i ≡ innerOf o → r ≡ r2)
       → operatorDerived p (identitiesOf p) (numbered h) l r o ≡ operatorDerived p (identitiesOf p) (numbered h) l2 r2 o
   by-inputs h l r l2 r2 (Scan table columns) f g = refl
   by-inputs h l r l2 r2 (ConstScan columns) f g = refl
@@ -239,19 +272,23 @@ module _ (p : Plan) (ok : planOk p ≡ true) where
   by-inputs h l r l2 r2 (Projection i columns) f g = λ j. operatorDerived p (identitiesOf p) (numbered h) (f (i .0) refl refl j) r (Projection i columns)
   by-inputs h l r l2 r2 (Rename i defs) f g = λ j. operatorDerived p (identitiesOf p) (numbered h) (f (i .0) refl refl j) r (Rename i defs)
   by-inputs h l r l2 r2 (Map i computations) f g = λ j. operatorDerived p (identitiesOf p) (numbered h) (f (i .0) refl refl j) r (Map i computations)
-  by-inputs h l r l2 r2 (Aggregation i keys aggregates) f g = λ j. operatorDerived p (identitiesOf p) (numbered h) (f (i .0) refl refl j) r (Aggregation i keys aggregates)
+  by-inputs h l r l2 r2 (Aggregation i keys aggregates) f g = λ j. operatorDerived p (identitiesOf p) (numbered h) (f (i .0) refl refl j) r
+      (Aggregation i keys aggregates)
   by-inputs h l r l2 r2 (Sort i keys) f g = f (i .0) refl refl
   by-inputs h l r l2 r2 (Limit i) f g = f (i .0) refl refl
   by-inputs h l r l2 r2 (Output i) f g = f (i .0) refl refl
-  by-inputs h l r l2 r2 (CrossProduct o i) f g = λ j. operatorDerived p (identitiesOf p) (numbered h) (f (o .0) (inl refl) refl j) (g (i .0) (inr refl) refl j) (CrossProduct o i)
-  by-inputs h l r l2 r2 (Join how on o i) f g = λ j. operatorDerived p (identitiesOf p) (numbered h) (f (o .0) (inl refl) refl j) (g (i .0) (inr refl) refl j) (Join how on o i)
+  by-inputs h l r l2 r2 (CrossProduct o i) f g = λ j. operatorDerived p (identitiesOf p) (numbered h) (f (o .0) (inl refl) refl j)
+      (g (i .0) (inr refl) refl j) (CrossProduct o i)
+  by-inputs h l r l2 r2 (Join how on o i) f g = λ j. operatorDerived p (identitiesOf p) (numbered h) (f (o .0) (inl refl) refl j) (g (i .0) (inr refl) refl j)
+      (Join how on o i)
 
   module _ (h : ℕ) (l : h < p .operators .count) where
     -- what the table has of an input is the input's answer
     input-answer : (i k : ℕ) → IsInput (operatorAt p h) i → i ≡ k → getD (answersTo p h) k missing ≡ answerOf p k
     input-answer i k u e = subst (λ (m : ℕ). getD (answersTo p h) m missing ≡ answerOf p m) e (answer-at p h i (inputs-before p ok h i l u))
 
-    pub answer-rule : answerOf p h ≡ operatorDerived p (identitiesOf p) (numbered h) (answerOf p (outerOf (operatorAt p h))) (answerOf p (innerOf (operatorAt p h))) (operatorAt p h)
+    pub answer-rule : answerOf p h ≡ operatorDerived p (identitiesOf p) (numbered h) (answerOf p (outerOf (operatorAt p h)))
+        (answerOf p (innerOf (operatorAt p h))) (operatorAt p h)
     answer-rule =
         answer-made p h
         ∙ by-inputs h _ _ _ _ (operatorAt p h) (λ i u e. input-answer i (outerOf (operatorAt p h)) u e) (λ i u e. input-answer i (innerOf (operatorAt p h)) u e)
@@ -283,12 +320,14 @@ module _ (p : Plan) (ok : planOk p ≡ true) where
   -- would pass 64
   pub only-residuals : ((q : ℕ) → q < p .operators .count → keysFine p (operatorAt p q) ≡ true) → (h : ℕ) → h < p .operators .count
       → (refusalOf (deriveOf p h .outcome) ≡ 0)
-      ⊎ ((refusalOf (deriveOf p h .outcome) ≡ 7) × Reached p h (refuserOf (deriveOf p h .outcome)) × (64 < length (residualsAt p (refuserOf (deriveOf p h .outcome)))))
+      ⊎ ((refusalOf (deriveOf p h .outcome) ≡ 7) × Reached p h (refuserOf (deriveOf p h .outcome))
+      × (64 < length (residualsAt p (refuserOf (deriveOf p h .outcome)))))
   only-residuals fine h l = go (derive-told h l)
     where
       go : Told p h (deriveOf p h)
           → (refusalOf (deriveOf p h .outcome) ≡ 0)
-          ⊎ ((refusalOf (deriveOf p h .outcome) ≡ 7) × Reached p h (refuserOf (deriveOf p h .outcome)) × (64 < length (residualsAt p (refuserOf (deriveOf p h .outcome)))))
+          ⊎ ((refusalOf (deriveOf p h .outcome) ≡ 7) × Reached p h (refuserOf (deriveOf p h .outcome))
+          × (64 < length (residualsAt p (refuserOf (deriveOf p h .outcome)))))
       go (facts e r f up) = inl (ap refusalOf e)
       go (full q w e n) =
           inr (
@@ -307,7 +346,8 @@ module _ (p : Plan) (ok : planOk p ≡ true) where
       go (full q w e n) = let z : _≡_ {A = ℕ} 8 7 = sym y ∙ ap refusalOf e in absurd (omega (arith, z))
       go (key q w e n) = let z : _≡_ {A = ℕ} 8 6 = sym y ∙ ap refusalOf e in absurd (omega (arith, z))
 
-  accepted-told : (h : ℕ) → h < p .operators .count → answerOf p h .outcome ≡ Accepted → Fine p h × ((i : ℕ) → IsInput (operatorAt p h) i → answerOf p i .outcome ≡ Accepted)
+  accepted-told : (h : ℕ) → h < p .operators .count → answerOf p h .outcome ≡ Accepted → Fine p h
+      × ((i : ℕ) → IsInput (operatorAt p h) i → answerOf p i .outcome ≡ Accepted)
   accepted-told h l y = go (told-below (suc h) h (omega arith) l)
     where
       go : Told p h (answerOf p h) → Fine p h × ((i : ℕ) → IsInput (operatorAt p h) i → answerOf p i .outcome ≡ Accepted)
@@ -337,7 +377,8 @@ pub eight-exactly : (p : Plan) (h : ℕ) → (refusalOf (deriveOf p h .outcome) 
 unfolding deriveOf
 eight-exactly p h = (λ y. go (planOk p) (ltb h (p .operators .count)) refl refl y, λ n. rw n)
   where
-    go : (a b : Bool) → planOk p ≡ a → ltb h (p .operators .count) ≡ b → refusalOf (deriveOf p h .outcome) ≡ 8 → (planOk p && ltb h (p .operators .count)) ≡ false
+    go : (a b : Bool) → planOk p ≡ a → ltb h (p .operators .count) ≡ b → refusalOf (deriveOf p h .outcome) ≡ 8 → (planOk p && ltb h (p .operators .count))
+        ≡ false
     go true true ea eb y = absurd (not-eight p ea h (ltb-true h (p .operators .count) eb) y)
     go true false ea eb y = rw (ea, eb)
     go false b ea eb y = rw ea

@@ -8,7 +8,8 @@ use native.Mathlib.Omega.{arith}
 use lib.Dec.{T, ltb}
 use lib.ListN.{getD, set, length, length-set}
 use borrow.Author.Tests.{ltb-true}
-use Rattle.constraint_spec.specs.Sets.{handles, emptySet, stepsTo, hasHandle, roomFor, pushResidual, done, normalized, mergeResidual, mergeResiduals, mergeValues, mergedSet, roomTo, mergeRoom, mergeFrom}
+use Rattle.constraint_spec.specs.Sets.{handles, emptySet, stepsTo, hasHandle, roomFor, pushResidual, done, normalized, mergeResidual, mergeResiduals}
+use Rattle.constraint_spec.specs.Sets.{mergeValues, mergedSet, roomTo, mergeRoom, mergeFrom}
 use Rattle.constraint_spec.specs.Room.{listed, pushed, pushTo}
 use Rattle.constraint_spec.specs.declared.ConstraintSet.{ConstraintSet}
 use Rattle.constraint_spec.specs.declared.Applied.{Applied}
@@ -37,7 +38,16 @@ unfolding pushResidual
 roomy-push s h r = go (hasHandle s h) (ltb (s .residuals) 64) refl
   where
     pushedSet : ConstraintSet
-    pushedSet = record { «equivalence_classes» = s .«equivalence_classes»; «non_null_values» = s .«non_null_values»; «literal_equalities» = s .«literal_equalities»; ranges = s .ranges; «residual_predicates» = set (handles s) (s .residuals) h; residuals = s .residuals + 1; contradictory = s .contradictory }
+    pushedSet = record {
+      «equivalence_classes» = s .«equivalence_classes»;
+      «non_null_values» = s .«non_null_values»;
+      «literal_equalities» = s .«literal_equalities»;
+      ranges = s .ranges;
+      «residual_predicates» = set (handles s) (s .residuals) h;
+      residuals = s .residuals
+          + 1;
+      contradictory = s .contradictory;
+    }
 
     go : (a b : Bool) → ltb (s .residuals) 64 ≡ b → Roomy (cond a s (cond b pushedSet s))
     go true b e = r
@@ -63,7 +73,8 @@ list-grows recorded l (h ∷ hs) = omega (arith, one (recorded h), list-grows re
     one false = pushed-grows l h
 
 module _ (lineage : List ℕ) (node : ℕ → ExprData) where
-  all-kept : (hs : List ℕ) (a : Applied) (w : List ℕ) → Kept a w → Kept (allApplied (conjunctApplied lineage node) hs a) (wantedBy (conjunctRecorded lineage node) w hs)
+  all-kept : (hs : List ℕ) (a : Applied) (w : List ℕ) → Kept a w → Kept (allApplied (conjunctApplied lineage node) hs a)
+      (wantedBy (conjunctRecorded lineage node) w hs)
   unfolding allApplied wantedBy
   all-kept [] a w k = k
   all-kept (h ∷ hs) a w k = all-kept hs _ _ (next k)
@@ -74,15 +85,18 @@ module _ (lineage : List ℕ) (node : ℕ → ExprData) where
 
       next : Kept a w → Kept (cond (a .refused) a (conjunctApplied lineage node (a .constraints) h)) (cond (conjunctRecorded lineage node h) w (pushed w h))
       next (inl m) =
-          subst (λ (t : Bool). Kept (cond t a (conjunctApplied lineage node (a .constraints) h)) (cond (conjunctRecorded lineage node h) w (pushed w h))) (sym (m .0))
+          subst (λ (t : Bool). Kept (cond t a (conjunctApplied lineage node (a .constraints) h)) (cond (conjunctRecorded lineage node h) w (pushed w h)))
+          (sym (m .0))
           (subst (λ (l : List ℕ). Kept (conjunctApplied lineage node (a .constraints) h) (cond (conjunctRecorded lineage node h) l (pushed l h))) (m .2)
           (let k = conjunct-leaves (a .constraints) (m .1) h lineage node in kept-by _ _ (k .0) (k .1)))
       next (inr m) =
-          subst (λ (t : Bool). Kept (cond t a (conjunctApplied lineage node (a .constraints) h)) (cond (conjunctRecorded lineage node h) w (pushed w h))) (sym (m .0))
+          subst (λ (t : Bool). Kept (cond t a (conjunctApplied lineage node (a .constraints) h)) (cond (conjunctRecorded lineage node h) w (pushed w h)))
+          (sym (m .0))
           (inr (m .0, crowded (conjunctRecorded lineage node h) (m .1)))
 
 -- a predicate is refused exactly where the list would pass 64, and else the list is that one
-pub predicate-kept : (p : Plan) (lineage : List ℕ) (s : ConstraintSet) → Roomy s → (e : ℕ) → Kept (predicateApplied p lineage s e) (predicateList p lineage (listed s) e)
+pub predicate-kept : (p : Plan) (lineage : List ℕ) (s : ConstraintSet) → Roomy s → (e : ℕ) → Kept (predicateApplied p lineage s e)
+    (predicateList p lineage (listed s) e)
 unfolding predicateApplied
 predicate-kept p lineage s r e =
     all-kept lineage (nodeAt p) (conjunctsOf (nodeAt p) (p .items .a) e) (done s) (listed s)
@@ -118,7 +132,8 @@ module _ (b t : ConstraintSet) (r : Roomy t) where
       w = pushTo (listed t) (handles b) k
 
       next : (x : Bool) → roomFor u h ≡ x → roomTo t (handles b) k ≡ true → listed u ≡ w
-          → ((roomTo t (handles b) k && roomFor u h ≡ true) × (listed (pushResidual u h) ≡ pushed w h) × (length (pushed w h) ≤ 64)) ⊎ ((roomTo t (handles b) k && roomFor u h ≡ false) × (64 < length (pushed w h)))
+          → ((roomTo t (handles b) k && roomFor u h ≡ true) × (listed (pushResidual u h) ≡ pushed w h) × (length (pushed w h) ≤ 64))
+          ⊎ ((roomTo t (handles b) k && roomFor u h ≡ false) × (64 < length (pushed w h)))
       next true e o l =
           let f = after-roomy k in
           let m = room-noted u (f .few) (f .long) h (subst T (sym e) tt) in
@@ -162,6 +177,12 @@ merge-kept a b ra rb = go (merged-to b t rt n)
         → Kept (mergeFrom a b) (bothLists a b)
     go (inl m) =
         subst (λ (x : Applied). Kept x (bothLists a b)) (sym (merge-done a b (m .0)))
-        (inl (refl, roomy-same u (normalized u) (same-normalized u) (after-roomy b t rt n), same-listed u (normalized u) (same-normalized u) ∙ m .1 ∙ e, subst (λ (l : List ℕ). length l ≤ 64) e (m .2)))
+        (inl (
+          refl,
+          roomy-same u (normalized u) (same-normalized u) (after-roomy b t rt n),
+          same-listed u (normalized u) (same-normalized u) ∙ m .1 ∙ e,
+          subst
+              (λ (l : List ℕ). length l ≤ 64) e (m .2),
+        ))
     go (inr m) =
         subst (λ (x : Applied). Kept x (bothLists a b)) (sym (merge-refused a b (m .0))) (inr (refl, subst (λ (l : List ℕ). 64 < length l) e (m .1)))

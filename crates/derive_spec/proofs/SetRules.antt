@@ -16,7 +16,9 @@ use Rattle.scalar.specs.declared.ScalarValue.the-variants as S
 use Rattle.comparison.specs.Operators.{ordinary, bounding}
 use Rattle.comparison.specs.declared.BinaryOp.{BinaryOp}
 use Rattle.comparison.specs.declared.BinaryOp.the-variants.{Eq, NotEq, Lt, LtEq, Gt, GtEq, IsNotDistinctFrom}
-use Rattle.constraint_spec.specs.Sets.{handles, handleAt, withResiduals, withFlag, normalized, unionValues, addNonNull, addLiteral, addBound, rangedBy, addRange, hasHandle, roomFor, pushResidual, addResidual, done, refusedWith, emptySet, stepsTo, mergeResidual, mergeResiduals, mergeValues, mergedSet, mergeRoom, mergeFrom}
+use Rattle.constraint_spec.specs.Sets.{handles, handleAt, withResiduals, withFlag, normalized, unionValues, addNonNull, addLiteral, addBound}
+use Rattle.constraint_spec.specs.Sets.{rangedBy, addRange, hasHandle, roomFor, pushResidual, addResidual, done, refusedWith, emptySet, stepsTo}
+use Rattle.constraint_spec.specs.Sets.{mergeResidual, mergeResiduals, mergeValues, mergedSet, mergeRoom, mergeFrom}
 use Rattle.constraint_spec.specs.declared.ConstraintSet.{ConstraintSet}
 use Rattle.constraint_spec.specs.declared.Applied.{Applied}
 use Rattle.constraint_spec.proofs.Steps.{steps-good, pick-has}
@@ -30,7 +32,8 @@ use Rattle.plan_data.specs.declared.ExprData.{ExprData}
 use Rattle.plan_data.specs.declared.ExprData.the-variants.{Literal, ColumnRef, Unary, Binary, Nary}
 use Rattle.apply_spec.specs.Facts.{hasLineage, identityOf}
 use Rattle.apply_spec.specs.Conjuncts.{conjunctsOf}
-use Rattle.apply_spec.specs.Apply.{seenOf, isNullLiteral, rangeApplied, operandsApplied, comparisonApplied, literalApplied, nodeApplied, conjunctApplied, allApplied}
+use Rattle.apply_spec.specs.Apply.{seenOf, isNullLiteral, rangeApplied, operandsApplied, comparisonApplied, literalApplied, nodeApplied}
+use Rattle.apply_spec.specs.Apply.{conjunctApplied, allApplied}
 use Rattle.apply_spec.specs.Entries.{predicateApplied}
 use Rattle.apply_spec.specs.Meaning.{AllOf}
 use Rattle.apply_spec.specs.declared.Seen.{Seen}
@@ -70,7 +73,8 @@ module _ (ne : ℕ) where
     where
       more : (k : ℕ) → k < s .residuals + 1 → getD (set (handles s) (s .residuals) h) k 0 < ne
       more k m = elim (ℕ-discrete k (s .residuals)) [
-        | yes e ↦ subst (λ (j : ℕ). getD (set (handles s) (s .residuals) h) j 0 < ne) (sym e) (stored (λ (v : ℕ). v < ne) (handles s) (s .residuals) h (omega arith) l)
+        | yes e ↦ subst (λ (j : ℕ). getD (set (handles s) (s .residuals) h) j 0 < ne) (sym e)
+            (stored (λ (v : ℕ). v < ne) (handles s) (s .residuals) h (omega arith) l)
         | no d ↦ subst (λ (v : ℕ). v < ne) (sym (getD-set-other (handles s) (s .residuals) k h 0 d)) (b k (omega arith))
       ]
 
@@ -114,7 +118,8 @@ module _ (ne : ℕ) where
     Small Unseen = Unit {0}
 
     same-class : (i j : ℕ) → i < 128 → j < 128 → Kept (done (addNonNull (unionValues s i j) i))
-    same-class i j hi hj = right-beside (unionValues s i j) (addNonNull (unionValues s i j) i) (addNonNull-beside (unionValues s i j) i) (right-union s i j hi hj r)
+    same-class i j hi hj = right-beside (unionValues s i j) (addNonNull (unionValues s i j) i) (addNonNull-beside (unionValues s i j) i)
+        (right-union s i j hi hj r)
 
     operands : (op : BinaryOp) (a b : Seen) → Small a → Small b → Kept (operandsApplied s h op a b)
     unfolding addRange
@@ -149,7 +154,8 @@ module _ (ne : ℕ) where
     comparison : (op : BinaryOp) (a b : Seen) → Small a → Small b → Kept (comparisonApplied s h op a b)
     unfolding comparisonApplied
     comparison op a b x y =
-        pick-has Kept (ordinary op && (isNullLiteral a || isNullLiteral b)) (done (withFlag s true)) (operandsApplied s h op a b) (λ t. flagged) (operands op a b x y)
+        pick-has Kept (ordinary op && (isNullLiteral a || isNullLiteral b)) (done (withFlag s true)) (operandsApplied s h op a b) (λ t. flagged)
+        (operands op a b x y)
 
     constant : (v : ScalarValue) → Kept (literalApplied s h v)
     constant (S.Null k) = flagged
@@ -187,7 +193,8 @@ module _ (ne : ℕ) where
     conjuncts-right [] q a r = r
     conjuncts-right (h ∷ hs) q a r =
         conjuncts-right hs (q .1) (cond (a .refused) a (conjunctApplied lineage node (a .constraints) h))
-        (pick-has Kept (a .refused) a (conjunctApplied lineage node (a .constraints) h) (λ t. r) (conjunct-right h (q .0) (a .constraints) r lineage small node))
+        (pick-has Kept (a .refused) a (conjunctApplied lineage node (a .constraints) h) (λ t. r)
+        (conjunct-right h (q .0) (a .constraints) r lineage small node))
 
   -- ---- a merge of two such sets
   pub merge-right : (a b : ConstraintSet) → RightSet ne a → RightSet ne b → RightSet ne (mergeFrom a b .constraints)
@@ -204,14 +211,17 @@ module _ (ne : ℕ) where
 
       pushed-below : Below ne pushed
       pushed-below =
-          steps-good (Below ne) (mergeResidual (handles b)) n (λ k l t q. below-push t (handleAt b k) (rb .below k (omega arith)) q) n (omega arith) (mergeValues a b)
+          steps-good (Below ne) (mergeResidual (handles b)) n (λ k l t q. below-push t (handleAt b k) (rb .below k (omega arith)) q) n (omega arith)
+          (mergeValues a b)
           (below-same a (mergeValues a b) (same-values b a) (ra .below))
 
 -- a predicate of the plan, where every identity of the lineage is one of the 128
-pub predicate-right : (p : Plan) (lineage : List ℕ) → Within lineage → (s : ConstraintSet) (e : ℕ) → e < p .expressions .count → RightSet (p .expressions .count) s
+pub predicate-right : (p : Plan) (lineage : List ℕ) → Within lineage → (s : ConstraintSet) (e : ℕ) → e < p .expressions .count → RightSet
+    (p .expressions .count) s
     → RightSet (p .expressions .count) (predicateApplied p lineage s e .constraints)
 unfolding predicateApplied
 predicate-right p lineage small s e l r =
     conjuncts-right (p .expressions .count) lineage small (nodeAt p) (conjunctsOf (nodeAt p) (p .items .a) e)
-    (all-map (λ (h : ℕ). h ≤ e) (λ (h : ℕ). h < p .expressions .count) (λ h q. omega arith) (conjunctsOf (nodeAt p) (p .items .a) e) (conjuncts-within (nodeAt p) (p .items .a) e))
+    (all-map (λ (h : ℕ). h ≤ e) (λ (h : ℕ). h < p .expressions .count) (λ h q. omega arith) (conjunctsOf (nodeAt p) (p .items .a) e)
+    (conjuncts-within (nodeAt p) (p .items .a) e))
     (done s) r

@@ -25,7 +25,8 @@ missing = refused (NoSuch (record { 0 = 0 }))
 -- the answer of the operator h, where t has the answers of those before it
 abbrev pub answerFrom : Plan → List DeriveAnswer → ℕ → DeriveAnswer
 answerFrom p t h =
-    operatorDerived p (identitiesOf p) (record { 0 = h }) (getD t (outerOf (operatorAt p h)) missing) (getD t (innerOf (operatorAt p h)) missing) (operatorAt p h)
+    operatorDerived p (identitiesOf p) (record { 0 = h }) (getD t (outerOf (operatorAt p h)) missing) (getD t (innerOf (operatorAt p h)) missing)
+    (operatorAt p h)
 
 -- the answers of the first n operators, in handle order
 unfoldable pub answersTo : Plan → ℕ → List DeriveAnswer

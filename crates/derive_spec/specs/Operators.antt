@@ -12,7 +12,8 @@ use Rattle.plan_data.specs.declared.Run.{Run}
 use Rattle.plan_data.specs.declared.JoinType.{JoinType}
 use Rattle.plan_data.specs.declared.JoinType.the-variants.{Inner, LeftSemi, LeftAnti, LeftOuter, Single, RightOuter, FullOuter, LeftMark}
 use Rattle.plan_data.specs.declared.OperatorData.{OperatorData}
-use Rattle.plan_data.specs.declared.OperatorData.the-variants.{Scan, ConstScan, TableFunction, Selection, Projection, Rename, Map, Aggregation, Sort, Limit, Output, CrossProduct, Join}
+use Rattle.plan_data.specs.declared.OperatorData.the-variants.{Scan, ConstScan, TableFunction, Selection, Projection, Rename, Map, Aggregation, Sort}
+use Rattle.plan_data.specs.declared.OperatorData.the-variants.{Limit, Output, CrossProduct, Join}
 use Rattle.plan_identities.specs.declared.Identities.{Identities}
 use Rattle.apply_spec.specs.Facts.{emptyFacts, withConstraints}
 use Rattle.apply_spec.specs.Entries.{answered, predicateApplied, inputsMerged}
@@ -20,7 +21,8 @@ use Rattle.apply_spec.specs.declared.LogicalFacts.{LogicalFacts}
 use Rattle.apply_spec.specs.declared.FactsAnswer.{FactsAnswer}
 use Rattle.apply_spec.specs.declared.Outcome.{Outcome}
 use Rattle.apply_spec.specs.declared.Outcome.the-variants as O
-use Rattle.derive_spec.specs.Columns.{noColumns, columnsIn, factsWith, derivedColumn, scanned, derivedColumns, projected, renamed, mapped, keysOk, aggregated}
+use Rattle.derive_spec.specs.Columns.{noColumns, columnsIn, factsWith, derivedColumn, scanned, derivedColumns, projected, renamed, mapped}
+use Rattle.derive_spec.specs.Columns.{keysOk, aggregated}
 use Rattle.derive_spec.specs.declared.DeriveOutcome.{DeriveOutcome}
 use Rattle.derive_spec.specs.declared.DeriveOutcome.the-variants.{Accepted, UnsupportedKey, Residuals, NoSuch}
 use Rattle.derive_spec.specs.declared.DeriveAnswer.{DeriveAnswer}
@@ -96,7 +98,8 @@ operatorDerived p ids h l r (TableFunction columns) = accepted (factsWith (deriv
 operatorDerived p ids h l r (Selection predicate input) = given l (λ f. fitted h (filtered p predicate f))
 operatorDerived p ids h l r (Projection input columns) = given l (λ f. accepted (factsWith (projected (columnsIn f) (p .items .a) columns) (f .constraints)))
 operatorDerived p ids h l r (Rename input defs) = given l (λ f. accepted (factsWith (renamed (columnsIn f) (p .items .a) (p .items .b) defs) (f .constraints)))
-operatorDerived p ids h l r (Map input computations) = given l (λ f. accepted (factsWith (mapped ids (nodeAt p) (p .items .a) (p .items .b) computations (columnsIn f)) (f .constraints)))
+operatorDerived p ids h l r (Map input computations) = given l
+    (λ f. accepted (factsWith (mapped ids (nodeAt p) (p .items .a) (p .items .b) computations (columnsIn f)) (f .constraints)))
 operatorDerived p ids h l r (Aggregation input keys aggregates) = given l (grouped p ids h keys aggregates)
 operatorDerived p ids h l r (Sort input keys) = l
 operatorDerived p ids h l r (Limit input) = l

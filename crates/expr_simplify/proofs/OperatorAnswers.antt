@@ -21,7 +21,9 @@ use Rattle.plan_data.specs.Nodes.{operatorData, recordOfOperator}
 use Rattle.plan_data.specs.declared.OperatorData.{OperatorData}
 use Rattle.simplify_spec.specs.Shapes.{isLiteral}
 use Rattle.simplify_spec.specs.OneExpression.{shapeIn, enterOf, simplifyAt}
-use Rattle.simplify_spec.specs.OneOperator.{operatorAt, heldOf, heldCount, heldAt, eachWith, eachTo, itemCount, itemFirst, itemSecond, writeAll, withList, rebuiltOf, planWith, planAdded, answered, operatorHandle, addOperator, inputOr, rewriteOf, startOf, eachOf, simplifyOf}
+use Rattle.simplify_spec.specs.OneOperator.{operatorAt, heldOf, heldCount, heldAt, eachWith, eachTo, itemCount, itemFirst, itemSecond, writeAll}
+use Rattle.simplify_spec.specs.OneOperator.{withList, rebuiltOf, planWith, planAdded, answered, operatorHandle, addOperator, inputOr, rewriteOf}
+use Rattle.simplify_spec.specs.OneOperator.{startOf, eachOf, simplifyOf}
 use Rattle.simplify_spec.specs.declared.Tables.{Tables}
 use Rattle.simplify_spec.specs.declared.Simplified.{Simplified}
 use Rattle.simplify_spec.specs.declared.Each.{Each}
@@ -89,7 +91,8 @@ first-items ia ib u held at = fun-ext (go held)
     go (Seconds start count) k = refl
     go (Firsts start count more) k = refl
 
-pub list-done : (t r old : Items) (held : Held) (at : ℕ → ℕ) (k n : ℕ) → r ≡ listAt t (t .count) (itemFirst (itemsOf (old .a) (old .a) 0) held at) (itemSecond held at) k
+pub list-done : (t r old : Items) (held : Held) (at : ℕ → ℕ) (k n : ℕ) → r ≡ listAt t (t .count) (itemFirst (itemsOf (old .a) (old .a) 0) held at)
+    (itemSecond held at) k
     → k ≤ n → n ≤ k → record { count = t .count + n; a = r .a; b = r .b } ≡ withList t n (itemFirst old held at) (itemSecond held at)
 list-done t r old held at k n er le ge =
     let e : k ≡ n = omega arith in
@@ -105,9 +108,11 @@ module _ (p : Plan) (st : Tables) (d : OperatorData) (held : Held) (at : ℕ →
   abbrev test : ℕ → Bool
   test m = ltb (p .operators .count) 128 && leb (st .items .count + m) 2048
 
-  pub operator-off : not (ltb (p .operators .count) 128 && leb (st .items .count + n) 2048) ≡ true → (w : Rewritten) → w ≡ answered p Room → w ≡ addOperator p st d held at
+  pub operator-off : not (ltb (p .operators .count) 128 && leb (st .items .count + n) 2048) ≡ true → (w : Rewritten) → w ≡ answered p Room → w ≡ addOperator p
+      st d held at
   operator-off e w ew =
-      ew ∙ (λ j. cond (sym (sym (ap test en) ∙ not-true (test n) e) j) (answered (planAdded p st d held at) (Replace (operatorHandle (p .operators .count)))) (answered p Room))
+      ew ∙ (λ j. cond (sym (sym (ap test en) ∙ not-true (test n) e) j) (answered (planAdded p st d held at) (Replace (operatorHandle (p .operators .count))))
+      (answered p Room))
 
   pub items-fit : not (ltb (p .operators .count) 128 && leb (st .items .count + n) 2048) ≡ false → st .items .count + n ≤ 2048
   items-fit e = leb-true (st .items .count + n) 2048 (and-right (ltb (p .operators .count) 128) (leb (st .items .count + n) 2048) (not-false (test n) e))
@@ -118,21 +123,26 @@ module _ (p : Plan) (st : Tables) (d : OperatorData) (held : Held) (at : ℕ →
   pub operator-on : not (ltb (p .operators .count) 128 && leb (st .items .count + n) 2048) ≡ false
       → (items : Items) → items ≡ withList (st .items) n (itemFirst (p .items) held at) (itemSecond held at)
       → (y : Record) → y ≡ recordOfOperator (rebuiltOf d (st .items .count) at)
-      → (r : Appended) → r ≡ appendOperator (record { columns = p .columns; expressions = st .exprs; operators = p .operators; items = items }) y (st .items .count)
+      → (r : Appended) → r ≡ appendOperator (record { columns = p .columns; expressions = st .exprs; operators = p .operators; items = items }) y
+      (st .items .count)
       → (w : Rewritten) → w ≡ answered (r .plan) (Replace (operatorHandle (p .operators .count))) → w ≡ addOperator p st d held at
   unfolding appendOperator
   operator-on e items ei y ey r er w ew =
       let t : test n ≡ true = not-false (test n) e in
-      let free : p .operators .count < 128 = ltb-true (p .operators .count) 128 (and-left (ltb (p .operators .count) 128) (leb (st .items .count + n) 2048) t) in
+      let free : p .operators .count < 128 = ltb-true (p .operators .count) 128 (and-left (ltb (p .operators .count) 128) (leb (st .items .count + n) 2048) t)
+      in
       ew
       ∙ ap (λ (z : Appended). answered (z .plan) (Replace (operatorHandle (p .operators .count))))
       (er
-      ∙ (λ j. cond (lt-leb 128 (p .operators .count) free j) (noRoom (base items)) (addedAt (withOperator (base items) y (st .items .count)) (p .operators .count)))
-      ∙ (λ j. addedAt (withOperator (base ((ei ∙ ap (λ (m : ℕ). withList (st .items) m (itemFirst (p .items) held at) (itemSecond held at)) en) j)) (ey j) (st .items .count)) (p .operators .count)))
+      ∙ (λ j. cond (lt-leb 128 (p .operators .count) free j) (noRoom (base items))
+      (addedAt (withOperator (base items) y (st .items .count)) (p .operators .count)))
+      ∙ (λ j. addedAt (withOperator (base ((ei ∙ ap (λ (m : ℕ). withList (st .items) m (itemFirst (p .items) held at) (itemSecond held at)) en) j)) (ey j)
+      (st .items .count)) (p .operators .count)))
       ∙ (λ j. cond (sym (sym (ap test en) ∙ t) j) (answered (planAdded p st d held at) (Replace (operatorHandle (p .operators .count)))) (answered p Room))
 
 -- ---- Selection(true, input)
-module _ (p : Plan) (st : Tables) (d : OperatorData) (held : Held) (at : ℕ → ℕ) (x : Record) (start : ℕ) (v : Bool) (ev : v ≡ isLiteral true (shapeIn st (at 0))) where
+module _ (p : Plan) (st : Tables) (d : OperatorData) (held : Held) (at : ℕ → ℕ) (x : Record) (start : ℕ) (v : Bool)
+    (ev : v ≡ isLiteral true (shapeIn st (at 0))) where
   pub input-through : (eqb (x .kind) 0x33 && v) ≡ true → (w : Rewritten) → w ≡ answered (planWith p st) (Replace (operatorHandle (x .b)))
       → w ≡ inputOr p st d held at (operatorData x start)
   unfolding operatorData
@@ -159,7 +169,8 @@ module _ (p : Plan) (st : Tables) (d : OperatorData) (held : Held) (at : ℕ →
           choose P (eqb k 0x30) _ _ (λ t. refl)
           (λ t. choose P (eqb k 0x31) _ _ (λ t. refl)
           (λ t. choose P (eqb k 0x32) _ _ (λ t. refl)
-          (λ t. choose P (eqb k 0x33) _ _ (λ t. (λ j. cond (sym (off t) j) (answered (planWith p st) (Replace (operatorHandle (x .b)))) (addOperator p st d held at)))
+          (λ t. choose P (eqb k 0x33) _ _
+          (λ t. (λ j. cond (sym (off t) j) (answered (planWith p st) (Replace (operatorHandle (x .b)))) (addOperator p st d held at)))
           (λ t. choose P (eqb k 0x34) _ _ (λ t. refl)
           (λ t. choose P (eqb k 0x35) _ _ (λ t. refl)
           (λ t. choose P (eqb k 0x36) _ _ (λ t. refl)
@@ -175,12 +186,14 @@ module _ (p : Plan) (st : Tables) (d : OperatorData) (held : Held) (at : ℕ →
 module _ (p : Plan) (d : OperatorData) (r : Each) (er : r ≡ eachOf p d) where
   pub rewrite-room : r .ok ≡ false → (w : Rewritten) → w ≡ answered p Room → w ≡ rewriteOf p d (eachOf p d)
   unfolding rewriteOf
-  rewrite-room o w ew = ew ∙ (λ j. cond (sym o j) (cond (r .st .changed) (inputOr p (r .st) d (heldOf d) (λ (k : ℕ). getD (r .ats) k 0) d) (answered p Keep)) (answered p Room)) ∙ ap (rewriteOf p d) er
+  rewrite-room o w ew = ew ∙ (λ j. cond (sym o j) (cond (r .st .changed) (inputOr p (r .st) d (heldOf d) (λ (k : ℕ). getD (r .ats) k 0) d) (answered p Keep))
+      (answered p Room)) ∙ ap (rewriteOf p d) er
 
   pub rewrite-keep : r .ok ≡ true → r .st .changed ≡ false → (w : Rewritten) → w ≡ answered p Keep → w ≡ rewriteOf p d (eachOf p d)
   unfolding rewriteOf
   rewrite-keep o c w ew =
-      ew ∙ (λ j. cond (sym o j) (cond (sym c j) (inputOr p (r .st) d (heldOf d) (λ (k : ℕ). getD (r .ats) k 0) d) (answered p Keep)) (answered p Room)) ∙ ap (rewriteOf p d) er
+      ew ∙ (λ j. cond (sym o j) (cond (sym c j) (inputOr p (r .st) d (heldOf d) (λ (k : ℕ). getD (r .ats) k 0) d) (answered p Keep)) (answered p Room)) ∙ ap
+      (rewriteOf p d) er
 
   pub rewrite-changed : r .ok ≡ true → r .st .changed ≡ true → (held : Held) → held ≡ heldOf d
       → (w : Rewritten) → w ≡ inputOr p (r .st) d held (λ (k : ℕ). getD (r .ats) k 0) d → w ≡ rewriteOf p d (eachOf p d)
@@ -191,7 +204,8 @@ module _ (p : Plan) (d : OperatorData) (r : Each) (er : r ≡ eachOf p d) where
       ∙ (λ j. cond (sym o j) (cond (sym c j) (inputOr p (r .st) d (heldOf d) (λ (k : ℕ). getD (r .ats) k 0) d) (answered p Keep)) (answered p Room))
       ∙ ap (rewriteOf p d) er
 
-pub each-held : (p : Plan) (d : OperatorData) (held : Held) → held ≡ heldOf d → (r : Each) → r ≡ eachTo (p .expressions .count) (heldAt (p .items) held) (startOf p) (heldCount held) → r ≡ eachOf p d
+pub each-held : (p : Plan) (d : OperatorData) (held : Held) → held ≡ heldOf d → (r : Each) → r ≡ eachTo (p .expressions .count) (heldAt (p .items) held)
+    (startOf p) (heldCount held) → r ≡ eachOf p d
 each-held p d held eh r er = er ∙ ap (λ (h : Held). eachTo (p .expressions .count) (heldAt (p .items) h) (startOf p) (heldCount h)) eh
 
 and-none : (a : Bool) → a && false ≡ false

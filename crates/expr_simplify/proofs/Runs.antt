@@ -14,14 +14,17 @@ use Rattle.plan.specs.declared.Expr.{Expr}
 use Rattle.plan_data.specs.Nodes.{runOf, recordOfExpr}
 use Rattle.plan_data.specs.declared.ExprData.the-variants.{Nary}
 use Rattle.simplify_spec.specs.Shapes.{isLiteral, naryOpFor}
-use Rattle.simplify_spec.specs.OneExpression.{shapeIn, kept, failed, addRecord, addNary, notOf, compareOf, enterOf, Operands, noOperands, joinedBy, joined, operandsFrom, itemSet, itemsPut, counted, withItems, roomFor, rebuilt, naryOf, stepBy, simplifyAt, withNode}
+use Rattle.simplify_spec.specs.OneExpression.{shapeIn, kept, failed, addRecord, addNary, notOf, compareOf, enterOf, Operands, noOperands, joinedBy}
+use Rattle.simplify_spec.specs.OneExpression.{joined, operandsFrom, itemSet, itemsPut, counted, withItems, roomFor, rebuilt, naryOf, stepBy}
+use Rattle.simplify_spec.specs.OneExpression.{simplifyAt, withNode}
 use Rattle.simplify_spec.specs.declared.Tables.{Tables}
 use Rattle.simplify_spec.specs.declared.Simplified.{Simplified}
 use Rattle.simplify_spec.specs.declared.Shape.{Shape}
 use Rattle.simplify_spec.specs.declared.Shape.the-variants.{Boolean, Not, Compare, And, Or, Other}
 use Rattle.simplify_spec.proofs.StepLaws.{simplify-at}
 use Rattle.expr_simplify.specs.declared.Tally.{Tally}
-use Rattle.expr_simplify.specs.Passage.{Out, plainOut, noTally, nextTally, lastOf, tallied, reserved, rebuiltOut, bottomOf, backItems, withPut, written, placed}
+use Rattle.expr_simplify.specs.Passage.{Out, plainOut, noTally, nextTally, lastOf, tallied, reserved, rebuiltOut, bottomOf, backItems, withPut}
+use Rattle.expr_simplify.specs.Passage.{written, placed}
 
 or-assoc : (a b c : Bool) → (a || b) || c ≡ a || (b || c)
 or-assoc true b c = refl
@@ -39,7 +42,8 @@ written-none : (o : Out) (k : ℕ) → written o k [] ≡ o
 unfolding itemsPut
 written-none o k = ap (withPut o) (same-either (o .list) (o .res .st .items))
 
-tally-one : (t : Tally) (e v : ℕ) (neutral deciding : Bool) (q : Operands) → tallied (nextTally t e v neutral deciding) q ≡ tallied t (joinedBy neutral deciding e v q)
+tally-one : (t : Tally) (e v : ℕ) (neutral deciding : Bool) (q : Operands) → tallied (nextTally t e v neutral deciding) q ≡ tallied t
+    (joinedBy neutral deciding e v q)
 unfolding lastOf
 tally-one t e v true deciding q =
     λ i. record {
@@ -76,7 +80,8 @@ back-keep o k v l = ap (withPut o) (go (o .list))
     e = omega arith
 
     go : (t : Bool)
-        → cond (t && true) (itemSet (cond t (itemsPut (o .res .st .items) (o .base + (k + 1)) l) (o .res .st .items)) (o .base + k) v) (cond t (itemsPut (o .res .st .items) (o .base + (k + 1)) l) (o .res .st .items))
+        → cond (t && true) (itemSet (cond t (itemsPut (o .res .st .items) (o .base + (k + 1)) l) (o .res .st .items)) (o .base + k) v)
+        (cond t (itemsPut (o .res .st .items) (o .base + (k + 1)) l) (o .res .st .items))
         ≡ cond t (itemsPut (o .res .st .items) (o .base + k) (v ∷ l)) (o .res .st .items)
     go true = ap (λ (j : ℕ). itemSet (itemsPut (o .res .st .items) j l) (o .base + k) v) e
     go false = refl
@@ -106,7 +111,8 @@ module _ (all : Bool) (h : ℕ) (ok : Bool) (st : Tables) (p m : ℕ) (t : Tally
 
   run-suc : (m ≡ 0 → ⊥) → operandsFrom simplifyAt all h ok st p m
       ≡ joined all (getD (st .items .a) p 0) (enterOf simplifyAt h ok st (getD (st .items .a) p 0))
-      (operandsFrom simplifyAt all h (enterOf simplifyAt h ok st (getD (st .items .a) p 0) .ok) (enterOf simplifyAt h ok st (getD (st .items .a) p 0) .st) (p + 1) (m - 1))
+      (operandsFrom simplifyAt all h (enterOf simplifyAt h ok st (getD (st .items .a) p 0) .ok) (enterOf simplifyAt h ok st (getD (st .items .a) p 0) .st)
+      (p + 1) (m - 1))
   unfolding operandsFrom
   run-suc ne =
       let e : m ≡ suc (m - 1) = omega arith in
@@ -157,14 +163,33 @@ module _ (all : Bool) (h : ℕ) (st : Tables) where
           ∙ count (st .items .count) (st .items .count + length (x ∷ y ∷ l)) (st .items) (x ∷ y ∷ l)
 
       two : (t : Bool)
-          → written (record { res = cond t (kept (withNode (listed (st .items) (st .items .count + length (x ∷ y ∷ l))) (recordOfExpr (Nary (naryOpFor all) (runOf (st .items .count) (length (x ∷ y ∷ l))))) (st .items .count)) (st .exprs .count)) (failed (listed (st .items) (st .items .count + length (x ∷ y ∷ l)))); base = st .items .count; list = true }) 0 (x ∷ y ∷ l) .res
-          ≡ cond t (kept (withNode (listed (itemsPut (st .items) (st .items .count) (x ∷ y ∷ l)) (st .items .count + length (x ∷ y ∷ l))) (recordOfExpr (Nary (naryOpFor all) (runOf (st .items .count) (length (x ∷ y ∷ l))))) (st .items .count)) (st .exprs .count)) (failed (listed (itemsPut (st .items) (st .items .count) (x ∷ y ∷ l)) (st .items .count + length (x ∷ y ∷ l))))
-      two true = ap (λ (u : Items). kept (withNode (withItems st u) (recordOfExpr (Nary (naryOpFor all) (runOf (st .items .count) (length (x ∷ y ∷ l))))) (st .items .count)) (st .exprs .count)) items
+          → written
+          (record {
+            res = cond t
+                (kept (withNode (listed (st .items) (st .items .count + length (x ∷ y ∷ l)))
+                (recordOfExpr (Nary (naryOpFor all) (runOf (st .items .count) (length (x ∷ y ∷ l))))) (st .items .count)) (st .exprs .count))
+                (failed (listed (st .items) (st .items .count + length (x ∷ y ∷ l))));
+            base = st .items .count;
+            list = true;
+          }) 0 (x ∷ y ∷ l) .res
+          ≡ cond t (kept (withNode (listed (itemsPut (st .items) (st .items .count) (x ∷ y ∷ l)) (st .items .count + length (x ∷ y ∷ l)))
+          (recordOfExpr (Nary (naryOpFor all) (runOf (st .items .count) (length (x ∷ y ∷ l))))) (st .items .count)) (st .exprs .count))
+          (failed (listed (itemsPut (st .items) (st .items .count) (x ∷ y ∷ l)) (st .items .count + length (x ∷ y ∷ l))))
+      two true = ap
+          (λ (u : Items). kept (withNode (withItems st u) (recordOfExpr (Nary (naryOpFor all) (runOf (st .items .count) (length (x ∷ y ∷ l)))))
+          (st .items .count)) (st .exprs .count)) items
       two false = ap (λ (u : Items). failed (withItems st u)) items
 
       go : (t : Bool)
-          → written (cond t (record { res = addRecord (listed (st .items) (st .items .count + length (x ∷ y ∷ l))) (recordOfExpr (Nary (naryOpFor all) (runOf (st .items .count) (length (x ∷ y ∷ l))))) (st .items .count); base = st .items .count; list = true }) (plainOut (failed st))) 0 (x ∷ y ∷ l) .res
-          ≡ cond t (addRecord (listed (itemsPut (st .items) (st .items .count) (x ∷ y ∷ l)) (st .items .count + length (x ∷ y ∷ l))) (recordOfExpr (Nary (naryOpFor all) (runOf (st .items .count) (length (x ∷ y ∷ l))))) (st .items .count)) (failed st)
+          → written
+          (cond t (record {
+            res = addRecord (listed (st .items) (st .items .count + length (x ∷ y ∷ l)))
+                (recordOfExpr (Nary (naryOpFor all) (runOf (st .items .count) (length (x ∷ y ∷ l))))) (st .items .count);
+            base = st .items .count;
+            list = true;
+          }) (plainOut (failed st))) 0 (x ∷ y ∷ l) .res
+          ≡ cond t (addRecord (listed (itemsPut (st .items) (st .items .count) (x ∷ y ∷ l)) (st .items .count + length (x ∷ y ∷ l)))
+          (recordOfExpr (Nary (naryOpFor all) (runOf (st .items .count) (length (x ∷ y ∷ l))))) (st .items .count)) (failed st)
       go true = two (ltb (st .exprs .count) 1024)
       go false = refl
 
@@ -212,7 +237,8 @@ module _ (h : ℕ) (ok : Bool) (st : Tables) (e : ℕ) where
           → compareOf e op (l .0) (r .0) (x .at) y ≡ enterOf simplifyAt h ok st e
       enter-compare op l r ev x y ex ey =
           ap (compareOf e op (l .0) (r .0) (x .at)) ey
-          ∙ ap (λ (z : Simplified). compareOf e op (l .0) (r .0) (z .at) (enterOf simplifyAt e (z .ok) (z .st) (r .0))) (ex ∙ ap (λ (t : Bool). enterOf simplifyAt e t st (l .0)) o)
+          ∙ ap (λ (z : Simplified). compareOf e op (l .0) (r .0) (z .at) (enterOf simplifyAt e (z .ok) (z .st) (r .0)))
+          (ex ∙ ap (λ (t : Bool). enterOf simplifyAt e t st (l .0)) o)
           ∙ sym (is-step (Compare op l r) ev)
 
       nary-way : (all : Bool) (start count : ℕ) (y : Out) → y ≡ placed all e noTally (operandsFrom simplifyAt all e ok st start count)
@@ -230,7 +256,8 @@ module _ (h : ℕ) (ok : Bool) (st : Tables) (e : ℕ) where
           → y .res ≡ enterOf simplifyAt h ok st e
       enter-or start count ev y ey = nary-way false start count y ey ∙ sym (is-step (Or start count) ev)
 
-pub next-small : (t2 t : Tally) (e v : ℕ) (neutral deciding : Bool) (m : ℕ) → t2 ≡ nextTally t e v neutral deciding → (m ≡ 0 → ⊥) → t .kept + m < 65536 → t2 .kept + (m - 1) < 65536
+pub next-small : (t2 t : Tally) (e v : ℕ) (neutral deciding : Bool) (m : ℕ) → t2 ≡ nextTally t e v neutral deciding → (m ≡ 0 → ⊥) → t .kept + m < 65536
+    → t2 .kept + (m - 1) < 65536
 next-small t2 t e v true deciding m et ne lt =
     let k : t2 .kept ≡ t .kept = ap (λ (x : Tally). x .kept) et in
     omega arith

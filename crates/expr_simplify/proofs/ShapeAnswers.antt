@@ -23,7 +23,8 @@ use Rattle.plan_data.specs.declared.JoinType.{JoinType}
 use Rattle.plan.specs.declared.Operator.{Operator}
 use Rattle.scalar.specs.declared.ScalarValue.{ScalarValue}
 use Rattle.simplify_spec.specs.Shapes.{literalShape, unaryShape, naryShape, shapeOf, naryOpFor}
-use Rattle.simplify_spec.specs.OneExpression.{handle, shapeIn, kept, failed, took, addRecord, addNode, addLiteral, notOther, notStep, notOf, compareOf, itemSet, counted, withItems}
+use Rattle.simplify_spec.specs.OneExpression.{handle, shapeIn, kept, failed, took, addRecord, addNode, addLiteral, notOther, notStep, notOf}
+use Rattle.simplify_spec.specs.OneExpression.{compareOf, itemSet, counted, withItems}
 use Rattle.simplify_spec.specs.OneOperator.{heldOf, rebuiltOf}
 use Rattle.simplify_spec.specs.declared.Tables.{Tables}
 use Rattle.simplify_spec.specs.declared.Simplified.{Simplified}
@@ -160,7 +161,8 @@ module _ (kind code a b start bits ia ib : List ℕ) where
         → resultOf kind′ code′ a′ b′ start′ bits′ ia ib (record { at = s .exprs; exprs = s .exprs + 1; used = s .used; changed = true; ok = true })
         ≡ addRecord (tablesOf kind code a b start bits ia ib s) x first
     add-on lt kind′ code′ a′ b′ start′ bits′ ek ec ea eb es ei =
-        (λ j. resultOf (ek j) (ec j) (ea j) (eb j) (es j) (ei j) ia ib (record { at = s .exprs; exprs = s .exprs + 1; used = s .used; changed = true; ok = true }))
+        (λ j. resultOf (ek j) (ec j) (ea j) (eb j) (es j) (ei j) ia ib
+        (record { at = s .exprs; exprs = s .exprs + 1; used = s .used; changed = true; ok = true }))
         ∙ rw (lt-ltb (s .exprs) 1024 lt)
 
 module _ (st : Tables) where
@@ -193,7 +195,8 @@ module _ (h : ℕ) (op : BinaryOp) (a b i : ℕ) (r : Simplified) where
   unfolding compareOf
   compare-stays o e = rw (o, e)
 
-  pub compare-new : r .ok ≡ true → (eqb i a && eqb (r .at) b) ≡ false → (y : Simplified) → y ≡ addNode (r .st) (Binary op (handle i) (handle (r .at))) → y ≡ compareOf h op a b i r
+  pub compare-new : r .ok ≡ true → (eqb i a && eqb (r .at) b) ≡ false → (y : Simplified) → y ≡ addNode (r .st) (Binary op (handle i) (handle (r .at))) → y
+      ≡ compareOf h op a b i r
   unfolding compareOf
   compare-new o e y ey = rw (o, e) ey
 

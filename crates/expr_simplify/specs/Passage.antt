@@ -76,7 +76,8 @@ unfoldable pub reserved : Bool → Tables → ℕ → Out
 reserved all st k =
     cond (roomFor st k)
     (record {
-      res = addRecord (withItems st (counted (st .items) (st .items .count + k))) (recordOfExpr (Nary (naryOpFor all) (runOf (st .items .count) k))) (st .items .count);
+      res = addRecord (withItems st (counted (st .items) (st .items .count + k))) (recordOfExpr (Nary (naryOpFor all) (runOf (st .items .count) k)))
+          (st .items .count);
       base = st .items .count;
       list = true;
     })

@@ -31,9 +31,12 @@ ghost use Rattle.plan.specs.Records.{operatorRecordOf};
 ghost use Rattle.plan_data.specs.Codes.{unaryOpOf, naryOpOf};
 ghost use Rattle.plan_data.specs.Nodes.{exprData, nodeOf, operatorData, recordOfOperator};
 ghost use Rattle.simplify_spec.specs.Shapes.{sameBool, isLiteral, naryOpFor, unaryShape, naryShape, shapeOf};
-ghost use Rattle.simplify_spec.specs.OneExpression.{kept, failed, took, addRecord, addNode, addLiteral, notStep, notOther, notOf, compareOf, enterOf, operandsFrom, itemSet, simplifyAt};
-ghost use Rattle.simplify_spec.specs.OneOperator.{operatorAt, heldOf, heldCount, heldAt, eachWith, eachTo, itemCount, itemFirst, itemSecond, withList, rebuiltOf, answered, addOperator, inputOr, eachOf, rewriteOf, simplifyOf};
-ghost use Rattle.expr_simplify.specs.Passage.{itemsOf, tablesOf, resultOf, outOf, plainOut, noTally, nextTally, reserved, rebuiltOut, bottomOf, backItems, placed};
+ghost use Rattle.simplify_spec.specs.OneExpression.{kept, failed, took, addRecord, addNode, addLiteral, notStep, notOther, notOf, compareOf, enterOf};
+ghost use Rattle.simplify_spec.specs.OneExpression.{operandsFrom, itemSet, simplifyAt};
+ghost use Rattle.simplify_spec.specs.OneOperator.{operatorAt, heldOf, heldCount, heldAt, eachWith, eachTo, itemCount, itemFirst, itemSecond};
+ghost use Rattle.simplify_spec.specs.OneOperator.{withList, rebuiltOf, answered, addOperator, inputOr, eachOf, rewriteOf, simplifyOf};
+ghost use Rattle.expr_simplify.specs.Passage.{itemsOf, tablesOf, resultOf, outOf, plainOut, noTally, nextTally, reserved, rebuiltOut, bottomOf};
+ghost use Rattle.expr_simplify.specs.Passage.{backItems, placed};
 
 // How far it came: a handle, the counts of expressions and items, the Rust's `changed`, and whether there was room.
 pub struct Done {
@@ -136,7 +139,8 @@ fn shape_at<'a>(
     bits: &'a [u64],
     i: usize,
 ) -> Shape
-    ensures { λ r. ⌜ r ≡ shapeOf (nodeOf (now (kind .entry)) (now (code .entry)) (now (a .entry)) (now (b .entry)) (now (bits .entry)) (now (start .entry)) i) ⌝ }
+    ensures { λ r. ⌜ r ≡ shapeOf (nodeOf (now (kind .entry)) (now (code .entry)) (now (a .entry)) (now (b .entry)) (now (bits .entry)) (now (start .entry)) i)
+        ⌝ }
 {
     let x = plan::expr_record(kind, code, a, b, bits, i);
     let st = lists::at16(start, i);
@@ -218,7 +222,10 @@ fn add_record(
     x: Record,
     first: u16,
 ) -> Done
-    ensures { λ r. ⌜ ((ia ib : List ℕ) → resultOf (now (kind .exit)) (now (code .exit)) (now (a .exit)) (now (b .exit)) (now (start .exit)) (now (bits .exit)) ia ib r ≡ addRecord (tablesOf (now (kind .entry)) (now (code .entry)) (now (a .entry)) (now (b .entry)) (now (start .entry)) (now (bits .entry)) ia ib s) x first) ⌝ }
+    ensures { λ r.
+        ⌜ ((ia ib : List ℕ) → resultOf (now (kind .exit)) (now (code .exit)) (now (a .exit)) (now (b .exit)) (now (start .exit)) (now (bits .exit)) ia ib r
+        ≡ addRecord (tablesOf (now (kind .entry)) (now (code .entry)) (now (a .entry)) (now (b .entry)) (now (start .entry)) (now (bits .entry)) ia ib s) x
+        first) ⌝ }
 {
     let n = s.exprs;
     if 1024 <= n {
@@ -250,7 +257,9 @@ fn add_node(
     s: Done,
     d: ExprData,
 ) -> Done
-    ensures { λ r. ⌜ ((ia ib : List ℕ) → resultOf (now (kind .exit)) (now (code .exit)) (now (a .exit)) (now (b .exit)) (now (start .exit)) (now (bits .exit)) ia ib r ≡ addNode (tablesOf (now (kind .entry)) (now (code .entry)) (now (a .entry)) (now (b .entry)) (now (start .entry)) (now (bits .entry)) ia ib s) d) ⌝ }
+    ensures { λ r.
+        ⌜ ((ia ib : List ℕ) → resultOf (now (kind .exit)) (now (code .exit)) (now (a .exit)) (now (b .exit)) (now (start .exit)) (now (bits .exit)) ia ib r
+        ≡ addNode (tablesOf (now (kind .entry)) (now (code .entry)) (now (a .entry)) (now (b .entry)) (now (start .entry)) (now (bits .entry)) ia ib s) d) ⌝ }
 {
     let x = plan_data::expr_record_of(d);
     add_record(kind, code, a, b, start, bits, s, x, s.used)
@@ -266,7 +275,10 @@ fn add_literal(
     s: Done,
     v: bool,
 ) -> Done
-    ensures { λ r. ⌜ ((ia ib : List ℕ) → resultOf (now (kind .exit)) (now (code .exit)) (now (a .exit)) (now (b .exit)) (now (start .exit)) (now (bits .exit)) ia ib r ≡ addLiteral (tablesOf (now (kind .entry)) (now (code .entry)) (now (a .entry)) (now (b .entry)) (now (start .entry)) (now (bits .entry)) ia ib s) v) ⌝ }
+    ensures { λ r.
+        ⌜ ((ia ib : List ℕ) → resultOf (now (kind .exit)) (now (code .exit)) (now (a .exit)) (now (b .exit)) (now (start .exit)) (now (bits .exit)) ia ib r
+        ≡ addLiteral (tablesOf (now (kind .entry)) (now (code .entry)) (now (a .entry)) (now (b .entry)) (now (start .entry)) (now (bits .entry)) ia ib s) v)
+        ⌝ }
 {
     let d = ExprData::Literal(ScalarValue::Boolean(v));
     add_node(kind, code, a, b, start, bits, s, d)
@@ -284,7 +296,10 @@ fn not_other(
     e: u16,
     h: u16,
 ) -> Done
-    ensures { λ q. ⌜ ((ia ib : List ℕ) → resultOf (now (kind .exit)) (now (code .exit)) (now (a .exit)) (now (b .exit)) (now (start .exit)) (now (bits .exit)) ia ib q ≡ notOther (tablesOf (now (kind .entry)) (now (code .entry)) (now (a .entry)) (now (b .entry)) (now (start .entry)) (now (bits .entry)) ia ib r) (r .at) e h) ⌝ }
+    ensures { λ q.
+        ⌜ ((ia ib : List ℕ) → resultOf (now (kind .exit)) (now (code .exit)) (now (a .exit)) (now (b .exit)) (now (start .exit)) (now (bits .exit)) ia ib q
+        ≡ notOther (tablesOf (now (kind .entry)) (now (code .entry)) (now (a .entry)) (now (b .entry)) (now (start .entry)) (now (bits .entry)) ia ib r)
+        (r .at) e h) ⌝ }
 {
     let i = r.at;
     if i == e {
@@ -309,7 +324,9 @@ fn not_step(
     e: u16,
     h: u16,
 ) -> Done
-    ensures { λ q. ⌜ ((ia ib : List ℕ) → resultOf (now (kind .exit)) (now (code .exit)) (now (a .exit)) (now (b .exit)) (now (start .exit)) (now (bits .exit)) ia ib q ≡ notOf h e (resultOf (now (kind .entry)) (now (code .entry)) (now (a .entry)) (now (b .entry)) (now (start .entry)) (now (bits .entry)) ia ib r)) ⌝ }
+    ensures { λ q.
+        ⌜ ((ia ib : List ℕ) → resultOf (now (kind .exit)) (now (code .exit)) (now (a .exit)) (now (b .exit)) (now (start .exit)) (now (bits .exit)) ia ib q
+        ≡ notOf h e (resultOf (now (kind .entry)) (now (code .entry)) (now (a .entry)) (now (b .entry)) (now (start .entry)) (now (bits .entry)) ia ib r)) ⌝ }
 {
     if !r.ok {
         return refused(r);
@@ -345,7 +362,10 @@ fn compare_step(
     f: u16,
     h: u16,
 ) -> Done
-    ensures { λ q. ⌜ ((ia ib : List ℕ) → resultOf (now (kind .exit)) (now (code .exit)) (now (a .exit)) (now (b .exit)) (now (start .exit)) (now (bits .exit)) ia ib q ≡ compareOf h op e f i (resultOf (now (kind .entry)) (now (code .entry)) (now (a .entry)) (now (b .entry)) (now (start .entry)) (now (bits .entry)) ia ib r)) ⌝ }
+    ensures { λ q.
+        ⌜ ((ia ib : List ℕ) → resultOf (now (kind .exit)) (now (code .exit)) (now (a .exit)) (now (b .exit)) (now (start .exit)) (now (bits .exit)) ia ib q
+        ≡ compareOf h op e f i (resultOf (now (kind .entry)) (now (code .entry)) (now (a .entry)) (now (b .entry)) (now (start .entry)) (now (bits .entry)) ia
+        ib r)) ⌝ }
 {
     if !r.ok {
         return refused(r);
@@ -405,7 +425,10 @@ fn reserve(
     all: bool,
     k: u16,
 ) -> Ran
-    ensures { λ r. ⌜ ((ia ib : List ℕ) → outOf (now (kind .exit)) (now (code .exit)) (now (a .exit)) (now (b .exit)) (now (start .exit)) (now (bits .exit)) ia ib r ≡ reserved all (tablesOf (now (kind .entry)) (now (code .entry)) (now (a .entry)) (now (b .entry)) (now (start .entry)) (now (bits .entry)) ia ib s) k) ⌝ }
+    ensures { λ r.
+        ⌜ ((ia ib : List ℕ) → outOf (now (kind .exit)) (now (code .exit)) (now (a .exit)) (now (b .exit)) (now (start .exit)) (now (bits .exit)) ia ib r
+        ≡ reserved all (tablesOf (now (kind .entry)) (now (code .entry)) (now (a .entry)) (now (b .entry)) (now (start .entry)) (now (bits .entry)) ia ib s)
+        k) ⌝ }
 {
     let u = s.used as usize;
     let n = k as usize;
@@ -458,7 +481,10 @@ fn rebuild(
     all: bool,
     t: Tally,
 ) -> Ran
-    ensures { λ r. ⌜ ((ia ib : List ℕ) → outOf (now (kind .exit)) (now (code .exit)) (now (a .exit)) (now (b .exit)) (now (start .exit)) (now (bits .exit)) ia ib r ≡ rebuiltOut all (tablesOf (now (kind .entry)) (now (code .entry)) (now (a .entry)) (now (b .entry)) (now (start .entry)) (now (bits .entry)) ia ib s) t) ⌝ }
+    ensures { λ r.
+        ⌜ ((ia ib : List ℕ) → outOf (now (kind .exit)) (now (code .exit)) (now (a .exit)) (now (b .exit)) (now (start .exit)) (now (bits .exit)) ia ib r
+        ≡ rebuiltOut all (tablesOf (now (kind .entry)) (now (code .entry)) (now (a .entry)) (now (b .entry)) (now (start .entry)) (now (bits .entry)) ia ib s)
+        t) ⌝ }
 {
     let k = t.kept;
     if k == 0 {
@@ -483,7 +509,10 @@ fn bottom(
     all: bool,
     t: Tally,
 ) -> Ran
-    ensures { λ r. ⌜ ((ia ib : List ℕ) → outOf (now (kind .exit)) (now (code .exit)) (now (a .exit)) (now (b .exit)) (now (start .exit)) (now (bits .exit)) ia ib r ≡ bottomOf all h (s .ok) (tablesOf (now (kind .entry)) (now (code .entry)) (now (a .entry)) (now (b .entry)) (now (start .entry)) (now (bits .entry)) ia ib s) t) ⌝ }
+    ensures { λ r.
+        ⌜ ((ia ib : List ℕ) → outOf (now (kind .exit)) (now (code .exit)) (now (a .exit)) (now (b .exit)) (now (start .exit)) (now (bits .exit)) ia ib r
+        ≡ bottomOf all h (s .ok) (tablesOf (now (kind .entry)) (now (code .entry)) (now (a .entry)) (now (b .entry)) (now (start .entry)) (now (bits .entry))
+        ia ib s) t) ⌝ }
 {
     if !s.ok {
         return plain(refused(s));
@@ -507,7 +536,9 @@ fn put_back(
     k: u16,
     v: u16,
 )
-    ensures { λ _. ⌜ ((used : ℕ) → itemsOf (now (ia .exit)) (now (ib .exit)) used ≡ backItems list neutral (itemsOf (now (ia .entry)) (now (ib .entry)) used) (base + k) v) ⌝ }
+    ensures { λ _.
+        ⌜ ((used : ℕ) → itemsOf (now (ia .exit)) (now (ib .exit)) used ≡ backItems list neutral (itemsOf (now (ia .entry)) (now (ib .entry)) used) (base + k)
+        v) ⌝ }
 {
     let store = list & !neutral;
     if store {
@@ -531,7 +562,9 @@ fn simplify_expr(
     e: u16,
     h: u16,
 ) -> Done
-    ensures { λ r. ⌜ resultOf (now (kind .exit)) (now (code .exit)) (now (a .exit)) (now (b .exit)) (now (start .exit)) (now (bits .exit)) (now (ia .exit)) (now (ib .exit)) r ≡ enterOf simplifyAt h (s .ok) (tablesOf (now (kind .entry)) (now (code .entry)) (now (a .entry)) (now (b .entry)) (now (start .entry)) (now (bits .entry)) (now (ia .entry)) (now (ib .entry)) s) e ⌝ }
+    ensures { λ r. ⌜ resultOf (now (kind .exit)) (now (code .exit)) (now (a .exit)) (now (b .exit)) (now (start .exit)) (now (bits .exit)) (now (ia .exit))
+        (now (ib .exit)) r ≡ enterOf simplifyAt h (s .ok) (tablesOf (now (kind .entry)) (now (code .entry)) (now (a .entry)) (now (b .entry))
+        (now (start .entry)) (now (bits .entry)) (now (ia .entry)) (now (ib .entry)) s) e ⌝ }
 {
     if !s.ok {
         return refused(s);
@@ -643,7 +676,10 @@ fn test_simplify(
     t: Tally,
 ) -> Ran
     requires { ⌜ (p + m < 1000000) × (t .kept + m < 65536) ⌝ }
-    ensures { λ r. ⌜ outOf (now (kind .exit)) (now (code .exit)) (now (a .exit)) (now (b .exit)) (now (start .exit)) (now (bits .exit)) (now (ia .exit)) (now (ib .exit)) r ≡ placed all h t (operandsFrom simplifyAt all h (s .ok) (tablesOf (now (kind .entry)) (now (code .entry)) (now (a .entry)) (now (b .entry)) (now (start .entry)) (now (bits .entry)) (now (ia .entry)) (now (ib .entry)) s) p m) ⌝ }
+    ensures { λ r. ⌜ outOf (now (kind .exit)) (now (code .exit)) (now (a .exit)) (now (b .exit)) (now (start .exit)) (now (bits .exit)) (now (ia .exit))
+        (now (ib .exit)) r ≡ placed all h t
+        (operandsFrom simplifyAt all h (s .ok) (tablesOf (now (kind .entry)) (now (code .entry)) (now (a .entry)) (now (b .entry)) (now (start .entry))
+        (now (bits .entry)) (now (ia .entry)) (now (ib .entry)) s) p m) ⌝ }
 {
     if m == 0 {
         return bottom(kind, code, a, b, start, bits, s, h, all, t);

@@ -22,7 +22,8 @@ use Rattle.apply_spec.specs.declared.LogicalFacts.{LogicalFacts}
 use Rattle.apply_spec.proofs.LogicalFacts as L
 use Rattle.listing.specs.Typed.{TypedFacts}
 
-holder-typed : (b : Bool) (v : ScalarValue) (vs : List Val) → shadow (H.the-field .row .own (H.the-field .into (record { present = b; value = v })) vs) → Typed v
+holder-typed : (b : Bool) (v : ScalarValue) (vs : List Val) → shadow (H.the-field .row .own (H.the-field .into (record { present = b; value = v })) vs)
+    → Typed v
 holder-typed b (S.Null k) vs p = tt
 holder-typed b (S.Boolean x) vs p = tt
 holder-typed b (S.Int32 n) vs p = search needs

@@ -23,8 +23,10 @@ use Rattle.apply_spec.specs.Facts.{lineageOk, definitionOk, residualOk, factsOk
 use Rattle.apply_spec.specs.declared.LogicalFacts.{LogicalFacts}
 use Rattle.writing.specs.Text.{lines}
 use Rattle.listing_lines.specs.Lines.{headerLine, columnLine, defineLine, memberText, nonnullLine, literalLine, rangeLine, residualLine}
-use Rattle.listing_lines.proofs.Lengths.{header-length, column-length, define-length, member-length, nonnull-length, literal-length, range-length, residual-length}
-use Rattle.listing.specs.Listing.{columnLines, defineLines, classWord, membersIn, membersText, classLine, classLines, nonnullLines, literalLines, rangeLines, residualLines, setText, listingText}
+use Rattle.listing_lines.proofs.Lengths.{header-length, column-length, define-length, member-length, nonnull-length, literal-length, range-length}
+use Rattle.listing_lines.proofs.Lengths.{residual-length}
+use Rattle.listing.specs.Listing.{columnLines, defineLines, classWord, membersIn, membersText, classLine, classLines, nonnullLines}
+use Rattle.listing.specs.Listing.{literalLines, rangeLines, residualLines, setText, listingText}
 use Rattle.listing.specs.Typed.{TypedFacts}
 
 -- ---- lines are as long as their sum, and no longer than the longest of them each
@@ -88,7 +90,8 @@ all-members root m zero = omega (arith, sum-none (λ (r : ℕ). countFrom (λ (i
 all-members root m (suc n) =
     omega (
       arith,
-      sum-both (λ (r : ℕ). countFrom (λ (i : ℕ). eqb (root i) r) 0 n) (λ (r : ℕ). cond (eqb (root (0 + n)) r) 1 0) (λ (r : ℕ). countFrom (λ (i : ℕ). eqb (root i) r) 0 (suc n)) m (λ r. count-last (λ (i : ℕ). eqb (root i) r) n 0),
+      sum-both (λ (r : ℕ). countFrom (λ (i : ℕ). eqb (root i) r) 0 n) (λ (r : ℕ). cond (eqb (root (0 + n)) r) 1 0)
+          (λ (r : ℕ). countFrom (λ (i : ℕ). eqb (root i) r) 0 (suc n)) m (λ r. count-last (λ (i : ℕ). eqb (root i) r) n 0),
       one-root (root (0 + n)) m,
       at-most-one (ltb (root (0 + n)) m),
       all-members root m n,
@@ -168,12 +171,19 @@ module _ (d k e : ℕ) (h : ℕ) (ids : Identities) (f : LogicalFacts)
   whole-length =
       omega (
         arith,
-        length-append (headerLine h (f .constraints .contradictory)) (columnLines ids (f .lineage) ++ (defineLines (f .definitions) ++ setText ids (f .constraints))),
+        length-append (headerLine h (f .constraints .contradictory))
+            (columnLines ids (f .lineage) ++ (defineLines (f .definitions) ++ setText ids (f .constraints))),
         length-append (columnLines ids (f .lineage)) (defineLines (f .definitions) ++ setText ids (f .constraints)),
         length-append (defineLines (f .definitions)) (setText ids (f .constraints)),
-        length-append (classLines ids (canonicalAt (f .constraints))) (nonnullLines ids (nonNulls (f .constraints)) ++ (literalLines ids (literals (f .constraints)) ++ (rangeLines ids (f .constraints .ranges) ++ residualLines (handles (f .constraints)) (f .constraints .residuals)))),
-        length-append (nonnullLines ids (nonNulls (f .constraints))) (literalLines ids (literals (f .constraints)) ++ (rangeLines ids (f .constraints .ranges) ++ residualLines (handles (f .constraints)) (f .constraints .residuals))),
-        length-append (literalLines ids (literals (f .constraints))) (rangeLines ids (f .constraints .ranges) ++ residualLines (handles (f .constraints)) (f .constraints .residuals)),
+        length-append (classLines ids (canonicalAt (f .constraints)))
+            (nonnullLines ids (nonNulls (f .constraints))
+            ++ (literalLines ids (literals (f .constraints)) ++ (rangeLines ids (f .constraints .ranges) ++ residualLines (handles (f .constraints))
+            (f .constraints .residuals)))),
+        length-append (nonnullLines ids (nonNulls (f .constraints)))
+            (literalLines ids (literals (f .constraints)) ++ (rangeLines ids (f .constraints .ranges) ++ residualLines (handles (f .constraints))
+            (f .constraints .residuals))),
+        length-append (literalLines ids (literals (f .constraints))) (rangeLines ids (f .constraints .ranges) ++ residualLines (handles (f .constraints))
+            (f .constraints .residuals)),
         length-append (rangeLines ids (f .constraints .ranges)) (residualLines (handles (f .constraints)) (f .constraints .residuals)),
         header-length d h (f .constraints .contradictory) operator,
         columns-length,
@@ -190,7 +200,8 @@ pub listing-length : (h : ℕ) (ids : Identities) (f : LogicalFacts) → h < 2 ^
 listing-length h ids f l t =
     omega (
       arith,
-      whole-length 19 1 4 h ids f (omega arith) (λ c m. omega (arith, t .lineage c)) (λ c m. omega (arith, t .definitions c)) (λ i m. omega (arith, t .handles i)) (t .literals),
+      whole-length 19 1 4 h ids f (omega arith) (λ c m. omega (arith, t .lineage c)) (λ c m. omega (arith, t .definitions c))
+          (λ i m. omega (arith, t .handles i)) (t .literals),
     )
 
 -- ---- the largest listing of facts over a plan
@@ -236,8 +247,20 @@ module _ (p : Plan) (f : LogicalFacts) (ok : planOk p ≡ true) (facts : factsOk
       omega (
         arith,
         whole-length 2 0 3 h ids f (omega arith)
-            (λ c m. omega (arith, lineage-small (getD (f .lineage) c 0) c (p .columns .count) (w .columns) (table (lineageOk (f .lineage) (p .columns .count)) 64 lineages c m)))
-            (λ c m. omega (arith, definition-small (getD (f .definitions) c 0) c (p .columns .count) (p .expressions .count) (w .exprs) (table (definitionOk (f .definitions) (p .columns .count) (p .expressions .count)) 64 definitions c m)))
-            (λ i m. omega (arith, ltb-true (handleAt (f .constraints) i) (p .expressions .count) (table (residualOk (f .constraints) (p .expressions .count)) (f .constraints .residuals) residuals i m)))
+            (λ c m. omega (
+              arith,
+              lineage-small (getD (f .lineage) c 0) c (p .columns .count) (w .columns)
+                  (table (lineageOk (f .lineage) (p .columns .count)) 64 lineages c m),
+            ))
+            (λ c m. omega (
+              arith,
+              definition-small (getD (f .definitions) c 0) c (p .columns .count) (p .expressions .count) (w .exprs)
+                  (table (definitionOk (f .definitions) (p .columns .count) (p .expressions .count)) 64 definitions c m),
+            ))
+            (λ i m. omega (
+              arith,
+              ltb-true (handleAt (f .constraints) i) (p .expressions .count)
+                  (table (residualOk (f .constraints) (p .expressions .count)) (f .constraints .residuals) residuals i m),
+            ))
             typed,
       )

@@ -13,7 +13,8 @@ ghost use Rattle.lists.specs.Ranges.{countFrom};
 ghost use Rattle.value_classes.specs.Parents.{each};
 ghost use Rattle.value_classes.specs.Classes.{canonicalOf};
 ghost use Rattle.writing.specs.Text.{Wrote};
-ghost use Rattle.listing.specs.Listing.{columnLines, defineLines, membersIn, membersText, classLine, classLines, nonnullLines, literalLines, rangeLines, residualLines, setText, listingText, refusedLine};
+ghost use Rattle.listing.specs.Listing.{columnLines, defineLines, membersIn, membersText, classLine, classLines, nonnullLines, literalLines};
+ghost use Rattle.listing.specs.Listing.{rangeLines, residualLines, setText, listingText, refusedLine};
 
 fn column_lines(out: &mut [u8], at: usize, ids: Identities, lineage: [u8; 64]) -> usize
     ensures { λ r. ⌜ Wrote (now (out .entry)) at (now (out .exit)) r (columnLines ids lineage) ⌝ }

@@ -27,7 +27,8 @@ use Rattle.plan_identities.specs.Identities.{valueBy}
 use Rattle.plan_identities.specs.declared.Identities.{Identities}
 use Rattle.writing.specs.Text.{decimalOf, signedOf}
 use Rattle.writing.proofs.Wrotes.{decimal-low, decimal-high}
-use Rattle.listing_lines.specs.Lines.{flagText, nameText, headerLine, columnLine, defineLine, memberText, nonnullLine, kindWord, payloadText, valueText, literalLine, formText, boundText, rangeLine, residualLine}
+use Rattle.listing_lines.specs.Lines.{flagText, nameText, headerLine, columnLine, defineLine, memberText, nonnullLine, kindWord, payloadText}
+use Rattle.listing_lines.specs.Lines.{valueText, literalLine, formText, boundText, rangeLine, residualLine}
 
 -- a number below 10 to the k, k not 0, has at most k digits
 pub decimal-length : (k n : ℕ) → n < 10 ^ suc k → length (decimalOf n) ≤ suc k
@@ -59,7 +60,8 @@ pub name-length : (ids : Identities) (k i : ℕ) → i < 64 + 10 ^ suc (suc k) �
 unfolding nameText valueBy
 name-length ids k i l =
     elim (decLt i 64) [
-      | yes g ↦ rw (lt-ltb i 64 g) (base (firstFrom (λ (c : ℕ). eqb (getD (ids .base) c 0) i) (λ (c : ℕ). c) 0 0 (min (ids .columns) 64)) (first-small _ 64 (min (ids .columns) 64) 0 (omega arith) (omega arith)))
+      | yes g ↦ rw (lt-ltb i 64 g) (base (firstFrom (λ (c : ℕ). eqb (getD (ids .base) c 0) i) (λ (c : ℕ). c) 0 0 (min (ids .columns) 64))
+          (first-small _ 64 (min (ids .columns) 64) 0 (omega arith) (omega arith)))
       | no g ↦ (let h : 64 ≤ i = omega arith in rw (le-ltb i 64 h) (omega (arith, decimal-length (suc k) (i - 64) (omega arith))))
     ]
   where

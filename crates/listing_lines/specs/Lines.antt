@@ -137,7 +137,8 @@ boundText b = cond (b .present) (digits 16 16 (toBits binary64 (b .value)) ++ fo
 -- `range`, identity, lower then upper
 unfoldable pub rangeLine : Identities → ℕ → Entry → List ℕ
 rangeLine ids i e =
-    cond (e .present) (rangeWord ++ (nameText ids i ++ (32 ∷ [] ++ (boundText (e .range .lower) ++ (32 ∷ [] ++ (boundText (e .range .upper) ++ (10 ∷ []))))))) []
+    cond (e .present) (rangeWord ++ (nameText ids i ++ (32 ∷ [] ++ (boundText (e .range .lower) ++ (32 ∷ [] ++ (boundText (e .range .upper) ++ (10 ∷ [])))))))
+    []
 
 -- `residual`, e-handle
 unfoldable pub residualLine : ℕ → List ℕ

@@ -9,7 +9,8 @@ use value_range::Bound;
 ghost use mathlib.Core.Path.{_≡_};
 ghost use Prim.Native.Nat.{ℕ, _-_};
 ghost use Rattle.writing.specs.Text.{Wrote};
-ghost use Rattle.listing_lines.specs.Lines.{flagText, idText, nameText, headerLine, columnLine, defineLine, memberText, nonnullLine, kindWord, valueText, literalLine, formText, boundText, rangeLine, residualLine};
+ghost use Rattle.listing_lines.specs.Lines.{flagText, idText, nameText, headerLine, columnLine, defineLine, memberText, nonnullLine, kindWord};
+ghost use Rattle.listing_lines.specs.Lines.{valueText, literalLine, formText, boundText, rangeLine, residualLine};
 
 // 1 or 0.
 fn flag(out: &mut [u8], at: usize, b: bool) -> usize

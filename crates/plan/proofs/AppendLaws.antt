@@ -68,7 +68,16 @@ column-longer p x =
       exprs = le-refl _;
       operators = le-refl _;
       items = le-refl _;
-      column = λ i h. λ j. record { kind = 0x01; code = kept (p .columns .kind) (p .columns .count) i (x .code) h j; a = kept (p .columns .name) (p .columns .count) i (x .a) h j; b = 0; c = 0; d = 0; bits = 0 };
+      column = λ i h. λ j. record {
+        kind = 0x01;
+        code = kept (p .columns .kind) (p .columns .count) i (x .code) h j;
+        a = kept (p .columns .name)
+            (p .columns .count) i (x .a) h j;
+        b = 0;
+        c = 0;
+        d = 0;
+        bits = 0;
+      };
       expr = λ i h. refl;
       expr-start = λ i h. refl;
       operator = λ i h. refl;
@@ -115,7 +124,17 @@ expr-longer p x st =
       operators = le-refl _;
       items = le-refl _;
       column = λ i h. refl;
-      expr = λ i h. λ j. record { kind = kept (p .expressions .kind) (p .expressions .count) i (x .kind) h j; code = kept (p .expressions .code) (p .expressions .count) i (x .code) h j; a = kept (p .expressions .a) (p .expressions .count) i (x .a) h j; b = kept (p .expressions .b) (p .expressions .count) i (x .b) h j; c = 0; d = 0; bits = kept (p .expressions .bits) (p .expressions .count) i (x .bits) h j };
+      expr = λ i h. λ j. record {
+        kind = kept (p .expressions .kind) (p .expressions .count) i (x .kind) h j;
+        code = kept (p .expressions .code)
+            (p .expressions .count) i (x .code) h j;
+        a = kept (p .expressions .a) (p .expressions .count) i (x .a) h j;
+        b = kept (p .expressions .b)
+            (p .expressions .count) i (x .b) h j;
+        c = 0;
+        d = 0;
+        bits = kept (p .expressions .bits) (p .expressions .count) i (x .bits) h j;
+      };
       expr-start = λ i h. kept (p .expressions .start) (p .expressions .count) i st h;
       operator = λ i h. refl;
       operator-start = λ i h. refl;
@@ -163,7 +182,18 @@ operator-longer p x st =
       column = λ i h. refl;
       expr = λ i h. refl;
       expr-start = λ i h. refl;
-      operator = λ i h. λ j. record { kind = kept (p .operators .kind) (p .operators .count) i (x .kind) h j; code = kept (p .operators .code) (p .operators .count) i (x .code) h j; a = kept (p .operators .a) (p .operators .count) i (x .a) h j; b = kept (p .operators .b) (p .operators .count) i (x .b) h j; c = kept (p .operators .c) (p .operators .count) i (x .c) h j; d = kept (p .operators .d) (p .operators .count) i (x .d) h j; bits = 0 };
+      operator = λ i h. λ j. record {
+        kind = kept (p .operators .kind) (p .operators .count) i (x .kind) h j;
+        code = kept (p .operators .code)
+            (p .operators .count) i (x .code) h j;
+        a = kept (p .operators .a) (p .operators .count) i (x .a) h j;
+        b = kept (p .operators .b)
+            (p .operators .count) i (x .b) h j;
+        c = kept (p .operators .c) (p .operators .count) i (x .c) h j;
+        d = kept (p .operators .d) (p .operators .count)
+            i (x .d) h j;
+        bits = 0;
+      };
       operator-start = λ i h. kept (p .operators .start) (p .operators .count) i st h;
       item = λ i h. refl;
     }
@@ -211,7 +241,16 @@ item-longer p x =
       expr-start = λ i h. refl;
       operator = λ i h. refl;
       operator-start = λ i h. refl;
-      item = λ i h. λ j. record { kind = 0; code = 0; a = kept (p .items .a) (p .items .count) i (x .a) h j; b = kept (p .items .b) (p .items .count) i (x .b) h j; c = 0; d = 0; bits = 0 };
+      item = λ i h. λ j. record {
+        kind = 0;
+        code = 0;
+        a = kept (p .items .a) (p .items .count) i (x .a) h j;
+        b = kept (p .items .b) (p .items .count) i (x .b)
+            h j;
+        c = 0;
+        d = 0;
+        bits = 0;
+      };
     }
 
 pub append-item-extends : (p : Plan) (x : Record) → Extends p (appendItem p x .plan)

@@ -2,7 +2,8 @@
 use plan_kinds::Record;
 ghost use mathlib.Core.Path.{_≡_};
 ghost use Prim.Native.Nat.{_<_};
-ghost use Rattle.plan.specs.Plans.{emptyColumns, emptyExpressions, emptyOperators, emptyItems, emptyPlan, columnPushed, expressionPushed, operatorPushed, itemPushed};
+ghost use Rattle.plan.specs.Plans.{emptyColumns, emptyExpressions, emptyOperators, emptyItems, emptyPlan, columnPushed, expressionPushed};
+ghost use Rattle.plan.specs.Plans.{operatorPushed, itemPushed};
 ghost use Rattle.plan.specs.Append.{appendColumn, appendExpr, appendOperator, appendItem};
 ghost use Rattle.plan.specs.Records.{exprRecordOf, operatorRecordOf, itemRecordOf};
 

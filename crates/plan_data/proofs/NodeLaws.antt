@@ -15,7 +15,8 @@ use Rattle.plan_data.specs.declared.JoinType.the-variants.{Inner, LeftSe
 use Rattle.plan_data.specs.declared.ExprData.{ExprData}
 use Rattle.plan_data.specs.declared.ExprData.the-variants.{Literal, ColumnRef, Unary, Binary, Nary}
 use Rattle.plan_data.specs.declared.OperatorData.{OperatorData}
-use Rattle.plan_data.specs.declared.OperatorData.the-variants.{Scan, ConstScan, TableFunction, Selection, Projection, Rename, Map, Aggregation, Sort, Limit, Output, CrossProduct, Join}
+use Rattle.plan_data.specs.declared.OperatorData.the-variants.{Scan, ConstScan, TableFunction, Selection, Projection, Rename, Map, Aggregation}
+use Rattle.plan_data.specs.declared.OperatorData.the-variants.{Sort, Limit, Output, CrossProduct, Join}
 use Rattle.plan_data.proofs.CodeLaws.{unary-back, nary-back}
 
 -- a run that starts at `start`, with a count of 16 bits

@@ -16,7 +16,8 @@ use Rattle.plan_data.specs.declared.JoinType.the-variants.{LeftMark}
 use Rattle.plan_data.specs.declared.ExprData.{ExprData}
 use Rattle.plan_data.specs.declared.ExprData.the-variants.{Literal, ColumnRef, Unary, Binary, Nary}
 use Rattle.plan_data.specs.declared.OperatorData.{OperatorData}
-use Rattle.plan_data.specs.declared.OperatorData.the-variants.{Scan, ConstScan, TableFunction, Selection, Projection, Rename, Map, Aggregation, Sort, Limit, Output, CrossProduct, Join}
+use Rattle.plan_data.specs.declared.OperatorData.the-variants.{Scan, ConstScan, TableFunction, Selection, Projection, Rename, Map, Aggregation}
+use Rattle.plan_data.specs.declared.OperatorData.the-variants.{Sort, Limit, Output, CrossProduct, Join}
 
 -- the `count` items from `start` on
 abbrev pub runOf : ℕ → ℕ → Run

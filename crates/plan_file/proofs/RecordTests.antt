@@ -78,5 +78,7 @@ passed at true true true true false e = (refl, refl, refl, refl, refl)
 pub no-fault : (r : Row) (x : Record) (n : ℕ) (q : State) → isWhole (faultOf r x n q) ≡ true → Passed r x n q
 unfolding faultOf
 no-fault r x n q e =
-    let t = passed (q .at) (kindOk r x (q .wanted)) (leb (r .length) n) (codeOk r x) (handlesOk r x (q .plan .columns .count) (q .plan .expressions .count) (q .plan .operators .count)) (scannedTwice r x (q .wanted) (q .scans) (q .plan .operators .count)) e in
+    let t = passed (q .at) (kindOk r x (q .wanted)) (leb (r .length) n) (codeOk r x)
+    (handlesOk r x (q .plan .columns .count) (q .plan .expressions .count) (q .plan .operators .count))
+    (scannedTwice r x (q .wanted) (q .scans) (q .plan .operators .count)) e in
     record { kind = t .0; whole = leb-true _ _ (t .1); code = t .2; handles = t .3; once = t .4 }

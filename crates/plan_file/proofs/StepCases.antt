@@ -21,7 +21,8 @@ use Rattle.plan_file.specs.declared.Reading.{Reading}
 use Rattle.plan_file.specs.declared.Reading.the-variants.{Whole, Short, Room}
 use Rattle.plan_file.specs.Answers.{isWhole, isAdded, placeOf}
 use Rattle.plan_file.specs.Bytes.{recordFrom}
-use Rattle.plan_file.specs.Steps.{kindWanted, kindOk, scannedTwice, faultOf, appendOf, listOf, lessOne, wantedAfter, scansAfter, refusedBy, takenBy, appendedStep, judgedStep, rowStep, recordStep, isDone, stepOf, stepsOf, startState}
+use Rattle.plan_file.specs.Steps.{kindWanted, kindOk, scannedTwice, faultOf, appendOf, listOf, lessOne, wantedAfter, scansAfter, refusedBy}
+use Rattle.plan_file.specs.Steps.{takenBy, appendedStep, judgedStep, rowStep, recordStep, isDone, stepOf, stepsOf, startState}
 use Rattle.plan_file.proofs.RecordTests.{faultWhere, Passed, no-fault}
 
 -- ---- what is wanted is an item
@@ -41,7 +42,8 @@ pub wants-less : (w : Wanted) → Wants w → Wants (lessOne w)
 unfolding lessOne
 wants-less w f = go (ltb 0 (w .left))
   where
-    go : (t : Bool) → Wants (cond t (record { item = w .item; left = w .left - 1; more = w .more; scan = w .scan }) (record { item = w .item; left = w .left; more = w .more - 1; scan = w .scan }))
+    go : (t : Bool) → Wants (cond t (record { item = w .item; left = w .left - 1; more = w .more; scan = w .scan })
+        (record { item = w .item; left = w .left; more = w .more - 1; scan = w .scan }))
     go true h = f (omega arith)
     go false h = f h
 
@@ -73,7 +75,8 @@ pub data Way (q : State) (x : Record) : State → Type 0 where
       → Way q x (nextOf q x (listOf (rowOf (x .kind)) x) (q .scans) (withOperator (q .plan) x (q .plan .items .count)))
   an-item :
       rowOf (x .kind) .sort ≡ 4 → q .plan .items .count < 2048 → (kindWanted (q .wanted) ≡ 0 → ⊥) → x .kind ≡ kindWanted (q .wanted)
-      → Way q x (nextOf q x (lessOne (q .wanted)) (cond (q .wanted .scan) (set (q .scans) (x .a) (q .plan .operators .count)) (q .scans)) (withItem (q .plan) x))
+      → Way q x (nextOf q x (lessOne (q .wanted)) (cond (q .wanted .scan) (set (q .scans) (x .a) (q .plan .operators .count)) (q .scans))
+      (withItem (q .plan) x))
 
 room : (t : Bool) (p r : Plan) (n : ℕ) → isAdded (cond t (noRoom p) (addedAt r n) .added) ≡ true → t ≡ false
 room true p r n e = sym e
@@ -116,18 +119,36 @@ module _ (q : State) (x : Record) (f : Wants (q .wanted)) (k : kindOk (rowOf (x 
             rw (eq-eqb (rowOf (x .kind) .sort) 1 a, ne-eqb (rowOf (x .kind) .sort) 4 (λ z. omega arith), t)
             (a-column a (leb-false _ _ t) (none-wanted (λ z. omega arith))))
         | no a ↦ elim (ℕ-discrete (rowOf (x .kind) .sort) 2) [
-          | yes b ↦ (let t = room (leb 1024 (q .plan .expressions .count)) _ _ _ (rw (ne-eqb (rowOf (x .kind) .sort) 1 a, eq-eqb (rowOf (x .kind) .sort) 2 b) at e) in
+          | yes b ↦
+              (let t = room (leb 1024 (q .plan .expressions .count)) _ _ _ (rw (ne-eqb (rowOf (x .kind) .sort) 1 a, eq-eqb (rowOf (x .kind) .sort) 2 b) at e) in
               rw (ne-eqb (rowOf (x .kind) .sort) 1 a, eq-eqb (rowOf (x .kind) .sort) 2 b, ne-eqb (rowOf (x .kind) .sort) 4 (λ z. omega arith), t)
               (an-expr b (leb-false _ _ t) (none-wanted (λ z. omega arith))))
           | no b ↦ elim (ℕ-discrete (rowOf (x .kind) .sort) 3) [
-            | yes d ↦ (let t = room (leb 128 (q .plan .operators .count)) _ _ _ (rw (ne-eqb (rowOf (x .kind) .sort) 1 a, ne-eqb (rowOf (x .kind) .sort) 2 b, eq-eqb (rowOf (x .kind) .sort) 3 d) at e) in
-                rw (ne-eqb (rowOf (x .kind) .sort) 1 a, ne-eqb (rowOf (x .kind) .sort) 2 b, eq-eqb (rowOf (x .kind) .sort) 3 d, ne-eqb (rowOf (x .kind) .sort) 4 (λ z. omega arith), t)
+            | yes d ↦
+                (let t = room (leb 128 (q .plan .operators .count)) _ _ _
+                (rw (ne-eqb (rowOf (x .kind) .sort) 1 a, ne-eqb (rowOf (x .kind) .sort) 2 b, eq-eqb (rowOf (x .kind) .sort) 3 d) at e) in
+                rw (
+                  ne-eqb (rowOf (x .kind) .sort) 1 a,
+                  ne-eqb (rowOf (x .kind) .sort) 2 b,
+                  eq-eqb (rowOf (x .kind) .sort) 3 d,
+                  ne-eqb (rowOf (x .kind) .sort)
+                      4 (λ z. omega arith),
+                  t,
+                )
                 (an-operator d (leb-false _ _ t) (none-wanted (λ z. omega arith))))
             | no d ↦ (let z = one-wanted a b d in
                 let m = kind-is z in
                 let s : rowOf (x .kind) .sort ≡ 4 = ap (λ (v : ℕ). rowOf v .sort) m ∙ item-sort (q .wanted) f z in
-                let t = room (leb 2048 (q .plan .items .count)) _ _ _ (rw (ne-eqb (rowOf (x .kind) .sort) 1 a, ne-eqb (rowOf (x .kind) .sort) 2 b, ne-eqb (rowOf (x .kind) .sort) 3 d) at e) in
-                rw (ne-eqb (rowOf (x .kind) .sort) 1 a, ne-eqb (rowOf (x .kind) .sort) 2 b, ne-eqb (rowOf (x .kind) .sort) 3 d, eq-eqb (rowOf (x .kind) .sort) 4 s, t)
+                let t = room (leb 2048 (q .plan .items .count)) _ _ _
+                (rw (ne-eqb (rowOf (x .kind) .sort) 1 a, ne-eqb (rowOf (x .kind) .sort) 2 b, ne-eqb (rowOf (x .kind) .sort) 3 d) at e) in
+                rw (
+                  ne-eqb (rowOf (x .kind) .sort) 1 a,
+                  ne-eqb (rowOf (x .kind) .sort) 2 b,
+                  ne-eqb (rowOf (x .kind) .sort) 3 d,
+                  eq-eqb (rowOf (x .kind) .sort)
+                      4 s,
+                  t,
+                )
                 (an-item s (leb-false _ _ t) z m))
           ]
         ]
@@ -161,7 +182,9 @@ fault-place at true true true true false e = absurd (let z : _≡_ {A = ℕ} 0 1
 place-of-fault : (r : Row) (x : Record) (n : ℕ) (q : State) → isWhole (faultOf r x n q) ≡ false → placeOf (faultOf r x n q) ≡ q .at
 unfolding faultOf
 place-of-fault r x n q e =
-    fault-place (q .at) (kindOk r x (q .wanted)) (leb (r .length) n) (codeOk r x) (handlesOk r x (q .plan .columns .count) (q .plan .expressions .count) (q .plan .operators .count)) (scannedTwice r x (q .wanted) (q .scans) (q .plan .operators .count)) e
+    fault-place (q .at) (kindOk r x (q .wanted)) (leb (r .length) n) (codeOk r x)
+    (handlesOk r x (q .plan .columns .count) (q .plan .expressions .count) (q .plan .operators .count))
+    (scannedTwice r x (q .wanted) (q .scans) (q .plan .operators .count)) e
 
 -- a refusal of a state: not Whole, and placed where the state is
 pub record Refusal (q : State) (k : Reading) : Type 0 where

@@ -18,10 +18,12 @@ use Rattle.plan_file.specs.declared.Reading.{Reading}
 use Rattle.plan_file.specs.declared.Reading.the-variants.{Room}
 use Rattle.plan_file.specs.Answers.{isWhole, isAdded}
 use Rattle.plan_file.specs.Bytes.{recordFrom}
-use Rattle.plan_file.specs.Steps.{kindOk, faultOf, appendOf, isDone, refusedBy, takenBy, appendedStep, judgedStep, rowStep, recordStep, stepOf, stepsOf, startState, answerOf, readOf}
+use Rattle.plan_file.specs.Steps.{kindOk, faultOf, appendOf, isDone, refusedBy, takenBy, appendedStep, judgedStep, rowStep, recordStep, stepOf}
+use Rattle.plan_file.specs.Steps.{stepsOf, startState, answerOf, readOf}
 use Rattle.plan_file.proofs.RecordTests.{no-fault}
 
-module _ (s : List ℕ) (q : State) (b : ℕ) (r : Row) (x : Record) (k : Reading) (eb : b ≡ getD s 0 0) (er : r ≡ rowOf b) (ex : x ≡ recordFrom s r) (ek : k ≡ faultOf r x (length s) q) where
+module _ (s : List ℕ) (q : State) (b : ℕ) (r : Row) (x : Record) (k : Reading) (eb : b ≡ getD s 0 0) (er : r ≡ rowOf b) (ex : x ≡ recordFrom s r)
+    (ek : k ≡ faultOf r x (length s) q) where
   -- A record that fails a test is refused by it. Assumes nothing.
   pub step-refused : isWhole k ≡ false → refusedBy q k ≡ recordStep s q
   unfolding recordStep rowStep judgedStep

@@ -14,7 +14,8 @@ ghost use mathlib.Core.Bool.{true, false};
 ghost use lib.ListN.{length};
 ghost use Rattle.plan_file.specs.Bytes.{word2, word4, word8, codeFrom, wordFrom, bitsFrom, recordFrom};
 ghost use Rattle.plan_file.specs.Answers.{isWhole, isAdded};
-ghost use Rattle.plan_file.specs.Steps.{kindWanted, kindOk, scannedTwice, faultOf, appendOf, listOf, lessOne, wantedAfter, scansAfter, refusedBy, takenBy, appendedStep, recordStep, doneAt, isDone, stepOf, startState, answerOf, readOf};
+ghost use Rattle.plan_file.specs.Steps.{kindWanted, kindOk, scannedTwice, faultOf, appendOf, listOf, lessOne, wantedAfter, scansAfter};
+ghost use Rattle.plan_file.specs.Steps.{refusedBy, takenBy, appendedStep, recordStep, doneAt, isDone, stepOf, startState, answerOf, readOf};
 
 // How a reading ended: the number is the offset where the faulty record starts.
 pub enum Reading {
@@ -40,7 +41,8 @@ pub struct Wanted {
     pub scan: bool,
 }
 
-// What a reading knows between two records; public only for the theorems of the crates above. `scans` has for each column the Scan operator that has it and one, 0 for none: with it
+// What a reading knows between two records; public only for the theorems of the crates above. `scans` has for each column the Scan operator that has
+// it and one, 0 for none: with it
 // the test for a second Scan takes one look.
 pub struct State {
     pub at: usize,

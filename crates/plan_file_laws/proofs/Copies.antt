@@ -105,11 +105,13 @@ pub record Copy (p r : Plan) (c e o : ℕ) : Type 0 where
   pub expr-whole : (i : ℕ) → i < e → exprStart r i + totalOf (exprRecord p i) ≤ r .items .count
   pub operator : (i : ℕ) → i < o → operatorRecord r i ≡ operatorRecord p i
   pub operator-start : (i : ℕ) → i < o → operatorStart r i ≡ exprItems p (p .expressions .count) + operatorItems p i
-  pub operator-items : (i : ℕ) → i < o → (k : ℕ) → k < totalOf (operatorRecord p i) → itemRecord r (operatorStart r i + k) ≡ itemRecord p (operatorStart p i + k)
+  pub operator-items : (i : ℕ) → i < o → (k : ℕ) → k < totalOf (operatorRecord p i) → itemRecord r (operatorStart r i + k) ≡ itemRecord p
+      (operatorStart p i + k)
   pub operator-whole : (i : ℕ) → i < o → operatorStart r i + totalOf (operatorRecord p i) ≤ r .items .count
 
 -- a copy that grows stays one
-pub copy-grow : (p r u : Plan) (c e o : ℕ) → Extends r u → c ≤ r .columns .count → e ≤ r .expressions .count → o ≤ r .operators .count → Copy p r c e o → Copy p u c e o
+pub copy-grow : (p r u : Plan) (c e o : ℕ) → Extends r u → c ≤ r .columns .count → e ≤ r .expressions .count → o ≤ r .operators .count → Copy p r c e o → Copy
+    p u c e o
 copy-grow p r u c e o g hc he ho y =
     record {
       column = λ i h. g .column i (omega arith) ∙ y .column i h;
@@ -219,7 +221,8 @@ mid-next H p xs q c e o ce co n x st m grows he ho h room g once d =
         exprs = d .exprs;
         operators = d .operators;
         items = omega (arith, d .items);
-        copy = copy-grow p (q .plan) (withItem (q .plan) y) c e o (item-longer (q .plan) y) (omega (arith, d .columns)) (omega (arith, d .exprs)) (omega (arith, d .operators)) (d .copy);
+        copy = copy-grow p (q .plan) (withItem (q .plan) y) c e o (item-longer (q .plan) y) (omega (arith, d .columns)) (omega (arith, d .exprs))
+            (omega (arith, d .operators)) (d .copy);
         so-far = λ j u. ⊎-elim
             (λ v. item-longer (q .plan) y .item (n + j) (omega (arith, d .items)) ∙ d .so-far j v)
             (λ v.
@@ -251,7 +254,8 @@ mid-run H p xs q c e o ce co n x st g d zero h = (q, d)
 mid-run H p xs q c e o ce co n x st g d (suc m) h =
     let v = mid-run H p xs q c e o ce co n x st g d m (omega arith) in
     let ys = xs ++ (x ∷ itemsOf p x st m) in
-    let u = mid-next H p ys (v .0) c e o ce co n x st m (g .grows) (g .exprs) (g .operators) h (omega (arith, g .room)) (g .right m h) (g .once m h ys (v .0) (v .1)) (v .1) in
+    let u = mid-next H p ys (v .0) c e o ce co n x st m (g .grows) (g .exprs) (g .operators) h (omega (arith, g .room)) (g .right m h)
+    (g .once m h ys (v .0) (v .1)) (v .1) in
     (u .0, subst (λ (zs : List Record). Mid H p zs (u .0) c e o ce co n x st (suc m)) (append-assoc xs (x ∷ itemsOf p x st m) (itemOf p x st m ∷ [])) (u .1))
 
 -- ---- the plan that is copied
@@ -269,7 +273,8 @@ unfolding listsOk itemOk
 list-item p x st nc me mp e m h =
     let r = and-right (leb (st + (firstOf x + secondOf x)) (p .items .count)) _ e in
     elim (decLt m (firstOf x)) [
-      | yes l ↦ rw (lt-ltb m (firstOf x) l) (all-at (itemOk (p .items .a) (p .items .b) (rowOf (x .kind) .item) nc me mp) (firstOf x) st (and-left _ _ r) (st + m) (omega arith) (omega arith))
+      | yes l ↦ rw (lt-ltb m (firstOf x) l) (all-at (itemOk (p .items .a) (p .items .b) (rowOf (x .kind) .item) nc me mp) (firstOf x) st (and-left _ _ r)
+          (st + m) (omega arith) (omega arith))
       | no l ↦ rw (le-ltb m (firstOf x) (omega arith))
           (all-at (itemOk (p .items .a) (p .items .b) 0x40 nc me mp) (secondOf x) (st + firstOf x)
           (and-right (allFrom (itemOk (p .items .a) (p .items .b) (rowOf (x .kind) .item) nc me mp) st (firstOf x)) _ r) (st + m) (omega arith) (omega arith))
@@ -289,13 +294,20 @@ record-parts sort x nc ne np e =
     let b = and-right (codeOk (rowOf (x .kind)) x) _ a in
     record { sort-is = eqb-true _ _ (and-left _ _ e); code = and-left _ _ a; bits = and-left _ _ b; handles = and-right (bitsOk (rowOf (x .kind)) x) _ b }
 
-pub expr-parts : (p : Plan) (i : ℕ) → exprOk p i ≡ true → Record-ok 2 (exprRecord p i) (p .columns .count) i (p .operators .count) × (listsOk (p .items .a) (p .items .b) (p .items .count) (exprRecord p i) (exprStart p i) (p .columns .count) (suc i) (p .operators .count) ≡ true)
+pub expr-parts : (p : Plan) (i : ℕ) → exprOk p i ≡ true → Record-ok 2 (exprRecord p i) (p .columns .count) i (p .operators .count)
+    × (listsOk (p .items .a) (p .items .b) (p .items .count) (exprRecord p i) (exprStart p i) (p .columns .count) (suc i) (p .operators .count) ≡ true)
 unfolding exprOkOf
-expr-parts p i e = (record-parts 2 (exprRecord p i) _ _ _ (and-left _ _ e), and-right (recordOk 2 (exprRecord p i) (p .columns .count) i (p .operators .count)) _ e)
+expr-parts p i
+    e = (record-parts 2 (exprRecord p i) _ _ _ (and-left _ _ e), and-right (recordOk 2 (exprRecord p i) (p .columns .count) i (p .operators .count)) _ e)
 
-pub operator-parts : (p : Plan) (i : ℕ) → operatorOk p i ≡ true → Record-ok 3 (operatorRecord p i) (p .columns .count) (p .expressions .count) i × (listsOk (p .items .a) (p .items .b) (p .items .count) (operatorRecord p i) (operatorStart p i) (p .columns .count) (p .expressions .count) i ≡ true)
+pub operator-parts : (p : Plan) (i : ℕ) → operatorOk p i ≡ true → Record-ok 3 (operatorRecord p i) (p .columns .count) (p .expressions .count) i
+    × (listsOk (p .items .a) (p .items .b) (p .items .count) (operatorRecord p i) (operatorStart p i) (p .columns .count) (p .expressions .count) i ≡ true)
 unfolding operatorOkOf
-operator-parts p i e = (record-parts 3 (operatorRecord p i) _ _ _ (and-left _ _ e), and-right (recordOk 3 (operatorRecord p i) (p .columns .count) (p .expressions .count) i) _ e)
+operator-parts p i e = (
+  record-parts 3 (operatorRecord p i) _ _ _ (and-left _ _ e),
+  and-right
+      (recordOk 3 (operatorRecord p i) (p .columns .count) (p .expressions .count) i) _ e,
+)
 
 -- a head is no item, and a list that is no Scan's marks nothing
 pub head-once : (r : Row) (x : Record) (w : Wanted) (scans : List ℕ) (np : ℕ) → (r .sort ≡ 4 → ⊥) → scannedTwice r x w scans np ≡ false
@@ -305,7 +317,8 @@ and-false : (a b c : Bool) → (((a && false) && b) && c) ≡ false
 and-false true b c = refl
 and-false false b c = refl
 
-pub other-once : (r : Row) (x y : Record) (m : ℕ) (w : Wanted) (scans : List ℕ) (np : ℕ) → w ≡ wantedAt y m → (y .kind ≡ 0x30 → ⊥) → scannedTwice r x w scans np ≡ false
+pub other-once : (r : Row) (x y : Record) (m : ℕ) (w : Wanted) (scans : List ℕ) (np : ℕ) → w ≡ wantedAt y m → (y .kind ≡ 0x30 → ⊥) → scannedTwice r x w scans
+    np ≡ false
 other-once r x y m w scans np e n = rw (ap (λ (v : Wanted). v .scan) e ∙ ne-eqb (y .kind) 0x30 n) (and-false (eqb (r .sort) 4) _ _)
 
 -- ---- a column more

@@ -32,7 +32,9 @@ use Rattle.plan_file_laws.proofs.Marks.{scan-whole, scan-first, scan-se
 use Rattle.plan_file_laws.proofs.RulesRead.{Takes, rules-in, not-zero}
 use Rattle.plan_file_laws.proofs.Sequences.{Reads, begin, next, kept-reads}
 use Rattle.plan_file_laws.proofs.Parts.{append-nil}
-use Rattle.plan_file_laws.proofs.Copies.{totalOf, at-start, kind-end, Copy, copy-grow, Rest, Mid, Going, item-right, right-at, mid-run, Source, itemsTo, exprItems, operatorItems, list-item, expr-parts, operator-parts, head-once, other-once, column-sort, column-right, one-more}
+use Rattle.plan_file_laws.proofs.Copies.{totalOf, at-start, kind-end, Copy, copy-grow, Rest, Mid, Going, item-right, right-at, mid-run}
+use Rattle.plan_file_laws.proofs.Copies.{Source, itemsTo, exprItems, operatorItems, list-item, expr-parts, operator-parts, head-once}
+use Rattle.plan_file_laws.proofs.Copies.{other-once, column-sort, column-right, one-more}
 
 -- the arrays of a plan that was read have their sizes
 sized : (xs : List Record) (q : State) → Reads xs q → Sized (q .plan)
@@ -63,7 +65,12 @@ column-next p xs q i h ok d =
     let e = column-longer (q .plan) x in
     let l : q .plan .columns .count < 64 = omega (arith, d .columns) in
     let t = nextOf q x (listOf (rowOf 0x01) x) (q .scans) (withColumn (q .plan) x) in
-    let k : Takes q x t = record { right = column-right p i _ _ _ ok; once = head-once (rowOf 0x01) x (q .wanted) (q .scans) (q .plan .operators .count) (λ u. omega (arith, column-sort)); way = a-column column-sort l (d .nothing) } in
+    let k : Takes q x t = record {
+      right = column-right p i _ _ _ ok;
+      once = head-once (rowOf 0x01) x (q .wanted) (q .scans) (q .plan .operators .count)
+          (λ u. omega (arith, column-sort));
+      way = a-column column-sort l (d .nothing);
+    } in
     let n = no-list (rowOf 0x01) x (column-row 0x01 column-sort) in (
       t,
       record {
@@ -129,7 +136,12 @@ module _ (p : Plan) (s : Source p) where
       let z = sized xs q (d .reads) in
       let t = nextOf q x (listOf (rowOf (x .kind)) x) (q .scans) u in
       let right : Right x (p .columns .count) n 0 =
-      record { code = g .code; bits = g .bits; handles = handles-part (rowOf (x .kind)) x x _ _ _ 0 (expr-row (x .kind) (g .sort-is)) refl refl refl refl (g .handles) } in
+      record {
+        code = g .code;
+        bits = g .bits;
+        handles = handles-part (rowOf (x .kind)) x x _ _ _ 0 (expr-row (x .kind) (g .sort-is)) refl refl refl refl
+            (g .handles);
+      } in
       let k2 : Takes q x t =
       record {
         right = right-at x _ _ _ (p .columns .count) n 0 (d .columns) (d .exprs) (d .operators) right;
@@ -146,11 +158,16 @@ module _ (p : Plan) (s : Source p) where
           items = omega (arith, d .items);
           copy = copy-grow p (q .plan) u _ n 0 e (omega (arith, d .columns)) (omega (arith, d .exprs)) (omega arith) (d .copy);
           so-far = λ j v. absurd (omega arith);
-          head = (ap (exprRecord u) (sym (d .exprs)) ∙ new-expr (q .plan) x (q .plan .items .count) z l, ap (exprStart u) (sym (d .exprs)) ∙ new-expr-start (q .plan) x (q .plan .items .count) z l ∙ d .items);
+          head = (
+            ap (exprRecord u) (sym (d .exprs)) ∙ new-expr (q .plan) x (q .plan .items .count) z l,
+            ap (exprStart u) (sym (d .exprs)) ∙ new-expr-start
+                (q .plan) x (q .plan .items .count) z l ∙ d .items,
+          );
         },
       )
 
-  expr-going : (n k : ℕ) → n < p .expressions .count → k + totalOf (exprRecord p n) ≤ 2048 → Going (ExprHead n k) p (p .columns .count) n 0 (suc n) 0 k (exprRecord p n) (exprStart p n)
+  expr-going : (n k : ℕ) → n < p .expressions .count → k + totalOf (exprRecord p n) ≤ 2048 → Going (ExprHead n k) p (p .columns .count) n 0 (suc n) 0 k
+      (exprRecord p n) (exprStart p n)
   expr-going n k h room =
       let g = expr-parts p n (s .rules .expr n h) in
       record {
@@ -158,8 +175,10 @@ module _ (p : Plan) (s : Source p) where
         exprs = omega arith;
         operators = omega arith;
         room = room;
-        right = λ m l. item-right p (exprRecord p n) (exprStart p n) m _ (suc n) (p .operators .count) 0 l (list-item p (exprRecord p n) (exprStart p n) _ _ _ (g .1) m l);
-        once = λ m l xs q d. other-once (rowOf (itemKind (exprRecord p n) m)) (itemOf p (exprRecord p n) (exprStart p n) m) (exprRecord p n) m (q .wanted) (q .scans) (q .plan .operators .count) (d .wanted)
+        right = λ m l. item-right p (exprRecord p n) (exprStart p n) m _ (suc n) (p .operators .count) 0 l
+            (list-item p (exprRecord p n) (exprStart p n) _ _ _ (g .1) m l);
+        once = λ m l xs q d. other-once (rowOf (itemKind (exprRecord p n) m)) (itemOf p (exprRecord p n) (exprStart p n) m) (exprRecord p n) m (q .wanted)
+            (q .scans) (q .plan .operators .count) (d .wanted)
             (λ e. no-scan (exprRecord p n .kind) e (g .0 .sort-is));
       }
     where
@@ -167,7 +186,8 @@ module _ (p : Plan) (s : Source p) where
       no-scan v e f = let z : _≡_ {A = ℕ} 3 2 = sym scan-sort ∙ ap (λ (w : ℕ). rowOf w .sort) (sym e) ∙ f in omega arith
 
   expr-close :
-      (xs : List Record) (q : State) (n k : ℕ) → k ≡ exprItems p n → Mid (ExprHead n k) p xs q (p .columns .count) n 0 (suc n) 0 k (exprRecord p n) (exprStart p n) (totalOf (exprRecord p n))
+      (xs : List Record) (q : State) (n k : ℕ) → k ≡ exprItems p n → Mid (ExprHead n k) p xs q (p .columns .count) n 0 (suc n) 0 k (exprRecord p n)
+      (exprStart p n) (totalOf (exprRecord p n))
       → Rest p xs q (p .columns .count) (suc n) 0 (k + totalOf (exprRecord p n))
   expr-close xs q n k ek d =
       record {
@@ -181,9 +201,11 @@ module _ (p : Plan) (s : Source p) where
           column = d .copy .column;
           expr = one-more (λ (j : ℕ). exprRecord (q .plan) j ≡ exprRecord p j) n (d .copy .expr) (d .head .0);
           expr-start = one-more (λ (j : ℕ). exprStart (q .plan) j ≡ exprItems p j) n (d .copy .expr-start) (d .head .1 ∙ ek);
-          expr-items = one-more (λ (j : ℕ). (m : ℕ) → m < totalOf (exprRecord p j) → itemRecord (q .plan) (exprStart (q .plan) j + m) ≡ itemRecord p (exprStart p j + m)) n (d .copy .expr-items)
+          expr-items = one-more (λ (j : ℕ). (m : ℕ) → m < totalOf (exprRecord p j) → itemRecord (q .plan) (exprStart (q .plan) j + m) ≡ itemRecord p
+              (exprStart p j + m)) n (d .copy .expr-items)
               (λ m l. ap (λ (v : ℕ). itemRecord (q .plan) (v + m)) (d .head .1) ∙ d .so-far m l);
-          expr-whole = one-more (λ (j : ℕ). exprStart (q .plan) j + totalOf (exprRecord p j) ≤ q .plan .items .count) n (d .copy .expr-whole) (omega (arith, d .head .1, d .items));
+          expr-whole = one-more (λ (j : ℕ). exprStart (q .plan) j + totalOf (exprRecord p j) ≤ q .plan .items .count) n (d .copy .expr-whole)
+              (omega (arith, d .head .1, d .items));
           operator = d .copy .operator;
           operator-start = d .copy .operator-start;
           operator-items = d .copy .operator-items;
@@ -192,14 +214,17 @@ module _ (p : Plan) (s : Source p) where
       }
 
   expr-next :
-      (xs : List Record) (q : State) (n k : ℕ) → k ≡ exprItems p n → n < p .expressions .count → k + totalOf (exprRecord p n) ≤ 2048 → Rest p xs q (p .columns .count) n 0 k
+      (xs : List Record) (q : State) (n k : ℕ) → k ≡ exprItems p n → n < p .expressions .count → k + totalOf (exprRecord p n) ≤ 2048 → Rest p xs q
+      (p .columns .count) n 0 k
       → (t : State) × Rest p (xs ++ withItems p (exprRecord p n) (exprStart p n)) t (p .columns .count) (suc n) 0 (k + totalOf (exprRecord p n))
   expr-next xs q n k ek h room d =
       let u = expr-mid xs q n k h d in
-      let v = mid-run (ExprHead n k) p xs (u .0) _ n 0 (suc n) 0 k (exprRecord p n) (exprStart p n) (expr-going n k h room) (u .1) (totalOf (exprRecord p n)) (omega arith) in
+      let v = mid-run (ExprHead n k) p xs (u .0) _ n 0 (suc n) 0 k (exprRecord p n) (exprStart p n) (expr-going n k h room) (u .1) (totalOf (exprRecord p n))
+      (omega arith) in
       (v .0, expr-close _ (v .0) n k ek (v .1))
 
-  exprs-run : (n : ℕ) → n ≤ p .expressions .count → (q : State) × Rest p (columnsTo p (p .columns .count) ++ exprsTo p n) q (p .columns .count) n 0 (exprItems p n)
+  exprs-run : (n : ℕ) → n ≤ p .expressions .count → (q : State) × Rest p (columnsTo p (p .columns .count) ++ exprsTo p n) q (p .columns .count) n 0
+      (exprItems p n)
   unfolding exprsTo itemsTo
   exprs-run zero h =
       let v = columns-run (p .columns .count) (omega arith) in
@@ -207,15 +232,20 @@ module _ (p : Plan) (s : Source p) where
   exprs-run (suc n) h =
       let v = exprs-run n (omega arith) in
       let cs = columnsTo p (p .columns .count) in
-      let w = expr-next (cs ++ exprsTo p n) (v .0) n (exprItems p n) refl h (omega (arith, s .room, items-to (exprRecord p) n (p .expressions .count) h)) (v .1) in
-      (w .0, subst (λ (xs : List Record). Rest p xs (w .0) (p .columns .count) (suc n) 0 (exprItems p n + totalOf (exprRecord p n))) (append-assoc cs (exprsTo p n) (withItems p (exprRecord p n) (exprStart p n))) (w .1))
+      let w = expr-next (cs ++ exprsTo p n) (v .0) n (exprItems p n) refl h (omega (arith, s .room, items-to (exprRecord p) n (p .expressions .count) h))
+      (v .1) in (
+        w .0,
+        subst (λ (xs : List Record). Rest p xs (w .0) (p .columns .count) (suc n) 0 (exprItems p n + totalOf (exprRecord p n)))
+            (append-assoc cs (exprsTo p n) (withItems p (exprRecord p n) (exprStart p n))) (w .1),
+      )
 
   -- ---- an operator and its items
   abbrev OperatorHead : ℕ → ℕ → Plan → Type 0
   OperatorHead n k r = (operatorRecord r n ≡ operatorRecord p n) × (operatorStart r n ≡ k)
 
   abbrev OperatorMid : List Record → State → ℕ → ℕ → ℕ → Type 0
-  OperatorMid xs q n k m = Mid (OperatorHead n k) p xs q (p .columns .count) (p .expressions .count) n (p .expressions .count) (suc n) k (operatorRecord p n) (operatorStart p n) m
+  OperatorMid xs q n k m = Mid (OperatorHead n k) p xs q (p .columns .count) (p .expressions .count) n (p .expressions .count) (suc n) k (operatorRecord p n)
+      (operatorStart p n) m
 
   operator-mid :
       (xs : List Record) (q : State) (n k : ℕ) → n < p .operators .count → Rest p xs q (p .columns .count) (p .expressions .count) n k
@@ -243,9 +273,14 @@ module _ (p : Plan) (s : Source p) where
           exprs = d .exprs;
           operators = omega (arith, d .operators);
           items = omega (arith, d .items);
-          copy = copy-grow p (q .plan) u _ (p .expressions .count) n e (omega (arith, d .columns)) (omega (arith, d .exprs)) (omega (arith, d .operators)) (d .copy);
+          copy = copy-grow p (q .plan) u _ (p .expressions .count) n e (omega (arith, d .columns)) (omega (arith, d .exprs)) (omega (arith, d .operators))
+              (d .copy);
           so-far = λ j v. absurd (omega arith);
-          head = (ap (operatorRecord u) (sym (d .operators)) ∙ new-operator (q .plan) x (q .plan .items .count) z l, ap (operatorStart u) (sym (d .operators)) ∙ new-operator-start (q .plan) x (q .plan .items .count) z l ∙ d .items);
+          head = (
+            ap (operatorRecord u) (sym (d .operators)) ∙ new-operator (q .plan) x (q .plan .items .count) z l,
+            ap (operatorStart u) (sym (d .operators))
+                ∙ new-operator-start (q .plan) x (q .plan .items .count) z l ∙ d .items,
+          );
         },
       )
 
@@ -272,7 +307,8 @@ module _ (p : Plan) (s : Source p) where
         item = it;
       }
 
-  scan-own : (n m : ℕ) → n < p .operators .count → operatorRecord p n .kind ≡ 0x30 → m < totalOf (operatorRecord p n) → ScanHas p n (itemRecord p (operatorStart p n + m) .a)
+  scan-own : (n m : ℕ) → n < p .operators .count → operatorRecord p n .kind ≡ 0x30 → m < totalOf (operatorRecord p n) → ScanHas p n
+      (itemRecord p (operatorStart p n + m) .a)
   scan-own n m h k l =
       let x = operatorRecord p n in
       let b : m < operatorRecord p n .b = omega (arith, scan-first x k, scan-second x k) in
@@ -288,7 +324,8 @@ module _ (p : Plan) (s : Source p) where
 
   -- so the column of its next item is marked by no other Scan
   scan-once :
-      (xs : List Record) (q : State) (n k m : ℕ) → n < p .operators .count → operatorRecord p n .kind ≡ 0x30 → m < totalOf (operatorRecord p n) → OperatorMid xs q n k m
+      (xs : List Record) (q : State) (n k m : ℕ) → n < p .operators .count → operatorRecord p n .kind ≡ 0x30 → m < totalOf (operatorRecord p n) → OperatorMid
+      xs q n k m
       → (c : ℕ) → c ≡ itemRecord p (operatorStart p n + m) .a → (getD (q .scans) c 0 ≡ 0) ⊎ (getD (q .scans) c 0 ≡ q .plan .operators .count)
   scan-once xs q n k m h z l d c e =
       elim (ℕ-discrete (getD (q .scans) c 0) 0) [
@@ -319,10 +356,13 @@ module _ (p : Plan) (s : Source p) where
         exprs = omega arith;
         operators = omega arith;
         room = room;
-        right = λ m l. item-right p (operatorRecord p n) (operatorStart p n) m _ (p .expressions .count) n (suc n) l (list-item p (operatorRecord p n) (operatorStart p n) _ _ _ (g .1) m l);
+        right = λ m l. item-right p (operatorRecord p n) (operatorStart p n) m _ (p .expressions .count) n (suc n) l
+            (list-item p (operatorRecord p n) (operatorStart p n) _ _ _ (g .1) m l);
         once = λ m l xs q d. elim (ℕ-discrete (operatorRecord p n .kind) 0x30) [
-          | no z ↦ other-once (rowOf (itemKind (operatorRecord p n) m)) (itemOf p (operatorRecord p n) (operatorStart p n) m) (operatorRecord p n) m (q .wanted) (q .scans) (q .plan .operators .count) (d .wanted) z
-          | yes z ↦ free (eqb (rowOf (itemKind (operatorRecord p n) m) .sort) 4) (q .wanted .scan) (getD (q .scans) (itemRecord p (operatorStart p n + m) .a) 0) (q .plan .operators .count)
+          | no z ↦ other-once (rowOf (itemKind (operatorRecord p n) m)) (itemOf p (operatorRecord p n) (operatorStart p n) m) (operatorRecord p n) m
+              (q .wanted) (q .scans) (q .plan .operators .count) (d .wanted) z
+          | yes z ↦ free (eqb (rowOf (itemKind (operatorRecord p n) m) .sort) 4) (q .wanted .scan)
+              (getD (q .scans) (itemRecord p (operatorStart p n + m) .a) 0) (q .plan .operators .count)
               (scan-once xs q n k m h z l d (itemRecord p (operatorStart p n + m) .a) refl)
         ];
       }
@@ -341,7 +381,8 @@ module _ (p : Plan) (s : Source p) where
       free a b m np o = ⊎-elim (λ e. free-zero a b m np e) (λ e. free-own a b m np e) o
 
   operator-close :
-      (xs : List Record) (q : State) (n k : ℕ) → k ≡ exprItems p (p .expressions .count) + operatorItems p n → OperatorMid xs q n k (totalOf (operatorRecord p n))
+      (xs : List Record) (q : State) (n k : ℕ) → k ≡ exprItems p (p .expressions .count) + operatorItems p n → OperatorMid xs q n k
+      (totalOf (operatorRecord p n))
       → Rest p xs q (p .columns .count) (p .expressions .count) (suc n) (k + totalOf (operatorRecord p n))
   operator-close xs q n k ek d =
       record {
@@ -358,49 +399,61 @@ module _ (p : Plan) (s : Source p) where
           expr-items = d .copy .expr-items;
           expr-whole = d .copy .expr-whole;
           operator = one-more (λ (j : ℕ). operatorRecord (q .plan) j ≡ operatorRecord p j) n (d .copy .operator) (d .head .0);
-          operator-start = one-more (λ (j : ℕ). operatorStart (q .plan) j ≡ exprItems p (p .expressions .count) + operatorItems p j) n (d .copy .operator-start) (d .head .1 ∙ ek);
-          operator-items = one-more (λ (j : ℕ). (m : ℕ) → m < totalOf (operatorRecord p j) → itemRecord (q .plan) (operatorStart (q .plan) j + m) ≡ itemRecord p (operatorStart p j + m)) n (d .copy .operator-items)
+          operator-start = one-more (λ (j : ℕ). operatorStart (q .plan) j ≡ exprItems p (p .expressions .count) + operatorItems p j) n
+              (d .copy .operator-start) (d .head .1 ∙ ek);
+          operator-items = one-more (λ (j : ℕ). (m : ℕ) → m < totalOf (operatorRecord p j) → itemRecord (q .plan) (operatorStart (q .plan) j + m) ≡ itemRecord
+              p (operatorStart p j + m)) n (d .copy .operator-items)
               (λ m l. ap (λ (v : ℕ). itemRecord (q .plan) (v + m)) (d .head .1) ∙ d .so-far m l);
-          operator-whole = one-more (λ (j : ℕ). operatorStart (q .plan) j + totalOf (operatorRecord p j) ≤ q .plan .items .count) n (d .copy .operator-whole) (omega (arith, d .head .1, d .items));
+          operator-whole = one-more (λ (j : ℕ). operatorStart (q .plan) j + totalOf (operatorRecord p j) ≤ q .plan .items .count) n (d .copy .operator-whole)
+              (omega (arith, d .head .1, d .items));
         };
       }
 
   operator-next :
-      (xs : List Record) (q : State) (n k : ℕ) → k ≡ exprItems p (p .expressions .count) + operatorItems p n → n < p .operators .count → k + totalOf (operatorRecord p n) ≤ 2048 → Rest p xs q (p .columns .count) (p .expressions .count) n k
-      → (t : State) × Rest p (xs ++ withItems p (operatorRecord p n) (operatorStart p n)) t (p .columns .count) (p .expressions .count) (suc n) (k + totalOf (operatorRecord p n))
+      (xs : List Record) (q : State) (n k : ℕ) → k ≡ exprItems p (p .expressions .count) + operatorItems p n → n < p .operators .count → k + totalOf
+      (operatorRecord p n) ≤ 2048 → Rest p xs q (p .columns .count) (p .expressions .count) n k
+      → (t : State) × Rest p (xs ++ withItems p (operatorRecord p n) (operatorStart p n)) t (p .columns .count) (p .expressions .count) (suc n)
+      (k + totalOf (operatorRecord p n))
   operator-next xs q n k ek h room d =
       let u = operator-mid xs q n k h d in
-      let v = mid-run (OperatorHead n k) p xs (u .0) _ (p .expressions .count) n (p .expressions .count) (suc n) k (operatorRecord p n) (operatorStart p n) (operator-going n k h room) (u .1) (totalOf (operatorRecord p n)) (omega arith) in
+      let v = mid-run (OperatorHead n k) p xs (u .0) _ (p .expressions .count) n (p .expressions .count) (suc n) k (operatorRecord p n) (operatorStart p n)
+      (operator-going n k h room) (u .1) (totalOf (operatorRecord p n)) (omega arith) in
       (v .0, operator-close _ (v .0) n k ek (v .1))
 
   abbrev before : List Record
   before = columnsTo p (p .columns .count) ++ exprsTo p (p .expressions .count)
 
-  operators-run : (n : ℕ) → n ≤ p .operators .count → (q : State) × Rest p (before ++ operatorsTo p n) q (p .columns .count) (p .expressions .count) n (exprItems p (p .expressions .count) + operatorItems p n)
+  operators-run : (n : ℕ) → n ≤ p .operators .count → (q : State) × Rest p (before ++ operatorsTo p n) q (p .columns .count) (p .expressions .count) n
+      (exprItems p (p .expressions .count) + operatorItems p n)
   unfolding operatorsTo itemsTo
   operators-run zero h =
       let v = exprs-run (p .expressions .count) (omega arith) in
       let e : exprItems p (p .expressions .count) ≡ exprItems p (p .expressions .count) + 0 = omega arith in (
         v .0,
         subst (λ (k : ℕ). Rest p (before ++ []) (v .0) (p .columns .count) (p .expressions .count) 0 k) e
-            (subst (λ (xs : List Record). Rest p xs (v .0) (p .columns .count) (p .expressions .count) 0 (exprItems p (p .expressions .count))) (sym (append-nil before)) (v .1)),
+            (subst (λ (xs : List Record). Rest p xs (v .0) (p .columns .count) (p .expressions .count) 0 (exprItems p (p .expressions .count)))
+            (sym (append-nil before)) (v .1)),
       )
   operators-run (suc n) h =
       let v = operators-run n (omega arith) in
       let k = exprItems p (p .expressions .count) in
       let t = totalOf (operatorRecord p n) in
-      let w = operator-next (before ++ operatorsTo p n) (v .0) n (k + operatorItems p n) refl h (omega (arith, s .room, items-to (operatorRecord p) n (p .operators .count) h)) (v .1) in
+      let w = operator-next (before ++ operatorsTo p n) (v .0) n (k + operatorItems p n) refl h
+      (omega (arith, s .room, items-to (operatorRecord p) n (p .operators .count) h)) (v .1) in
       let e : k + operatorItems p n + t ≡ k + (operatorItems p n + t) = omega arith in (
         w .0,
         subst (λ (j : ℕ). Rest p (before ++ operatorsTo p (suc n)) (w .0) (p .columns .count) (p .expressions .count) (suc n) j) e
-            (subst (λ (xs : List Record). Rest p xs (w .0) (p .columns .count) (p .expressions .count) (suc n) (k + operatorItems p n + t)) (append-assoc before (operatorsTo p n) (withItems p (operatorRecord p n) (operatorStart p n))) (w .1)),
+            (subst (λ (xs : List Record). Rest p xs (w .0) (p .columns .count) (p .expressions .count) (suc n) (k + operatorItems p n + t))
+            (append-assoc before (operatorsTo p n) (withItems p (operatorRecord p n) (operatorStart p n))) (w .1)),
       )
 
   -- The records of the plan are taken one after the other, and lead to a copy of it with no item wanted. Assumes nothing.
-  pub copied : (q : State) × Rest p (planRecords p) q (p .columns .count) (p .expressions .count) (p .operators .count) (exprItems p (p .expressions .count) + operatorItems p (p .operators .count))
+  pub copied : (q : State) × Rest p (planRecords p) q (p .columns .count) (p .expressions .count) (p .operators .count)
+      (exprItems p (p .expressions .count) + operatorItems p (p .operators .count))
   copied =
       let v = operators-run (p .operators .count) (omega arith) in (
         v .0,
-        subst (λ (xs : List Record). Rest p xs (v .0) (p .columns .count) (p .expressions .count) (p .operators .count) (exprItems p (p .expressions .count) + operatorItems p (p .operators .count)))
+        subst (λ (xs : List Record). Rest p xs (v .0) (p .columns .count) (p .expressions .count) (p .operators .count)
+            (exprItems p (p .expressions .count) + operatorItems p (p .operators .count)))
             (append-assoc (columnsTo p (p .columns .count)) (exprsTo p (p .expressions .count)) (operatorsTo p (p .operators .count))) (v .1),
       )

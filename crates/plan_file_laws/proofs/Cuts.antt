@@ -21,7 +21,8 @@ use Rattle.plan_file.specs.declared.Answer.{Answer}
 use Rattle.plan_file.specs.declared.Reading.the-variants.{Whole, Short}
 use Rattle.plan_file.specs.Answers.{isWhole, refusalOf}
 use Rattle.plan_file.specs.Bytes.{recordFrom}
-use Rattle.plan_file.specs.Steps.{kindWanted, kindOk, faultOf, refusedBy, judgedStep, rowStep, recordStep, isDone, stepOf, stepsOf, startState, answerOf, readOf}
+use Rattle.plan_file.specs.Steps.{kindWanted, kindOk, faultOf, refusedBy, judgedStep, rowStep, recordStep, isDone, stepOf, stepsOf, startState}
+use Rattle.plan_file.specs.Steps.{answerOf, readOf}
 use Rattle.plan_file.proofs.StepsTaken.{read-early}
 use Rattle.plan_file.proofs.Finish.{finished, lastOf, true-false}
 use Rattle.plan_file_laws.specs.ByteStrings.{Bytes}
@@ -47,7 +48,8 @@ not-last s i q h e d =
     (below-or-not i (length s))
 
 -- where the next step refuses by 1, that is the answer
-short-next : (s : List ℕ) (i : ℕ) (q : State) (n : ℕ) → i ≤ length s → stepsOf s i ≡ q → isDone (length s) q ≡ false → stepOf s q ≡ refusedBy q (Short n) → readOf s ≡ cutAt n
+short-next : (s : List ℕ) (i : ℕ) (q : State) (n : ℕ) → i ≤ length s → stepsOf s i ≡ q → isDone (length s) q ≡ false → stepOf s q ≡ refusedBy q (Short n)
+    → readOf s ≡ cutAt n
 unfolding stepsOf
 short-next s i q n h e d g =
     sym (read-early s (suc i) (refusedBy q (Short n)) (not-last s i q h e d) (sym (ap (stepOf s) e ∙ g)) refl) ∙ answer-short q n
@@ -84,12 +86,14 @@ unfolding recordStep rowStep recordFrom
 record-short u q x e h k =
     let r = rowOf (getD u 0 0) in
     let y = recordFrom u (rowOf (getD u 0 0)) in
-    let k2 : kindOk (rowOf (getD u 0 0)) y (q .wanted) ≡ true = subst (λ (v : ℕ). kindOk (rowOf v) y (q .wanted) ≡ true) (sym e) (kind-same (rowOf (x .kind)) x y (q .wanted) e k) in
+    let k2 : kindOk (rowOf (getD u 0 0)) y (q .wanted) ≡ true = subst (λ (v : ℕ). kindOk (rowOf v) y (q .wanted) ≡ true) (sym e)
+    (kind-same (rowOf (x .kind)) x y (q .wanted) e k) in
     let l : length u < rowOf (getD u 0 0) .length = subst (λ (v : ℕ). length u < rowOf v .length) (sym e) h in
     ap (judgedStep q r y) (fault-short r y (length u) q k2 l) ∙ judged-short q r y (q .at)
 
 inside-step :
-    (s u : List ℕ) (q : State) (x : Record) → q .reading ≡ Whole → drop (q .at) s ≡ u → q .at < length s → getD u 0 0 ≡ x .kind → length u < rowOf (x .kind) .length
+    (s u : List ℕ) (q : State) (x : Record) → q .reading ≡ Whole → drop (q .at) s ≡ u → q .at < length s → getD u 0 0 ≡ x .kind → length u < rowOf
+    (x .kind) .length
     → kindOk (rowOf (x .kind)) x (q .wanted) ≡ true → stepOf s q ≡ refusedBy q (Short (q .at))
 unfolding stepOf
 inside-step s u q x w e l f h k = rw (ap isWhole w, lt-leb (length s) (q .at) l) (ap (λ (v : List ℕ). recordStep v q) e ∙ record-short u q x f h k)
@@ -192,7 +196,8 @@ cut-whole xs q r a =
     ]
 
 -- a part of one record more
-cut-more : (ys : List Record) (q : State) (x : Record) (t : State) (n : ℕ) → Reads ys q → All Fits ys → Judged q x t → length (putRecords ys []) < n → n < length (putRecords ys []) + rowOf (x .kind) .length → Cut (take n (putRecords ys [] ++ putRecord x []))
+cut-more : (ys : List Record) (q : State) (x : Record) (t : State) (n : ℕ) → Reads ys q → All Fits ys → Judged q x t → length (putRecords ys []) < n → n
+    < length (putRecords ys []) + rowOf (x .kind) .length → Cut (take n (putRecords ys [] ++ putRecord x []))
 cut-more ys q x t n r a j lo hi =
     let b = putRecords ys [] in
     let m = n - length b in
@@ -206,13 +211,16 @@ unfolding putRecords startState kindWanted
 cut-empty zero h = cut-whole [] startState begin none
 cut-empty (suc n) h = absurd (omega arith)
 
-cut-step : (ys : List Record) (q : State) (x : Record) (t : State) → Reads ys q → Judged q x t → Reads (ys ++ (x ∷ [])) t → All Fits ys → All Fits (ys ++ (x ∷ []))
-    → ((n : ℕ) → n ≤ length (putRecords ys []) → Cut (take n (putRecords ys []))) → (n : ℕ) → n ≤ length (putRecords (ys ++ (x ∷ [])) []) → Cut (take n (putRecords (ys ++ (x ∷ [])) []))
+cut-step : (ys : List Record) (q : State) (x : Record) (t : State) → Reads ys q → Judged q x t → Reads (ys ++ (x ∷ [])) t → All Fits ys → All Fits
+    (ys ++ (x ∷ []))
+    → ((n : ℕ) → n ≤ length (putRecords ys []) → Cut (take n (putRecords ys []))) → (n : ℕ) → n ≤ length (putRecords (ys ++ (x ∷ [])) []) → Cut
+    (take n (putRecords (ys ++ (x ∷ [])) []))
 cut-step ys q x t r j rt ay a old n h =
     let b = putRecords ys [] in
     let s = putRecords (ys ++ (x ∷ [])) [] in
     let e : putRecords (ys ++ (x ∷ [])) [] ≡ b ++ putRecord x [] = put-snoc ys x [] ∙ put-rest ys (putRecord x []) in
-    let l : length (putRecords (ys ++ (x ∷ [])) []) ≡ length b + rowOf (x .kind) .length = ap length e ∙ length-append b (putRecord x []) ∙ ap (λ (k : ℕ). length b + k) (whole-length x) in
+    let l : length (putRecords (ys ++ (x ∷ [])) []) ≡ length b + rowOf (x .kind) .length = ap length e ∙ length-append b (putRecord x []) ∙ ap
+    (λ (k : ℕ). length b + k) (whole-length x) in
     ⊎-elim
     (λ g. ⊎-elim
     (λ f. subst (λ (v : List ℕ). Cut (take n v)) (sym e) (cut-more ys q x t n r ay j g f))
@@ -235,7 +243,8 @@ cut-reads xs q (next {xs = ys} {q = p} x t r k) a n h =
 pub prefix : (s : List ℕ) → Bytes s → isWhole (readOf s .reading) ≡ true → (n : ℕ) → n ≤ length s → Cut (take n s)
 prefix s b e n h =
     let f = file-of s b e in
-    subst (λ (v : List ℕ). Cut (take n v)) (sym (f .bytes)) (cut-reads (recordsOf s) (lastOf s) (f .reads) (f .fit) n (subst (λ (v : List ℕ). n ≤ length v) (f .bytes) h))
+    subst (λ (v : List ℕ). Cut (take n v)) (sym (f .bytes))
+    (cut-reads (recordsOf s) (lastOf s) (f .reads) (f .fit) n (subst (λ (v : List ℕ). n ≤ length v) (f .bytes) h))
 
 refusal-cut : (p : List ℕ) → Cut p → refusalOf (readOf p .reading) ≤ 1
 refusal-cut p (between xs q r e z g) = rw g (omega arith)

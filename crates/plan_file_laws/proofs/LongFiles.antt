@@ -103,7 +103,8 @@ module _ (u v : List ℕ) (q : State) (same : (i : ℕ) → i < 9 → getD u i 0
   row-same r n =
       let e = record-same u v same r n in
       let l = n .length in
-      (λ i. judgedStep q r (e i) (faultOf r (e i) (length u) q)) ∙ ap (judgedStep q r (recordFrom v r)) (fault-same r (recordFrom v r) (length u) (length v) q (omega arith) (omega arith))
+      (λ i. judgedStep q r (e i) (faultOf r (e i) (length u) q)) ∙ ap (judgedStep q r (recordFrom v r))
+      (fault-same r (recordFrom v r) (length u) (length v) q (omega arith) (omega arith))
 
   record-step-same : recordStep u q ≡ recordStep v q
   unfolding recordStep
@@ -133,7 +134,8 @@ module _ (s : List ℕ) (n : ℕ) (enough : 20865 ≤ n) (there : n ≤ length s
       go true e =
           let z = size in
           on (take n s) q e (omega arith)
-          ∙ record-step-same (drop (q .at) (take n s)) (drop (q .at) s) q (λ i l. drop-same s n (q .at) i (omega arith)) (omega (arith, length-drop (q .at) (take n s))) (omega (arith, length-drop (q .at) s))
+          ∙ record-step-same (drop (q .at) (take n s)) (drop (q .at) s) q (λ i l. drop-same s n (q .at) i (omega arith))
+          (omega (arith, length-drop (q .at) (take n s))) (omega (arith, length-drop (q .at) s))
           ∙ sym (on s q e (omega arith))
 
   steps-same : (i : ℕ) → stepsOf (take n s) i ≡ stepsOf s i
@@ -148,7 +150,8 @@ module _ (s : List ℕ) (n : ℕ) (enough : 20865 ≤ n) (there : n ≤ length s
       go : (t : Bool) → isWhole (stepsOf s n .reading) ≡ t → t ≡ false
       go false e = refl
       go true e =
-          let d : isDone n (stepsOf s n) ≡ true = subst (λ (m : ℕ). isDone m (stepsOf s n) ≡ true) size (subst (λ (q : State). isDone (length (take n s)) q ≡ true) (ap (stepsOf (take n s)) size ∙ steps-same n) (finished (take n s))) in
+          let d : isDone n (stepsOf s n) ≡ true = subst (λ (m : ℕ). isDone m (stepsOf s n) ≡ true) size
+          (subst (λ (q : State). isDone (length (take n s)) q ≡ true) (ap (stepsOf (take n s)) size ∙ steps-same n) (finished (take n s))) in
           let f : isDone n (stepsOf s n) ≡ false = rw (e, lt-leb n (stepsOf s n .at) (omega (arith, at-most s n))) in
           absurd (true-false (isDone n (stepsOf s n)) d f)
 

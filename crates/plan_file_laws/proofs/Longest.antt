@@ -92,7 +92,8 @@ less-item : (w : Wanted) → lessOne w .item ≡ w .item
 unfolding lessOne
 less-item w = go (ltb 0 (w .left))
   where
-    go : (t : Bool) → cond {A = Wanted} t (record { item = w .item; left = w .left - 1; more = w .more; scan = w .scan }) (record { item = w .item; left = w .left; more = w .more - 1; scan = w .scan }) .item ≡ w .item
+    go : (t : Bool) → cond {A = Wanted} t (record { item = w .item; left = w .left - 1; more = w .more; scan = w .scan })
+        (record { item = w .item; left = w .left; more = w .more - 1; scan = w .scan }) .item ≡ w .item
     go true = refl
     go false = refl
 
@@ -107,7 +108,8 @@ data Far (q : State) : Type 0 where
       q .at ≤ roomOf 3 (q .plan) → (0 < q .plan .operators .count → q .at + 4 ≤ roomOf 3 (q .plan)) → rowOf (q .wanted .item) .length ≤ 3 → Far q
   wide : q .at + 8 ≤ roomOf 5 (q .plan) → Far q
 
-module _ (q : State) (x : Record) (o : handlesOk (rowOf (x .kind)) x (q .plan .columns .count) (q .plan .expressions .count) (q .plan .operators .count) ≡ true) where
+module _ (q : State) (x : Record) (o : handlesOk (rowOf (x .kind)) x (q .plan .columns .count) (q .plan .expressions .count) (q .plan .operators .count)
+    ≡ true) where
   first-there : rowOf (x .kind) .a ≡ 4 → 0 < q .plan .operators .count
   first-there e = input-there (rowOf (x .kind) .a) (x .a) _ _ _ e (handles (rowOf (x .kind)) x _ _ _ o .a)
 

@@ -74,7 +74,8 @@ module _ (p q : Plan) (e : Extends p q) where
       }
 
 -- a new operator has no items yet
-pub marks-operator : (p : Plan) (x : Record) (scans : List ℕ) → Sized p → p .operators .count < 128 → Marks scans p → Marks scans (withOperator p x (p .items .count))
+pub marks-operator : (p : Plan) (x : Record) (scans : List ℕ) → Sized p → p .operators .count < 128 → Marks scans p → Marks scans
+    (withOperator p x (p .items .count))
 marks-operator p x scans s room m =
     let q = withOperator p x (p .items .count) in
     let e = operator-longer p x (p .items .count) in
@@ -167,7 +168,8 @@ module _ (w : Wanted) (p : Plan) (z : kindWanted w ≡ 0 → ⊥) where
       )
 
   -- the next item is of a Scan only where the list that is read is that Scan's
-  pub next-scan : Phase w p → (i : ℕ) → i < p .operators .count → operatorRecord p i .kind ≡ 0x30 → p .items .count < operatorStart p i + operatorRecord p i .b → (suc i ≡ p .operators .count) × (w .scan ≡ true)
+  pub next-scan : Phase w p → (i : ℕ) → i < p .operators .count → operatorRecord p i .kind ≡ 0x30 → p .items .count < operatorStart p i + operatorRecord p
+      i .b → (suc i ≡ p .operators .count) × (w .scan ≡ true)
   next-scan (closed n r) i h k inside = absurd (let l = some-left w z in omega arith)
   next-scan (open-expr j e r o) i h k inside = absurd (let g = scan-whole p i k (r .operator i h) in omega arith)
   next-scan (open-operator j e r o) i h k inside =
@@ -178,18 +180,21 @@ module _ (w : Wanted) (p : Plan) (z : kindWanted w ≡ 0 → ⊥) where
       (below-or-not i j)
 
 module _ (w : Wanted) (p : Plan) (x : Record) (scans : List ℕ) (s : Sized p) (room : p .items .count < 2048) (z : kindWanted w ≡ 0 → ⊥) (ph : Phase w p)
-    (few : p .columns .count ≤ 64) (k : x .kind ≡ kindWanted w) (sort : rowOf (x .kind) .sort ≡ 4) (g : handlesOk (rowOf (x .kind)) x (p .columns .count) (p .expressions .count) (p .operators .count) ≡ true)
+    (few : p .columns .count ≤ 64) (k : x .kind ≡ kindWanted w) (sort : rowOf (x .kind) .sort ≡ 4)
+    (g : handlesOk (rowOf (x .kind)) x (p .columns .count) (p .expressions .count) (p .operators .count) ≡ true)
     (once : scannedTwice (rowOf (x .kind)) x w scans (p .operators .count) ≡ false) (m : Marks scans p) where
   -- a Scan's item is a column
   below : (i : ℕ) → Scanning w p i → x .a < 64
   below i v =
-      let c : x .a < p .columns .count = column-below (x .a) _ _ _ (rowOf (x .kind) .a) (ap (λ (u : ℕ). rowOf u .a) (k ∙ v .item) ∙ column-item) (handles (rowOf (x .kind)) x _ _ _ g .a) in
+      let c : x .a < p .columns .count = column-below (x .a) _ _ _ (rowOf (x .kind) .a) (ap (λ (u : ℕ). rowOf u .a) (k ∙ v .item) ∙ column-item)
+      (handles (rowOf (x .kind)) x _ _ _ g .a) in
       omega arith
 
   free : w .scan ≡ true → (getD scans (x .a) 0 ≡ 0) ⊎ (getD scans (x .a) 0 ≡ p .operators .count)
   free t =
       ⊎-elim (λ h. inl (eqb-true _ _ h)) (λ h. inr (eqb-true _ _ h))
-      (untwice (eqb (rowOf (x .kind) .sort) 4) (w .scan) (eqb (getD scans (x .a) 0) 0) (eqb (getD scans (x .a) 0) (p .operators .count)) (eq-eqb _ _ sort) t once)
+      (untwice (eqb (rowOf (x .kind) .sort) 4) (w .scan) (eqb (getD scans (x .a) 0) 0) (eqb (getD scans (x .a) 0) (p .operators .count)) (eq-eqb _ _ sort) t
+      once)
 
   abbrev after : Bool → List ℕ
   after t = cond t (set scans (x .a) (p .operators .count)) scans
@@ -202,7 +207,8 @@ module _ (w : Wanted) (p : Plan) (x : Record) (scans : List ℕ) (s : Sized p) (
         | yes q ↦ (let v = scanning w p z ph t in
             let h : getD scans (x .a) 0 ≡ suc i = sym (ap (λ (u : ℕ). getD scans u 0) q) ∙ e in
             let n : p .operators .count ≡ suc i = ⊎-elim (λ o. absurd (omega arith)) (λ o. sym o ∙ h) (free t) in
-            ap (λ (u : ℕ). getD (set scans (x .a) (p .operators .count)) u 0) q ∙ getD-set-same scans (x .a) (p .operators .count) 0 (omega (arith, m .size, below (v .0) (v .1))) ∙ n)
+            ap (λ (u : ℕ). getD (set scans (x .a) (p .operators .count)) u 0) q ∙ getD-set-same scans (x .a) (p .operators .count) 0
+            (omega (arith, m .size, below (v .0) (v .1))) ∙ n)
         | no q ↦ getD-set-other scans (x .a) c (p .operators .count) 0 q ∙ e
       ]
 
@@ -232,7 +238,8 @@ module _ (w : Wanted) (p : Plan) (x : Record) (scans : List ℕ) (s : Sized p) (
         | no q ↦ has-later p (withItem p x) (item-longer p x) i c (m .sound i c (sym (getD-set-other scans (x .a) c (p .operators .count) 0 q) ∙ e))
         | yes q ↦ (let v = scanning w p z ph t in
             let b = v .1 in
-            let n : p .operators .count ≡ suc i = sym (getD-set-same scans (x .a) (p .operators .count) 0 (omega (arith, m .size, below (v .0) b))) ∙ sym (ap (λ (u : ℕ). getD (set scans (x .a) (p .operators .count)) u 0) q) ∙ e in
+            let n : p .operators .count ≡ suc i = sym (getD-set-same scans (x .a) (p .operators .count) 0 (omega (arith, m .size, below (v .0) b))) ∙ sym
+            (ap (λ (u : ℕ). getD (set scans (x .a) (p .operators .count)) u 0) q) ∙ e in
             let j : v .0 ≡ i = omega (arith, b .last) in
             let y = operatorRecord p (v .0) in
             subst (λ (u : ℕ). ScanHas (withItem p x) u c) j

@@ -29,7 +29,8 @@ use Rattle.plan_file_laws.proofs.Phases.{RulesTo, shut}
 use Rattle.plan_file_laws.proofs.RulesRead.{Kept, rules-in}
 use Rattle.plan_file_laws.proofs.Written.{All}
 use Rattle.plan_file_laws.proofs.Sequences.{Reads, begin, next, all-left, all-last, file-of, kept-reads}
-use Rattle.plan_file_laws.proofs.Parts.{endsIn, belongs-item, Joins, joins, joins-head, Lists, Three, Parts, at-rest, in-expr, in-operator, parts-whole, parts-column, parts-expr, parts-operator, parts-item}
+use Rattle.plan_file_laws.proofs.Parts.{endsIn, belongs-item, Joins, joins, joins-head, Lists, Three, Parts, at-rest, in-expr, in-operator}
+use Rattle.plan_file_laws.proofs.Parts.{parts-whole, parts-column, parts-expr, parts-operator, parts-item}
 
 -- the lists of a plan that keeps the rules are whole
 pub lists-of : (p : Plan) (e o : ℕ) → RulesTo p e o → Lists p e o
@@ -37,10 +38,12 @@ unfolding exprOkOf operatorOkOf listsOk
 lists-of p e o r =
     record {
       expr = λ i h. leb-true _ _ (and-left _ _ (and-right (recordOk 2 (exprRecord p i) (p .columns .count) i (p .operators .count)) _ (r .expr i h)));
-      operator = λ i h. leb-true _ _ (and-left _ _ (and-right (recordOk 3 (operatorRecord p i) (p .columns .count) (p .expressions .count) i) _ (r .operator i h)));
+      operator = λ i h. leb-true _ _
+          (and-left _ _ (and-right (recordOk 3 (operatorRecord p i) (p .columns .count) (p .expressions .count) i) _ (r .operator i h)));
     }
 
-parts-way : (xs : List Record) (q : State) (x : Record) (t : State) → Kept q → Fits x → Way q x t → Parts xs (q .wanted) (q .plan) → Parts (xs ++ (x ∷ [])) (t .wanted) (t .plan)
+parts-way : (xs : List Record) (q : State) (x : Record) (t : State) → Kept q → Fits x → Way q x t → Parts xs (q .wanted) (q .plan) → Parts (xs ++ (x ∷ []))
+    (t .wanted) (t .plan)
 parts-way xs q x t k f (a-column s h z) a =
     let r = shut (q .wanted) (q .plan) (k .wants) z (k .phase) in
     parts-column xs x (q .plan) (r .sized) f (lists-of (q .plan) _ _ r) (parts-whole xs (q .wanted) (q .plan) (k .wants) z a) h s
@@ -64,16 +67,19 @@ parts-reads xs q (next {xs = ys} {q = p} x t r k) a =
 -- Where no item is wanted, the parts of the records are those of the plan to which they lead. Assumes nothing.
 pub three-reads :
     (xs : List Record) (q : State) → Reads xs q → All Fits xs → kindWanted (q .wanted) ≡ 0
-    → Three xs (columnsTo (q .plan) (q .plan .columns .count)) (exprsTo (q .plan) (q .plan .expressions .count)) (operatorsTo (q .plan) (q .plan .operators .count))
+    → Three xs (columnsTo (q .plan) (q .plan .columns .count)) (exprsTo (q .plan) (q .plan .expressions .count))
+    (operatorsTo (q .plan) (q .plan .operators .count))
 three-reads xs q r a z = parts-whole xs (q .wanted) (q .plan) (kept-reads xs q r .wants) z (parts-reads xs q r a)
 
 -- The plan of an accepted file gives back its columns, its expressions with their items, and its operators with their items. Assumes nothing.
 pub parts-read :
     (s : List ℕ) → Bytes s → isWhole (readOf s .reading) ≡ true
-    → Three (recordsOf s) (columnsTo (readOf s .plan) (readOf s .plan .columns .count)) (exprsTo (readOf s .plan) (readOf s .plan .expressions .count)) (operatorsTo (readOf s .plan) (readOf s .plan .operators .count))
+    → Three (recordsOf s) (columnsTo (readOf s .plan) (readOf s .plan .columns .count)) (exprsTo (readOf s .plan) (readOf s .plan .expressions .count))
+    (operatorsTo (readOf s .plan) (readOf s .plan .operators .count))
 parts-read s b e =
     let f = file-of s b e in
-    subst (λ (p : Plan). Three (recordsOf s) (columnsTo p (p .columns .count)) (exprsTo p (p .expressions .count)) (operatorsTo p (p .operators .count))) (sym (f .plan))
+    subst (λ (p : Plan). Three (recordsOf s) (columnsTo p (p .columns .count)) (exprsTo p (p .expressions .count)) (operatorsTo p (p .operators .count)))
+    (sym (f .plan))
     (three-reads (recordsOf s) (lastOf s) (f .reads) (f .fit) (f .nothing))
 
 -- Two accepted files with one plan have the same three parts. Assumes nothing.
@@ -105,14 +111,17 @@ abbrev Sum : List Record → Type 0
 Sum xs = length (partOf 1 xs) + (length (partOf 2 xs) + length (partOf 3 xs)) ≡ length xs
 
 sum-next :
-    (xs : List Record) (x : Record) (a b c : Bool) → Joins 1 xs x a → Joins 2 xs x b → Joins 3 xs x c → bit a + (bit b + bit c) ≡ 1 → Sum xs → Sum (xs ++ (x ∷ []))
+    (xs : List Record) (x : Record) (a b c : Bool) → Joins 1 xs x a → Joins 2 xs x b → Joins 3 xs x c → bit a + (bit b + bit c) ≡ 1 → Sum xs → Sum
+    (xs ++ (x ∷ []))
 sum-next xs x a b c j1 j2 j3 e s =
     omega (arith, one-longer 1 xs x a j1, one-longer 2 xs x b j2, one-longer 3 xs x c j3, length-append xs (x ∷ []))
 
-sum-head : (xs : List Record) (x : Record) (n : ℕ) → rowOf (x .kind) .sort ≡ n → (n ≡ 4 → ⊥) → bit (eqb n 1) + (bit (eqb n 2) + bit (eqb n 3)) ≡ 1 → Sum xs → Sum (xs ++ (x ∷ []))
+sum-head : (xs : List Record) (x : Record) (n : ℕ) → rowOf (x .kind) .sort ≡ n → (n ≡ 4 → ⊥) → bit (eqb n 1) + (bit (eqb n 2) + bit (eqb n 3)) ≡ 1 → Sum xs
+    → Sum (xs ++ (x ∷ []))
 sum-head xs x n e f g s = sum-next xs x (eqb n 1) (eqb n 2) (eqb n 3) (joins-head 1 xs x n e f) (joins-head 2 xs x n e f) (joins-head 3 xs x n e f) g s
 
-sum-item : (xs : List Record) (x : Record) (w : Wanted) (p : Plan) → rowOf (x .kind) .sort ≡ 4 → (kindWanted w ≡ 0 → ⊥) → Parts xs w p → Sum xs → Sum (xs ++ (x ∷ []))
+sum-item : (xs : List Record) (x : Record) (w : Wanted) (p : Plan) → rowOf (x .kind) .sort ≡ 4 → (kindWanted w ≡ 0 → ⊥) → Parts xs w p → Sum xs → Sum
+    (xs ++ (x ∷ []))
 unfolding bit
 sum-item xs x w p e z (at-rest n t) s = absurd (let l = some-left w z in omega arith)
 sum-item xs x w p e z (in-expr i n l o a b c t) s = sum-next xs x false true false (join 1 false a) (join 2 true b) (join 3 false c) refl s
@@ -139,5 +148,6 @@ sum-reads xs q (next {xs = ys} {q = p} x t r k) a =
     sum-way ys p x t (k .way) (parts-reads ys p r b) (sum-reads ys p r b)
 
 -- The three parts of an accepted file have together as many records as the file: none is left out. Assumes nothing.
-pub parts-all : (s : List ℕ) → Bytes s → isWhole (readOf s .reading) ≡ true → length (partOf 1 (recordsOf s)) + (length (partOf 2 (recordsOf s)) + length (partOf 3 (recordsOf s))) ≡ length (recordsOf s)
+pub parts-all : (s : List ℕ) → Bytes s → isWhole (readOf s .reading) ≡ true → length (partOf 1 (recordsOf s))
+    + (length (partOf 2 (recordsOf s)) + length (partOf 3 (recordsOf s))) ≡ length (recordsOf s)
 parts-all s b e = let f = file-of s b e in sum-reads (recordsOf s) (lastOf s) (f .reads) (f .fit)

@@ -88,7 +88,14 @@ open-less w x st n z o =
           (record { begun = omega (arith, o .begun); here = omega (arith, o .here); all = λ h. o .all l; part = o .part; kind = o .kind; scan = o .scan })
       | no l ↦ elim (decLt 0 (w .more)) [
         | yes m ↦ subst (λ (v : Wanted). Open v x st (n + 1)) (sym (less-second w (omega arith)))
-            (record { begun = omega (arith, o .begun); here = omega (arith, o .here); all = λ h. absurd (omega arith); part = omega (arith, o .part); kind = o .kind; scan = o .scan })
+            (record {
+              begun = omega (arith, o .begun);
+              here = omega (arith, o .here);
+              all = λ h. absurd (omega arith);
+              part = omega (arith, o .part);
+              kind = o .kind;
+              scan = o .scan;
+            })
         | no m ↦ absurd (z (kind-none w (omega arith) (omega arith)))
       ]
     ]

@@ -19,7 +19,8 @@ use Rattle.plan.specs.declared.Plan.{Plan}
 use Rattle.plan.specs.Append.{withColumn, withExpr, withOperator, withItem}
 use Rattle.plan.specs.Records.{exprRecord, exprStart, operatorRecord, operatorStart, itemRecord}
 use Rattle.plan.specs.Extends.{Extends, Sized}
-use Rattle.plan.proofs.AppendLaws.{column-longer, expr-longer, operator-longer, item-longer, new-column, new-expr, new-expr-start, new-operator, new-operator-start, new-item}
+use Rattle.plan.proofs.AppendLaws.{column-longer, expr-longer, operator-longer, item-longer, new-column, new-expr, new-expr-start, new-operator}
+use Rattle.plan.proofs.AppendLaws.{new-operator-start, new-item}
 use Rattle.plan_file.specs.declared.Wanted.{Wanted}
 use Rattle.plan_file.specs.Steps.{kindWanted, lessOne, listOf}
 use Rattle.plan_file.proofs.StepCases.{Wants}
@@ -70,7 +71,8 @@ unfolding endsIn
 ends-snoc k on [] x = refl
 ends-snoc k on (y ∷ xs) x = ends-snoc k (belongs k on y) xs x
 
-part-snoc : (k : ℕ) (on : Bool) (xs : List Record) (x : Record) → partFrom k on (xs ++ (x ∷ [])) ≡ partFrom k on xs ++ cond (belongs k (endsIn k on xs) x) (x ∷ []) []
+part-snoc : (k : ℕ) (on : Bool) (xs : List Record) (x : Record) → partFrom k on (xs ++ (x ∷ [])) ≡ partFrom k on xs ++ cond (belongs k (endsIn k on xs) x)
+    (x ∷ []) []
 unfolding endsIn partFrom
 part-snoc k on [] x = go (belongs k on x)
   where
@@ -127,19 +129,23 @@ module _ (p q : Plan) (e : Extends p q) where
   columns-same zero h = refl
   columns-same (suc n) h = λ i. columns-same n (omega arith) i ++ (e .column n (omega arith) i ∷ [])
 
-  exprs-same : (n : ℕ) → n ≤ p .expressions .count → ((i : ℕ) → i < n → exprStart p i + (firstOf (exprRecord p i) + secondOf (exprRecord p i)) ≤ p .items .count) → exprsTo q n ≡ exprsTo p n
+  exprs-same : (n : ℕ) → n ≤ p .expressions .count → ((i : ℕ) → i < n → exprStart p i + (firstOf (exprRecord p i) + secondOf (exprRecord p i))
+      ≤ p .items .count) → exprsTo q n ≡ exprsTo p n
   unfolding exprsTo
   exprs-same zero h w = refl
   exprs-same (suc n) h w =
       λ i. exprs-same n (omega arith) (λ j l. w j (omega arith)) i
-      ++ with-same (exprRecord q n) (exprRecord p n) (exprStart q n) (exprStart p n) (e .expr n (omega arith)) (e .expr-start n (omega arith)) (w n (omega arith)) i
+      ++ with-same (exprRecord q n) (exprRecord p n) (exprStart q n) (exprStart p n) (e .expr n (omega arith)) (e .expr-start n (omega arith))
+      (w n (omega arith)) i
 
-  operators-same : (n : ℕ) → n ≤ p .operators .count → ((i : ℕ) → i < n → operatorStart p i + (firstOf (operatorRecord p i) + secondOf (operatorRecord p i)) ≤ p .items .count) → operatorsTo q n ≡ operatorsTo p n
+  operators-same : (n : ℕ) → n ≤ p .operators .count → ((i : ℕ) → i < n → operatorStart p i + (firstOf (operatorRecord p i) + secondOf (operatorRecord p i))
+      ≤ p .items .count) → operatorsTo q n ≡ operatorsTo p n
   unfolding operatorsTo
   operators-same zero h w = refl
   operators-same (suc n) h w =
       λ i. operators-same n (omega arith) (λ j l. w j (omega arith)) i
-      ++ with-same (operatorRecord q n) (operatorRecord p n) (operatorStart q n) (operatorStart p n) (e .operator n (omega arith)) (e .operator-start n (omega arith)) (w n (omega arith)) i
+      ++ with-same (operatorRecord q n) (operatorRecord p n) (operatorStart q n) (operatorStart p n) (e .operator n (omega arith))
+      (e .operator-start n (omega arith)) (w n (omega arith)) i
 
 -- ---- a record is what its table keeps of it
 column-eta : (x : Record) → Fits x → rowOf (x .kind) .sort ≡ 1 → record { kind = 0x01; code = x .code; a = x .a; b = 0; c = 0; d = 0; bits = 0 } ≡ x
@@ -159,14 +165,16 @@ expr-eta x f s =
     let d = sym (f .no-d (expr-row (x .kind) s .d)) in
     λ i. record { kind = x .kind; code = x .code; a = x .a; b = x .b; c = c i; d = d i; bits = x .bits }
 
-operator-eta : (x : Record) → Fits x → rowOf (x .kind) .sort ≡ 3 → record { kind = x .kind; code = x .code; a = x .a; b = x .b; c = x .c; d = x .d; bits = 0 } ≡ x
+operator-eta : (x : Record) → Fits x → rowOf (x .kind) .sort ≡ 3 → record { kind = x .kind; code = x .code; a = x .a; b = x .b; c = x .c; d = x .d; bits = 0 }
+    ≡ x
 operator-eta x f s =
     let z = sym (f .no-bits (no-bits (x .kind) (λ e. omega arith))) in
     λ i. record { kind = x .kind; code = x .code; a = x .a; b = x .b; c = x .c; d = x .d; bits = z i }
 
 -- an item, as the next one of its list
 item-eta :
-    (p : Plan) (x y : Record) (st m : ℕ) → Sized p → p .items .count < 2048 → Fits x → rowOf (x .kind) .sort ≡ 4 → itemKind y m ≡ x .kind → st + m ≡ p .items .count
+    (p : Plan) (x y : Record) (st m : ℕ) → Sized p → p .items .count < 2048 → Fits x → rowOf (x .kind) .sort ≡ 4 → itemKind y m ≡ x .kind → st + m
+    ≡ p .items .count
     → itemOf (withItem p x) y st m ≡ x
 item-eta p x y st m z room f s k e =
     let n = ap (itemRecord (withItem p x)) e ∙ new-item p x z room in
@@ -189,16 +197,19 @@ pub data Parts (xs : List Record) (w : Wanted) (p : Plan) : Type 0 where
   in-expr :
       (i : ℕ) → p .expressions .count ≡ suc i → Lists p i (p .operators .count) → Open w (exprRecord p i) (exprStart p i) (p .items .count)
       → endsIn 1 false xs ≡ false → endsIn 2 false xs ≡ true → endsIn 3 false xs ≡ false
-      → Three xs (columnsTo p (p .columns .count)) (exprsTo p i ++ (exprRecord p i ∷ itemsOf p (exprRecord p i) (exprStart p i) (p .items .count - exprStart p i))) (operatorsTo p (p .operators .count))
+      → Three xs (columnsTo p (p .columns .count))
+      (exprsTo p i ++ (exprRecord p i ∷ itemsOf p (exprRecord p i) (exprStart p i) (p .items .count - exprStart p i))) (operatorsTo p (p .operators .count))
       → Parts xs w p
   in-operator :
       (i : ℕ) → p .operators .count ≡ suc i → Lists p (p .expressions .count) i → Open w (operatorRecord p i) (operatorStart p i) (p .items .count)
       → endsIn 1 false xs ≡ false → endsIn 2 false xs ≡ false → endsIn 3 false xs ≡ true
-      → Three xs (columnsTo p (p .columns .count)) (exprsTo p (p .expressions .count)) (operatorsTo p i ++ (operatorRecord p i ∷ itemsOf p (operatorRecord p i) (operatorStart p i) (p .items .count - operatorStart p i)))
+      → Three xs (columnsTo p (p .columns .count)) (exprsTo p (p .expressions .count))
+      (operatorsTo p i ++ (operatorRecord p i ∷ itemsOf p (operatorRecord p i) (operatorStart p i) (p .items .count - operatorStart p i)))
       → Parts xs w p
 
 -- where no item is wanted, the parts are whole
-pub parts-whole : (xs : List Record) (w : Wanted) (p : Plan) → Wants w → kindWanted w ≡ 0 → Parts xs w p → Three xs (columnsTo p (p .columns .count)) (exprsTo p (p .expressions .count)) (operatorsTo p (p .operators .count))
+pub parts-whole : (xs : List Record) (w : Wanted) (p : Plan) → Wants w → kindWanted w ≡ 0 → Parts xs w p → Three xs (columnsTo p (p .columns .count))
+    (exprsTo p (p .expressions .count)) (operatorsTo p (p .operators .count))
 unfolding exprsTo operatorsTo
 parts-whole xs w p f z (at-rest n t) = t
 parts-whole xs w p f z (in-expr i e l o a b c t) =
@@ -262,7 +273,8 @@ module _ (xs : List Record) (x : Record) (p : Plan) (z : Sized p) (f : Fits x) (
         operators = operators-stay xs x p q e l t (joins-head 3 xs x 1 s (λ u. omega arith));
       })
 
-  pub parts-expr : p .expressions .count < 1024 → rowOf (x .kind) .sort ≡ 2 → Parts (xs ++ (x ∷ [])) (listOf (rowOf (x .kind)) x) (withExpr p x (p .items .count))
+  pub parts-expr : p .expressions .count < 1024 → rowOf (x .kind) .sort ≡ 2 → Parts (xs ++ (x ∷ [])) (listOf (rowOf (x .kind)) x)
+      (withExpr p x (p .items .count))
   unfolding itemsOf
   parts-expr h s =
       let q = withExpr p x (p .items .count) in
@@ -280,7 +292,8 @@ module _ (xs : List Record) (x : Record) (p : Plan) (z : Sized p) (f : Fits x) (
         operators = operators-stay xs x p q e l t (joins-head 3 xs x 2 s (λ u. omega arith));
       })
 
-  pub parts-operator : p .operators .count < 128 → rowOf (x .kind) .sort ≡ 3 → Parts (xs ++ (x ∷ [])) (listOf (rowOf (x .kind)) x) (withOperator p x (p .items .count))
+  pub parts-operator : p .operators .count < 128 → rowOf (x .kind) .sort ≡ 3 → Parts (xs ++ (x ∷ [])) (listOf (rowOf (x .kind)) x)
+      (withOperator p x (p .items .count))
   unfolding itemsOf
   parts-operator h s =
       let q = withOperator p x (p .items .count) in
@@ -294,12 +307,14 @@ module _ (xs : List Record) (x : Record) (p : Plan) (z : Sized p) (f : Fits x) (
         columns = columns-stay xs x p q e l t (joins-head 1 xs x 3 s (λ u. omega arith));
         exprs = exprs-stay xs x p q e l t (joins-head 2 xs x 3 s (λ u. omega arith));
         operators = j .part
-            ∙ (λ i. (t .operators ∙ sym (operators-same p q e n (omega arith) (l .operator))) i ++ (sym (new-operator p x (p .items .count) z h ∙ operator-eta x f s) i ∷ []))
+            ∙ (λ i. (t .operators ∙ sym (operators-same p q e n (omega arith) (l .operator))) i
+            ++ (sym (new-operator p x (p .items .count) z h ∙ operator-eta x f s) i ∷ []))
             ∙ ap (λ (k : ℕ). operatorsTo q n ++ (operatorRecord q n ∷ itemsOf q (operatorRecord q n) (operatorStart q n) k)) (sym d);
       })
 
 -- one item more in its list
-module _ (w : Wanted) (p : Plan) (x : Record) (z : Sized p) (room : p .items .count < 2048) (n : kindWanted w ≡ 0 → ⊥) (f : Fits x) (s : rowOf (x .kind) .sort ≡ 4) (k : x .kind ≡ kindWanted w) where
+module _ (w : Wanted) (p : Plan) (x : Record) (z : Sized p) (room : p .items .count < 2048) (n : kindWanted w ≡ 0 → ⊥) (f : Fits x)
+    (s : rowOf (x .kind) .sort ≡ 4) (k : x .kind ≡ kindWanted w) where
   list-more :
       (y : Record) (st : ℕ) → Open w y st (p .items .count)
       → itemsOf p y st (p .items .count - st) ++ (x ∷ []) ≡ itemsOf (withItem p x) y st (p .items .count + 1 - st)
@@ -330,7 +345,8 @@ module _ (w : Wanted) (p : Plan) (x : Record) (z : Sized p) (room : p .items .co
         exprs = j .part ∙ ap (λ (v : List Record). v ++ (x ∷ [])) (t .exprs)
             ∙ append-assoc (exprsTo p i) (y ∷ itemsOf p y st (p .items .count - st)) (x ∷ [])
             ∙ (λ i2. sym (exprs-same p q g i (omega arith) (l .expr)) i2 ++ (y ∷ list-more y st o i2));
-        operators = joins-item 3 xs false c .part ∙ append-nil (partOf 3 xs) ∙ t .operators ∙ sym (operators-same p q g (p .operators .count) (omega arith) (l .operator));
+        operators = joins-item 3 xs false c .part ∙ append-nil (partOf 3 xs) ∙ t .operators ∙ sym
+            (operators-same p q g (p .operators .count) (omega arith) (l .operator));
       })
   parts-item xs (in-operator i e l o a b c t) =
       let q = withItem p x in

@@ -18,7 +18,9 @@ use Rattle.plan.specs.declared.Plan.{Plan}
 use Rattle.plan.specs.Append.{withColumn, withExpr, withOperator, withItem}
 use Rattle.plan.specs.Records.{exprRecord, exprStart, operatorRecord, operatorStart, itemRecord}
 use Rattle.plan.specs.Extends.{Extends, Sized}
-use Rattle.plan.proofs.AppendLaws.{column-longer, expr-longer, operator-longer, item-longer, column-longer-sized, expr-longer-sized, operator-longer-sized, item-longer-sized, new-column, new-expr, new-expr-start, new-operator, new-operator-start, new-item}
+use Rattle.plan.proofs.AppendLaws.{column-longer, expr-longer, operator-longer, item-longer, column-longer-sized, expr-longer-sized}
+use Rattle.plan.proofs.AppendLaws.{operator-longer-sized, item-longer-sized, new-column, new-expr, new-expr-start, new-operator, new-operator-start}
+use Rattle.plan.proofs.AppendLaws.{new-item}
 use Rattle.plan_rules.specs.Rules.{recordOk, itemOk, listsOk, columnOk, exprOkOf, exprOk, operatorOkOf, operatorOk, countsWithin, countsOk}
 use Rattle.plan_rules.proofs.RuleLaws.{expr-kept, operator-kept}
 use Rattle.plan_file.specs.declared.Wanted.{Wanted}
@@ -58,7 +60,8 @@ rules-grow p q e o x s w c r =
     record {
       sized = s;
       within = w;
-      column = λ i h. ⊎-elim (λ l. subst (λ (y : Record). (leb 1 (y .code) && leb (y .code) 5) ≡ true) (sym (x .column i l)) (r .column i l)) (λ g. c i g h) (below-or-not i (p .columns .count));
+      column = λ i h. ⊎-elim (λ l. subst (λ (y : Record). (leb 1 (y .code) && leb (y .code) 5) ≡ true) (sym (x .column i l)) (r .column i l)) (λ g. c i g h)
+          (below-or-not i (p .columns .count));
       expr = λ i h. expr-kept p q x i (omega (arith, r .exprs)) (r .expr i h);
       operator = λ i h. operator-kept p q x i (omega (arith, r .operators)) (r .operator i h);
       exprs = le-trans (r .exprs) (x .exprs);
@@ -81,7 +84,8 @@ pub data Phase (w : Wanted) (p : Plan) : Type 0 where
       → OpenAt w p 3 (operatorRecord p i) (operatorStart p i) (p .columns .count) (p .expressions .count) i (p .expressions .count) i → Phase w p
 
 -- ---- where no item is wanted, the list is right
-module _ (w : Wanted) (p : Plan) (sort : ℕ) (x : Record) (st nc ne np me mp : ℕ) (f : Wants w) (z : kindWanted w ≡ 0) (o : OpenAt w p sort x st nc ne np me mp) where
+module _ (w : Wanted) (p : Plan) (sort : ℕ) (x : Record) (st nc ne np me mp : ℕ) (f : Wants w) (z : kindWanted w ≡ 0)
+    (o : OpenAt w p sort x st nc ne np me mp) where
   first-kind : (k : ℕ) → k < firstOf x → itemKind x k ≡ rowOf (x .kind) .item
   first-kind k h = rw (lt-ltb k (firstOf x) h)
 
@@ -95,7 +99,8 @@ module _ (w : Wanted) (p : Plan) (sort : ℕ) (x : Record) (st nc ne np me mp : 
   item-at j v lo hi e =
       let n : st + (j - st) ≡ j = omega arith in
       subst (λ (u : ℕ). itemOk (p .items .a) (p .items .b) u nc me mp j ≡ true) e
-      (subst (λ (u : ℕ). itemOk (p .items .a) (p .items .b) (itemKind x (j - st)) nc me mp u ≡ true) n (o .so-far (j - st) (omega arith) (omega (arith, whole))))
+      (subst (λ (u : ℕ). itemOk (p .items .a) (p .items .b) (itemKind x (j - st)) nc me mp u ≡ true) n
+      (o .so-far (j - st) (omega arith) (omega (arith, whole))))
 
   shut-lists : listsOk (p .items .a) (p .items .b) (p .items .count) x st nc me mp ≡ true
   unfolding listsOk
@@ -121,7 +126,8 @@ shut w p f z (open-expr i e r o) =
       sized = r .sized;
       within = r .within;
       column = r .column;
-      expr = upto (λ (j : ℕ). exprOk p j ≡ true) _ i e (r .expr) (and-both _ _ (o .record-ok) (shut-lists w p 2 (exprRecord p i) (exprStart p i) _ _ _ _ _ f z o));
+      expr = upto (λ (j : ℕ). exprOk p j ≡ true) _ i e (r .expr)
+          (and-both _ _ (o .record-ok) (shut-lists w p 2 (exprRecord p i) (exprStart p i) _ _ _ _ _ f z o));
       operator = r .operator;
       exprs = omega arith;
       operators = r .operators;
@@ -132,7 +138,8 @@ shut w p f z (open-operator i e r o) =
       within = r .within;
       column = r .column;
       expr = r .expr;
-      operator = upto (λ (j : ℕ). operatorOk p j ≡ true) _ i e (r .operator) (and-both _ _ (o .record-ok) (shut-lists w p 3 (operatorRecord p i) (operatorStart p i) _ _ _ _ _ f z o));
+      operator = upto (λ (j : ℕ). operatorOk p j ≡ true) _ i e (r .operator)
+          (and-both _ _ (o .record-ok) (shut-lists w p 3 (operatorRecord p i) (operatorStart p i) _ _ _ _ _ f z o));
       exprs = r .exprs;
       operators = omega arith;
     }
@@ -205,26 +212,32 @@ none-new n i a b = omega arith
 -- the list of a new record, as the table has it
 pub expr-open :
     (p : Plan) (x : Record) → Sized p → p .expressions .count < 1024 → rowOf (x .kind) .sort ≡ 2
-    → Open (listOf (rowOf (x .kind)) x) (exprRecord (withExpr p x (p .items .count)) (p .expressions .count)) (exprStart (withExpr p x (p .items .count)) (p .expressions .count)) (p .items .count)
+    → Open (listOf (rowOf (x .kind)) x) (exprRecord (withExpr p x (p .items .count)) (p .expressions .count))
+    (exprStart (withExpr p x (p .items .count)) (p .expressions .count)) (p .items .count)
 expr-open p x z h s =
-    subst (λ (st : ℕ). Open (listOf (rowOf (x .kind)) x) (exprRecord (withExpr p x (p .items .count)) (p .expressions .count)) st (p .items .count)) (sym (new-expr-start p x (p .items .count) z h))
+    subst (λ (st : ℕ). Open (listOf (rowOf (x .kind)) x) (exprRecord (withExpr p x (p .items .count)) (p .expressions .count)) st (p .items .count))
+    (sym (new-expr-start p x (p .items .count) z h))
     (subst (λ (y : Record). Open (listOf (rowOf (x .kind)) x) y (p .items .count) (p .items .count)) (sym (new-expr p x (p .items .count) z h))
     (open-new x (exprPart x) (p .items .count) refl (first-same (rowOf (x .kind)) x (exprPart x) refl refl)
     (second-none (rowOf (x .kind)) (exprPart x) (expr-row (x .kind) s .c) ∙ sym (second-none (rowOf (x .kind)) x (expr-row (x .kind) s .c)))))
 
 pub operator-open :
     (p : Plan) (x : Record) → Sized p → p .operators .count < 128
-    → Open (listOf (rowOf (x .kind)) x) (operatorRecord (withOperator p x (p .items .count)) (p .operators .count)) (operatorStart (withOperator p x (p .items .count)) (p .operators .count)) (p .items .count)
+    → Open (listOf (rowOf (x .kind)) x) (operatorRecord (withOperator p x (p .items .count)) (p .operators .count))
+    (operatorStart (withOperator p x (p .items .count)) (p .operators .count)) (p .items .count)
 operator-open p x z h =
-    subst (λ (st : ℕ). Open (listOf (rowOf (x .kind)) x) (operatorRecord (withOperator p x (p .items .count)) (p .operators .count)) st (p .items .count)) (sym (new-operator-start p x (p .items .count) z h))
+    subst (λ (st : ℕ). Open (listOf (rowOf (x .kind)) x) (operatorRecord (withOperator p x (p .items .count)) (p .operators .count)) st (p .items .count))
+    (sym (new-operator-start p x (p .items .count) z h))
     (subst (λ (y : Record). Open (listOf (rowOf (x .kind)) x) y (p .items .count) (p .items .count)) (sym (new-operator p x (p .items .count) z h))
-    (open-new x (operatorPart x) (p .items .count) refl (first-same (rowOf (x .kind)) x (operatorPart x) refl refl) (second-same (rowOf (x .kind)) x (operatorPart x) refl)))
+    (open-new x (operatorPart x) (p .items .count) refl (first-same (rowOf (x .kind)) x (operatorPart x) refl refl)
+    (second-same (rowOf (x .kind)) x (operatorPart x) refl)))
 
 none-yet : (st n k : ℕ) → st ≡ n → st + k < n → ⊥
 none-yet st n k e h = omega arith
 
 module _ (p : Plan) (x : Record) (r : RulesTo p (p .expressions .count) (p .operators .count)) where
-  pub phase-column : p .columns .count < 64 → rowOf (x .kind) .sort ≡ 1 → codeOk (rowOf (x .kind)) x ≡ true → Phase (listOf (rowOf (x .kind)) x) (withColumn p x)
+  pub phase-column : p .columns .count < 64 → rowOf (x .kind) .sort ≡ 1 → codeOk (rowOf (x .kind)) x ≡ true → Phase (listOf (rowOf (x .kind)) x)
+      (withColumn p x)
   phase-column h s c =
       let k = column-right x s c in
       let v = r .within in
@@ -233,7 +246,8 @@ module _ (p : Plan) (x : Record) (r : RulesTo p (p .expressions .count) (p .oper
       (record { columns = omega arith; exprs = v .exprs; operators = v .operators; items = v .items })
       (λ i a b.
       subst (λ (n : ℕ). columnOk (withColumn p x) n ≡ true) (only-new _ _ a b)
-      (subst (λ (y : Record). (leb 1 (y .code) && leb (y .code) 5) ≡ true) (sym (new-column p x (r .sized) h)) (and-both _ _ (le-leb 1 (x .code) (k .0)) (le-leb (x .code) 5 (k .1)))))
+      (subst (λ (y : Record). (leb 1 (y .code) && leb (y .code) 5) ≡ true) (sym (new-column p x (r .sized) h))
+      (and-both _ _ (le-leb 1 (x .code) (k .0)) (le-leb (x .code) 5 (k .1)))))
       r)
 
   pub phase-expr :
@@ -247,7 +261,8 @@ module _ (p : Plan) (x : Record) (r : RulesTo p (p .expressions .count) (p .oper
       (record { columns = v .columns; exprs = omega arith; operators = v .operators; items = v .items })
       (λ i a b. absurd (none-new _ _ a b)) r)
       (record {
-        record-ok = subst (λ (y : Record). recordOk 2 y (p .columns .count) (p .expressions .count) (p .operators .count) ≡ true) (sym (new-expr p x (p .items .count) (r .sized) h)) (expr-right x _ _ _ s g);
+        record-ok = subst (λ (y : Record). recordOk 2 y (p .columns .count) (p .expressions .count) (p .operators .count) ≡ true)
+            (sym (new-expr p x (p .items .count) (r .sized) h)) (expr-right x _ _ _ s g);
         list = expr-open p x (r .sized) h s;
         so-far = λ k a b. absurd (none-yet _ _ k (new-expr-start p x (p .items .count) (r .sized) h) b);
       })
@@ -263,7 +278,8 @@ module _ (p : Plan) (x : Record) (r : RulesTo p (p .expressions .count) (p .oper
       (record { columns = v .columns; exprs = v .exprs; operators = omega arith; items = v .items })
       (λ i a b. absurd (none-new _ _ a b)) r)
       (record {
-        record-ok = subst (λ (y : Record). recordOk 3 y (p .columns .count) (p .expressions .count) (p .operators .count) ≡ true) (sym (new-operator p x (p .items .count) (r .sized) h)) (operator-right x _ _ _ s g);
+        record-ok = subst (λ (y : Record). recordOk 3 y (p .columns .count) (p .expressions .count) (p .operators .count) ≡ true)
+            (sym (new-operator p x (p .items .count) (r .sized) h)) (operator-right x _ _ _ s g);
         list = operator-open p x (r .sized) h;
         so-far = λ k a b. absurd (none-yet _ _ k (new-operator-start p x (p .items .count) (r .sized) h) b);
       })
@@ -298,7 +314,8 @@ module _ (w : Wanted) (p : Plan) (x : Record) (s : Sized p) (room : p .items .co
       (λ i a b. absurd (none-new _ _ a b)) r
 
   pub phase-item :
-      rowOf (x .kind) .sort ≡ 4 → x .kind ≡ kindWanted w → handlesOk (rowOf (x .kind)) x (p .columns .count) (p .expressions .count) (p .operators .count) ≡ true
+      rowOf (x .kind) .sort ≡ 4 → x .kind ≡ kindWanted w → handlesOk (rowOf (x .kind)) x (p .columns .count) (p .expressions .count) (p .operators .count)
+      ≡ true
       → Phase w p → Phase (lessOne w) (withItem p x)
   phase-item t k g (closed n r) = absurd (let l = some-left w z in omega arith)
   phase-item t k g (open-expr i e r o) =
@@ -307,8 +324,10 @@ module _ (w : Wanted) (p : Plan) (x : Record) (s : Sized p) (room : p .items .co
       (subst (λ (m : ℕ). handlesOk (rowOf (kindWanted w)) (itemPart x) (p .columns .count) m (p .operators .count) ≡ true) e (right (p .operators .count))) o)
     where
       right : (mp : ℕ) → handlesOk (rowOf (kindWanted w)) (itemPart x) (p .columns .count) (p .expressions .count) mp ≡ true
-      right mp = subst (λ (v : ℕ). handlesOk (rowOf v) (itemPart x) (p .columns .count) (p .expressions .count) mp ≡ true) k (handles-part (rowOf (x .kind)) x (itemPart x) _ _ _ mp (item-row (x .kind) t) refl refl refl refl g)
+      right mp = subst (λ (v : ℕ). handlesOk (rowOf v) (itemPart x) (p .columns .count) (p .expressions .count) mp ≡ true) k
+          (handles-part (rowOf (x .kind)) x (itemPart x) _ _ _ mp (item-row (x .kind) t) refl refl refl refl g)
   phase-item t k g (open-operator i e r o) =
       open-operator i e (grow-item _ _ r)
       (open-item 3 (operatorRecord p i) (operatorStart p i) _ _ _ _ _
-      (subst (λ (v : ℕ). handlesOk (rowOf v) (itemPart x) (p .columns .count) (p .expressions .count) i ≡ true) k (handles-part (rowOf (x .kind)) x (itemPart x) _ _ _ i (item-row (x .kind) t) refl refl refl refl g)) o)
+      (subst (λ (v : ℕ). handlesOk (rowOf v) (itemPart x) (p .columns .count) (p .expressions .count) i ≡ true) k
+      (handles-part (rowOf (x .kind)) x (itemPart x) _ _ _ i (item-row (x .kind) t) refl refl refl refl g)) o)

@@ -156,7 +156,8 @@ bits-fit s r b =
     elim (ℕ-discrete (r .bits) 8) [
       | yes e ↦ rw (eq-eqb (r .bits) 8 e)
       | no n ↦ elim (ℕ-discrete (r .bits) 4) [
-        | yes f ↦ rw (ne-eqb (r .bits) 8 n, eq-eqb (r .bits) 4 f) (lt-ltb _ _ (word4-fits (getD s 1 0) (getD s 2 0) (getD s 3 0) (getD s 4 0) (b 1) (b 2) (b 3) (b 4)))
+        | yes f ↦ rw (ne-eqb (r .bits) 8 n, eq-eqb (r .bits) 4 f)
+            (lt-ltb _ _ (word4-fits (getD s 1 0) (getD s 2 0) (getD s 3 0) (getD s 4 0) (b 1) (b 2) (b 3) (b 4)))
         | no m ↦ rw (ne-eqb (r .bits) 8 n, ne-eqb (r .bits) 4 m)
       ]
     ]

@@ -31,7 +31,8 @@ use Rattle.plan_file.proofs.Finish.{accepted, refused-empty}
 use Rattle.plan_file_laws.specs.ByteStrings.{Bytes}
 use Rattle.plan_file_laws.specs.ListItems.{ScanHas}
 use Rattle.plan_file_laws.proofs.RowFacts.{bytes-drop, bits-fit}
-use Rattle.plan_file_laws.proofs.Phases.{Within, counts-of, RulesTo, Phase, closed, open-expr, open-operator, shut, Right, phase-column, phase-expr, phase-operator, phase-item}
+use Rattle.plan_file_laws.proofs.Phases.{Within, counts-of, RulesTo, Phase, closed, open-expr, open-operator, shut, Right, phase-column}
+use Rattle.plan_file_laws.proofs.Phases.{phase-expr, phase-operator, phase-item}
 use Rattle.plan_file_laws.proofs.Marks.{Marks, marks-same, marks-operator, marks-item, scan-whole}
 
 -- ---- through a reading
@@ -46,7 +47,8 @@ rules-in w p (open-expr i e r o) = (r .sized, r .within)
 rules-in w p (open-operator i e r o) = (r .sized, r .within)
 
 -- what a record's bytes leave: the payload fits
-bits-read : (s : List ℕ) (q : State) (x : Record) → Bytes s → x ≡ recordFrom (drop (q .at) s) (rowOf (getD (drop (q .at) s) 0 0)) → bitsOk (rowOf (x .kind)) x ≡ true
+bits-read : (s : List ℕ) (q : State) (x : Record) → Bytes s → x ≡ recordFrom (drop (q .at) s) (rowOf (getD (drop (q .at) s) 0 0)) → bitsOk (rowOf (x .kind)) x
+    ≡ true
 unfolding recordFrom
 bits-read s q x b e = subst (λ (y : Record). bitsOk (rowOf (y .kind)) y ≡ true) (sym e) (bits-fit (drop (q .at) s) _ (bytes-drop (q .at) s b))
 
@@ -65,13 +67,17 @@ takes s q x t b u =
     }
 
 kept-way : (q : State) (x : Record) (t : State) → Kept q → Right x (q .plan .columns .count) (q .plan .expressions .count) (q .plan .operators .count)
-    → scannedTwice (rowOf (x .kind)) x (q .wanted) (q .scans) (q .plan .operators .count) ≡ false → Way q x t → Phase (t .wanted) (t .plan) × Marks (t .scans) (t .plan)
+    → scannedTwice (rowOf (x .kind)) x (q .wanted) (q .scans) (q .plan .operators .count) ≡ false → Way q x t → Phase (t .wanted) (t .plan) × Marks (t .scans)
+    (t .plan)
 kept-way q x t k g o (a-column s h z) =
     let r = shut (q .wanted) (q .plan) (k .wants) z (k .phase) in
     (phase-column (q .plan) x r h s (g .code), marks-same (q .plan) (withColumn (q .plan) x) (column-longer (q .plan) x) (q .scans) refl refl (k .marks))
 kept-way q x t k g o (an-expr s h z) =
-    let r = shut (q .wanted) (q .plan) (k .wants) z (k .phase) in
-    (phase-expr (q .plan) x r h s g, marks-same (q .plan) (withExpr (q .plan) x (q .plan .items .count)) (expr-longer (q .plan) x (q .plan .items .count)) (q .scans) refl refl (k .marks))
+    let r = shut (q .wanted) (q .plan) (k .wants) z (k .phase) in (
+      phase-expr (q .plan) x r h s g,
+      marks-same (q .plan) (withExpr (q .plan) x (q .plan .items .count)) (expr-longer (q .plan) x (q .plan .items .count))
+          (q .scans) refl refl (k .marks),
+    )
 kept-way q x t k g o (an-operator s h z) =
     let r = shut (q .wanted) (q .plan) (k .wants) z (k .phase) in
     (phase-operator (q .plan) x r h s g, marks-operator (q .plan) x (q .scans) (r .sized) h (k .marks))
@@ -186,7 +192,8 @@ has-scan : (p : Plan) (c i : ℕ) → RulesTo p (p .expressions .count) (p .oper
 unfolding scansOf
 has-scan p c i r h e =
     let k : operatorRecord p i .kind ≡ 0x30 = eqb-true _ _ (and-left _ _ e) in
-    let v = any-at (λ (j : ℕ). eqb (getD (p .items .a) j 0) c) (operatorRecord p i .b) (operatorStart p i) (and-right (eqb (operatorRecord p i .kind) 0x30) _ e) in
+    let v = any-at (λ (j : ℕ). eqb (getD (p .items .a) j 0) c) (operatorRecord p i .b) (operatorStart p i)
+    (and-right (eqb (operatorRecord p i .kind) 0x30) _ e) in
     record {
       there = h;
       scan = k;
@@ -231,7 +238,8 @@ rules-read s b = go (isWhole (readOf s .reading)) refl
     go : (t : Bool) → isWhole (readOf s .reading) ≡ t → planOk (readOf s .plan) ≡ true
     go true e =
         let a = accepted s e in
-        subst (λ (p : Plan). planOk p ≡ true) (sym (a .plan)) (rules-of (stepsOf s (length s) .plan) (kept-rules (stepsOf s (length s)) (kept-steps s b (length s)) (a .nothing)))
+        subst (λ (p : Plan). planOk p ≡ true) (sym (a .plan))
+        (rules-of (stepsOf s (length s) .plan) (kept-rules (stepsOf s (length s)) (kept-steps s b (length s)) (a .nothing)))
     go false e = subst (λ (p : Plan). planOk p ≡ true) (sym (refused-empty s e)) (rules-of emptyPlan rules-empty)
 
 -- ---- refusal 5
@@ -250,12 +258,14 @@ module _ (s : List ℕ) (b : Bytes s) (k : ℕ) (r : Row) (x : Record) where
   mark = getD (stepsOf s k .scans) (x .a) 0
 
   -- The test of refusal 5 passes exactly at a Scan's item whose column another Scan has: it is so where the test says so. Assumes nothing.
-  pub twice-so : scannedTwice r x (state .wanted) (state .scans) (state .plan .operators .count) ≡ true → (r .sort ≡ 4) × (state .wanted .scan ≡ true) × Another (state .plan) (x .a)
+  pub twice-so : scannedTwice r x (state .wanted) (state .scans) (state .plan .operators .count) ≡ true → (r .sort ≡ 4) × (state .wanted .scan ≡ true)
+      × Another (state .plan) (x .a)
   twice-so e =
       let abc = and-left _ _ e in
       let ab = and-left _ _ abc in
       let some = eqb-false mark 0 (not-true _ (and-right (eqb (r .sort) 4 && state .wanted .scan) (not (eqb mark 0)) abc)) in
-      let other = eqb-false mark (state .plan .operators .count) (not-true _ (and-right ((eqb (r .sort) 4 && state .wanted .scan) && not (eqb mark 0)) (not (eqb mark (state .plan .operators .count))) e)) in
+      let other = eqb-false mark (state .plan .operators .count)
+      (not-true _ (and-right ((eqb (r .sort) 4 && state .wanted .scan) && not (eqb mark 0)) (not (eqb mark (state .plan .operators .count))) e)) in
       let n : mark ≡ suc (mark - 1) = not-zero mark some in (
         eqb-true _ _ (and-left _ _ ab),
         and-right (eqb (r .sort) 4) _ ab,
@@ -263,7 +273,8 @@ module _ (s : List ℕ) (b : Bytes s) (k : ℕ) (r : Row) (x : Record) where
       )
 
   -- and the test says so where it is so
-  pub so-twice : r .sort ≡ 4 → state .wanted .scan ≡ true → Another (state .plan) (x .a) → scannedTwice r x (state .wanted) (state .scans) (state .plan .operators .count) ≡ true
+  pub so-twice : r .sort ≡ 4 → state .wanted .scan ≡ true → Another (state .plan) (x .a) → scannedTwice r x (state .wanted) (state .scans)
+      (state .plan .operators .count) ≡ true
   so-twice e f a =
       let n : mark ≡ suc (a .0) = kept-steps s b k .marks .complete (a .0) (x .a) (a .1) in
       rw (eq-eqb (r .sort) 4 e, f, ne-eqb mark 0 (λ z. omega arith), ne-eqb mark (state .plan .operators .count) (λ z. a .2 (sym n ∙ z)))

@@ -127,7 +127,8 @@ covered-grow : (p q : Plan) (j : ℕ) → Extends p q → Covered p j → Covere
 covered-grow p q j e (by-expr i k h l s) =
     by-expr i k (omega (arith, e .exprs)) (subst (λ (x : Record). k < totalOf x) (sym (e .expr i h)) l) (ap (λ (n : ℕ). n + k) (e .expr-start i h) ∙ s)
 covered-grow p q j e (by-operator i k h l s) =
-    by-operator i k (omega (arith, e .operators)) (subst (λ (x : Record). k < totalOf x) (sym (e .operator i h)) l) (ap (λ (n : ℕ). n + k) (e .operator-start i h) ∙ s)
+    by-operator i k (omega (arith, e .operators)) (subst (λ (x : Record). k < totalOf x) (sym (e .operator i h)) l)
+    (ap (λ (n : ℕ). n + k) (e .operator-start i h) ∙ s)
 
 open-covers : (w : Wanted) (x : Record) (st n : ℕ) → (kindWanted w ≡ 0 → ⊥) → Open w x st n → (n - st < totalOf x) × (st + (n - st) ≡ n)
 open-covers w x st n z o = let l = some-left w z in (omega (arith, o .here, o .begun), omega (arith, o .begun))
@@ -184,23 +185,40 @@ pub record SameTables (p r : Plan) : Type 0 where
 -- Then, with zeros past the counts, the plans are one. Assumes nothing.
 pub same-plan : (p r : Plan) → Sized p → Sized r → Zeros p → Zeros r → SameTables p r → p ≡ r
 same-plan p r a b y z t =
-    let cn = same-array (p .columns .name) (r .columns .name) _ _ 64 (t .columns) (a .column-name) (b .column-name) (y .columns .name) (z .columns .name) (λ i h. ap (λ (x : Record). x .a) (t .column i h)) in
-    let ck = same-array (p .columns .kind) (r .columns .kind) _ _ 64 (t .columns) (a .column-kind) (b .column-kind) (y .columns .kind) (z .columns .kind) (λ i h. ap (λ (x : Record). x .code) (t .column i h)) in
-    let ek = same-array (p .expressions .kind) (r .expressions .kind) _ _ 1024 (t .exprs) (a .expr-kind) (b .expr-kind) (y .exprs .kind) (z .exprs .kind) (λ i h. ap (λ (x : Record). x .kind) (t .expr i h)) in
-    let ec = same-array (p .expressions .code) (r .expressions .code) _ _ 1024 (t .exprs) (a .expr-code) (b .expr-code) (y .exprs .code) (z .exprs .code) (λ i h. ap (λ (x : Record). x .code) (t .expr i h)) in
-    let ea = same-array (p .expressions .a) (r .expressions .a) _ _ 1024 (t .exprs) (a .expr-a) (b .expr-a) (y .exprs .a) (z .exprs .a) (λ i h. ap (λ (x : Record). x .a) (t .expr i h)) in
-    let eb = same-array (p .expressions .b) (r .expressions .b) _ _ 1024 (t .exprs) (a .expr-b) (b .expr-b) (y .exprs .b) (z .exprs .b) (λ i h. ap (λ (x : Record). x .b) (t .expr i h)) in
-    let es = same-array (p .expressions .start) (r .expressions .start) _ _ 1024 (t .exprs) (a .expr-start) (b .expr-start) (y .exprs .start) (z .exprs .start) (t .expr-start) in
-    let ez = same-array (p .expressions .bits) (r .expressions .bits) _ _ 1024 (t .exprs) (a .expr-bits) (b .expr-bits) (y .exprs .bits) (z .exprs .bits) (λ i h. ap (λ (x : Record). x .bits) (t .expr i h)) in
-    let ok = same-array (p .operators .kind) (r .operators .kind) _ _ 128 (t .operators) (a .operator-kind) (b .operator-kind) (y .operators .kind) (z .operators .kind) (λ i h. ap (λ (x : Record). x .kind) (t .operator i h)) in
-    let oc = same-array (p .operators .code) (r .operators .code) _ _ 128 (t .operators) (a .operator-code) (b .operator-code) (y .operators .code) (z .operators .code) (λ i h. ap (λ (x : Record). x .code) (t .operator i h)) in
-    let oa = same-array (p .operators .a) (r .operators .a) _ _ 128 (t .operators) (a .operator-a) (b .operator-a) (y .operators .a) (z .operators .a) (λ i h. ap (λ (x : Record). x .a) (t .operator i h)) in
-    let ob = same-array (p .operators .b) (r .operators .b) _ _ 128 (t .operators) (a .operator-b) (b .operator-b) (y .operators .b) (z .operators .b) (λ i h. ap (λ (x : Record). x .b) (t .operator i h)) in
-    let od = same-array (p .operators .c) (r .operators .c) _ _ 128 (t .operators) (a .operator-c) (b .operator-c) (y .operators .c) (z .operators .c) (λ i h. ap (λ (x : Record). x .c) (t .operator i h)) in
-    let oe = same-array (p .operators .d) (r .operators .d) _ _ 128 (t .operators) (a .operator-d) (b .operator-d) (y .operators .d) (z .operators .d) (λ i h. ap (λ (x : Record). x .d) (t .operator i h)) in
-    let os = same-array (p .operators .start) (r .operators .start) _ _ 128 (t .operators) (a .operator-start) (b .operator-start) (y .operators .start) (z .operators .start) (t .operator-start) in
-    let ia = same-array (p .items .a) (r .items .a) _ _ 2048 (t .items) (a .item-a) (b .item-a) (y .items .a) (z .items .a) (λ i h. ap (λ (x : Record). x .a) (t .item i h)) in
-    let ib = same-array (p .items .b) (r .items .b) _ _ 2048 (t .items) (a .item-b) (b .item-b) (y .items .b) (z .items .b) (λ i h. ap (λ (x : Record). x .b) (t .item i h)) in
+    let cn = same-array (p .columns .name) (r .columns .name) _ _ 64 (t .columns) (a .column-name) (b .column-name) (y .columns .name) (z .columns .name)
+    (λ i h. ap (λ (x : Record). x .a) (t .column i h)) in
+    let ck = same-array (p .columns .kind) (r .columns .kind) _ _ 64 (t .columns) (a .column-kind) (b .column-kind) (y .columns .kind) (z .columns .kind)
+    (λ i h. ap (λ (x : Record). x .code) (t .column i h)) in
+    let ek = same-array (p .expressions .kind) (r .expressions .kind) _ _ 1024 (t .exprs) (a .expr-kind) (b .expr-kind) (y .exprs .kind) (z .exprs .kind)
+    (λ i h. ap (λ (x : Record). x .kind) (t .expr i h)) in
+    let ec = same-array (p .expressions .code) (r .expressions .code) _ _ 1024 (t .exprs) (a .expr-code) (b .expr-code) (y .exprs .code) (z .exprs .code)
+    (λ i h. ap (λ (x : Record). x .code) (t .expr i h)) in
+    let ea = same-array (p .expressions .a) (r .expressions .a) _ _ 1024 (t .exprs) (a .expr-a) (b .expr-a) (y .exprs .a) (z .exprs .a)
+    (λ i h. ap (λ (x : Record). x .a) (t .expr i h)) in
+    let eb = same-array (p .expressions .b) (r .expressions .b) _ _ 1024 (t .exprs) (a .expr-b) (b .expr-b) (y .exprs .b) (z .exprs .b)
+    (λ i h. ap (λ (x : Record). x .b) (t .expr i h)) in
+    let es = same-array (p .expressions .start) (r .expressions .start) _ _ 1024 (t .exprs) (a .expr-start) (b .expr-start) (y .exprs .start)
+    (z .exprs .start) (t .expr-start) in
+    let ez = same-array (p .expressions .bits) (r .expressions .bits) _ _ 1024 (t .exprs) (a .expr-bits) (b .expr-bits) (y .exprs .bits) (z .exprs .bits)
+    (λ i h. ap (λ (x : Record). x .bits) (t .expr i h)) in
+    let ok = same-array (p .operators .kind) (r .operators .kind) _ _ 128 (t .operators) (a .operator-kind) (b .operator-kind) (y .operators .kind)
+    (z .operators .kind) (λ i h. ap (λ (x : Record). x .kind) (t .operator i h)) in
+    let oc = same-array (p .operators .code) (r .operators .code) _ _ 128 (t .operators) (a .operator-code) (b .operator-code) (y .operators .code)
+    (z .operators .code) (λ i h. ap (λ (x : Record). x .code) (t .operator i h)) in
+    let oa = same-array (p .operators .a) (r .operators .a) _ _ 128 (t .operators) (a .operator-a) (b .operator-a) (y .operators .a) (z .operators .a)
+    (λ i h. ap (λ (x : Record). x .a) (t .operator i h)) in
+    let ob = same-array (p .operators .b) (r .operators .b) _ _ 128 (t .operators) (a .operator-b) (b .operator-b) (y .operators .b) (z .operators .b)
+    (λ i h. ap (λ (x : Record). x .b) (t .operator i h)) in
+    let od = same-array (p .operators .c) (r .operators .c) _ _ 128 (t .operators) (a .operator-c) (b .operator-c) (y .operators .c) (z .operators .c)
+    (λ i h. ap (λ (x : Record). x .c) (t .operator i h)) in
+    let oe = same-array (p .operators .d) (r .operators .d) _ _ 128 (t .operators) (a .operator-d) (b .operator-d) (y .operators .d) (z .operators .d)
+    (λ i h. ap (λ (x : Record). x .d) (t .operator i h)) in
+    let os = same-array (p .operators .start) (r .operators .start) _ _ 128 (t .operators) (a .operator-start) (b .operator-start) (y .operators .start)
+    (z .operators .start) (t .operator-start) in
+    let ia = same-array (p .items .a) (r .items .a) _ _ 2048 (t .items) (a .item-a) (b .item-a) (y .items .a) (z .items .a)
+    (λ i h. ap (λ (x : Record). x .a) (t .item i h)) in
+    let ib = same-array (p .items .b) (r .items .b) _ _ 2048 (t .items) (a .item-b) (b .item-b) (y .items .b) (z .items .b)
+    (λ i h. ap (λ (x : Record). x .b) (t .item i h)) in
     λ i.
     record {
       columns = record { count = t .columns i; name = cn i; kind = ck i };

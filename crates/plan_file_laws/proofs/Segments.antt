@@ -65,16 +65,19 @@ module _ (t : List ℕ) where
         let n : at + 2 + 2 ≡ at + 4 = omega arith in
         two-bytes at (omega arith)
         ∙ ap (put2 (word2 t at)) (two-bytes (at + 2) (omega arith) ∙ ap (λ (k : ℕ). put2 (word2 t (at + 2)) (drop k t)) n)
-        ∙ sym (λ i. put2 (high4 (word2 t at) (word2 t (at + 2)) (word2-below (at + 2)) i) (put2 (low4 (word2 t at) (word2 t (at + 2)) (word2-below (at + 2)) i) (drop (at + 4) t)))
+        ∙ sym (λ i. put2 (high4 (word2 t at) (word2 t (at + 2)) (word2-below (at + 2)) i)
+        (put2 (low4 (word2 t at) (word2 t (at + 2)) (word2-below (at + 2)) i) (drop (at + 4) t)))
 
     eight-bytes : (at : ℕ) → at + 8 ≤ length t → drop at t ≡ put8 (word8 t at) (drop (at + 8) t)
     eight-bytes at h =
         let n : at + 4 + 4 ≡ at + 8 = omega arith in
         four-bytes at (omega arith)
         ∙ ap (put4 (word4 t at)) (four-bytes (at + 4) (omega arith) ∙ ap (λ (k : ℕ). put4 (word4 t (at + 4)) (drop k t)) n)
-        ∙ sym (λ i. put4 (high8 (word4 t at) (word4 t (at + 4)) (word4-below (at + 4)) i) (put4 (low8 (word4 t at) (word4 t (at + 4)) (word4-below (at + 4)) i) (drop (at + 8) t)))
+        ∙ sym (λ i. put4 (high8 (word4 t at) (word4 t (at + 4)) (word4-below (at + 4)) i)
+        (put4 (low8 (word4 t at) (word4 t (at + 4)) (word4-below (at + 4)) i) (drop (at + 8) t)))
 
-    pub split-word : (at p sort : ℕ) → (sort ≡ 0) ⊎ (p ≡ at) → at + width sort ≤ length t → drop at t ≡ putWord sort (wordFrom t p sort) (drop (at + width sort) t)
+    pub split-word : (at p sort : ℕ) → (sort ≡ 0) ⊎ (p ≡ at) → at + width sort ≤ length t → drop at t ≡ putWord sort (wordFrom t p sort)
+        (drop (at + width sort) t)
     unfolding putWord wordFrom
     split-word at p sort place h =
         elim (ℕ-discrete sort 0) [
@@ -99,7 +102,8 @@ module _ (t : List ℕ) where
     split-bits n m place h =
         ⊎-elim (λ e. split-none n m e) (λ c. ⊎-elim (λ e. split-four n m e (c .1) h) (λ e. split-eight n m e (c .1) h) (c .0)) place
 
-  pub split-code : (n k c : ℕ) → (k ≡ 0 → ⊥) → (c ≡ k → n ≡ k) → n + codeWidth c k ≤ length t → drop n t ≡ putCode (eqb c k) (codeFrom t c) (drop (n + codeWidth c k) t)
+  pub split-code : (n k c : ℕ) → (k ≡ 0 → ⊥) → (c ≡ k → n ≡ k) → n + codeWidth c k ≤ length t → drop n t ≡ putCode (eqb c k) (codeFrom t c)
+      (drop (n + codeWidth c k) t)
   unfolding putCode codeFrom
   split-code n k c z place h =
       elim (ℕ-discrete c k) [

@@ -18,7 +18,8 @@ use Rattle.plan_file.specs.declared.State.{State}
 use Rattle.plan_file.specs.declared.Reading.the-variants.{Whole}
 use Rattle.plan_file.specs.Answers.{isWhole, isAdded}
 use Rattle.plan_file.specs.Bytes.{wordFrom, bitsFrom, recordFrom}
-use Rattle.plan_file.specs.Steps.{kindWanted, kindOk, scannedTwice, faultOf, appendOf, wantedAfter, scansAfter, takenBy, appendedStep, judgedStep, rowStep, recordStep, isDone, stepOf, stepsOf, startState, answerOf, readOf}
+use Rattle.plan_file.specs.Steps.{kindWanted, kindOk, scannedTwice, faultOf, appendOf, wantedAfter, scansAfter, takenBy, appendedStep, judgedStep}
+use Rattle.plan_file.specs.Steps.{rowStep, recordStep, isDone, stepOf, stepsOf, startState, answerOf, readOf}
 use Rattle.plan_file.proofs.StepsTaken.{read-early}
 use Rattle.plan_file.proofs.StepCases.{Way, a-column, an-expr, an-operator, an-item, Taking, steps-keep}
 use Rattle.plan_file.proofs.Finish.{accepted, lastOf, taken-at, true-false}
@@ -104,7 +105,8 @@ taken-bytes s q x t b u =
     let w : rowOf (getD v 0 0) .length ≤ length v = subst (λ (n : ℕ). rowOf n .length ≤ length v) k (u .passed .whole) in
     let e = split-record v (bytes-drop (q .at) s b) w in
     let d : drop (rowOf (getD v 0 0) .length) v ≡ drop (t .at) s =
-    ap (λ (n : ℕ). drop (rowOf n .length) v) (sym k) ∙ drop-drop (rowOf (x .kind) .length) (q .at) s ∙ ap (λ (n : ℕ). drop n s) (sym (taken-at q x t (u .way) .0)) in
+    ap (λ (n : ℕ). drop (rowOf n .length) v) (sym k) ∙ drop-drop (rowOf (x .kind) .length) (q .at) s ∙ ap (λ (n : ℕ). drop n s)
+    (sym (taken-at q x t (u .way) .0)) in
     (e ∙ (λ i. putRecord (sym (u .fetched) i) (d i)), subst Fits (sym (u .fetched)) (fits-read v (bytes-drop (q .at) s b)))
 
 abbrev Going : List ℕ → State → Type 0
@@ -207,7 +209,8 @@ record-step q x t u k f =
     ∙ ap (judgedStep q r x) (no-fault-back r x (length (putRecord x u)) q (j .kind) l (k .right .code) (k .right .handles) (k .once))
     ∙ judged-step q x t j
 
-step-takes : (s : List ℕ) (q : State) (x : Record) (t : State) (u : List ℕ) → Takes q x t → Fits x → q .reading ≡ Whole → drop (q .at) s ≡ putRecord x u → stepOf s q ≡ t
+step-takes : (s : List ℕ) (q : State) (x : Record) (t : State) (u : List ℕ) → Takes q x t → Fits x → q .reading ≡ Whole → drop (q .at) s ≡ putRecord x u
+    → stepOf s q ≡ t
 unfolding stepOf
 step-takes s q x t u k f w e =
     let n : length s - q .at ≡ length (putRecord x u) = sym (length-drop (q .at) s) ∙ ap length e in
@@ -233,7 +236,8 @@ pub record Led (xs : List Record) (q : State) (u : List ℕ) : Type 0 where
   pub rest : drop (q .at) (putRecords xs u) ≡ u
   pub place : q .at + length u ≡ length (putRecords xs u)
 
-led-next : (xs : List Record) (q : State) (x : Record) (t : State) (u : List ℕ) → Takes q x t → Fits x → q .reading ≡ Whole → Led xs q (putRecord x u) → Led (xs ++ (x ∷ [])) t u
+led-next : (xs : List Record) (q : State) (x : Record) (t : State) (u : List ℕ) → Takes q x t → Fits x → q .reading ≡ Whole → Led xs q (putRecord x u) → Led
+    (xs ++ (x ∷ [])) t u
 unfolding stepsOf
 led-next xs q x t u k f w l =
     let s = putRecords xs (putRecord x u) in
@@ -241,9 +245,11 @@ led-next xs q x t u k f w l =
     let e : stepsOf (putRecords xs (putRecord x u)) (length (xs ++ (x ∷ []))) ≡ t =
     ap (stepsOf s) n ∙ ap (stepOf s) (l .state) ∙ step-takes s q x t u k f w (l .rest) in
     let a = taken-at q x t (k .way) .0 in
-    let d : drop (t .at) s ≡ u = ap (λ (m : ℕ). drop m s) a ∙ sym (drop-drop (rowOf (x .kind) .length) (q .at) s) ∙ ap (drop (rowOf (x .kind) .length)) (l .rest) ∙ read-back x u f .rest-back in
+    let d : drop (t .at) s ≡ u = ap (λ (m : ℕ). drop m s) a ∙ sym (drop-drop (rowOf (x .kind) .length) (q .at) s) ∙ ap (drop (rowOf (x .kind) .length))
+    (l .rest) ∙ read-back x u f .rest-back in
     let g : t .at + length u ≡ length s = omega (arith, a, l .place, record-length x u) in
-    let y = subst (λ (v : List ℕ). (stepsOf v (length (xs ++ (x ∷ []))) ≡ t) × (drop (t .at) v ≡ u) × (t .at + length u ≡ length v)) (sym (put-snoc xs x u)) (e, d, g) in
+    let y = subst (λ (v : List ℕ). (stepsOf v (length (xs ++ (x ∷ []))) ≡ t) × (drop (t .at) v ≡ u) × (t .at + length u ≡ length v)) (sym (put-snoc xs x u))
+    (e, d, g) in
     record { state = y .0; rest = y .1; place = y .2 }
 
 pub led : (xs : List Record) (q : State) → Reads xs q → All Fits xs → (u : List ℕ) → Led xs q u
@@ -261,7 +267,8 @@ answer-whole q w = rw w
 
 -- Records that are taken one after the other, with no item wanted at the end, are accepted from their bytes, with the plan to which they lead.
 -- Assumes nothing.
-pub read-records : (xs : List Record) (q : State) → Reads xs q → All Fits xs → kindWanted (q .wanted) ≡ 0 → readOf (putRecords xs []) ≡ record { plan = q .plan; reading = Whole }
+pub read-records : (xs : List Record) (q : State) → Reads xs q → All Fits xs → kindWanted (q .wanted) ≡ 0 → readOf (putRecords xs []) ≡ record
+    { plan = q .plan; reading = Whole }
 read-records xs q r a z =
     let s = putRecords xs [] in
     let l = led xs q r a [] in

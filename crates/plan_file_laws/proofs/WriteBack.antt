@@ -52,7 +52,8 @@ data Sums (w : Wanted) (p : Plan) : Type 0 where
       (i : ℕ) → p .operators .count ≡ suc i → Open w (operatorRecord p i) (operatorStart p i) (p .items .count)
       → exprItems p (p .expressions .count) + operatorItems p i ≡ operatorStart p i → Sums w p
 
-sums-whole : (w : Wanted) (p : Plan) → Wants w → kindWanted w ≡ 0 → Sums w p → exprItems p (p .expressions .count) + operatorItems p (p .operators .count) ≡ p .items .count
+sums-whole : (w : Wanted) (p : Plan) → Wants w → kindWanted w ≡ 0 → Sums w p → exprItems p (p .expressions .count) + operatorItems p (p .operators .count)
+    ≡ p .items .count
 unfolding itemsTo
 sums-whole w p f z (at-rest n e) = e
 sums-whole w p f z (in-expr i n o e) =
@@ -193,9 +194,11 @@ read-plan s b e =
     subst WasRead (sym (f .plan)) (was-read (recordsOf s) (lastOf s) (f .reads) (f .fit) (f .nothing))
 
 -- the items of a list that stands at the same place
-module _ (p r : Plan) (e : (i : ℕ) → i < p .expressions .count → exprStart p i ≡ exprStart r i) (o : (i : ℕ) → i < p .operators .count → operatorStart p i ≡ operatorStart r i)
+module _ (p r : Plan) (e : (i : ℕ) → i < p .expressions .count → exprStart p i ≡ exprStart r i)
+    (o : (i : ℕ) → i < p .operators .count → operatorStart p i ≡ operatorStart r i)
     (ei : (i : ℕ) → i < p .expressions .count → (k : ℕ) → k < totalOf (exprRecord p i) → itemRecord p (exprStart p i + k) ≡ itemRecord r (exprStart r i + k))
-    (oi : (i : ℕ) → i < p .operators .count → (k : ℕ) → k < totalOf (operatorRecord p i) → itemRecord p (operatorStart p i + k) ≡ itemRecord r (operatorStart r i + k)) where
+    (oi : (i : ℕ) → i < p .operators .count → (k : ℕ) → k < totalOf (operatorRecord p i) → itemRecord p (operatorStart p i + k) ≡ itemRecord r
+    (operatorStart r i + k)) where
   same-items : (j : ℕ) → Covered p j → itemRecord p j ≡ itemRecord r j
   same-items j (by-expr i k h l s) = ap (itemRecord p) (sym s) ∙ ei i h k l ∙ ap (λ (n : ℕ). itemRecord r (n + k)) (sym (e i h)) ∙ ap (itemRecord r) s
   same-items j (by-operator i k h l s) = ap (itemRecord p) (sym s) ∙ oi i h k l ∙ ap (λ (n : ℕ). itemRecord r (n + k)) (sym (o i h)) ∙ ap (itemRecord r) s
@@ -221,7 +224,8 @@ placed-same p w l =
     })
 
 -- Reading what the writer writes of an accepted plan in the writer's placement gives the very plan back. Assumes nothing.
-pub placed-back : (s : List ℕ) → Bytes s → isWhole (readOf s .reading) ≡ true → Placed (readOf s .plan) → readOf (writeOf (readOf s .plan)) ≡ record { plan = readOf s .plan; reading = Whole }
+pub placed-back : (s : List ℕ) → Bytes s → isWhole (readOf s .reading) ≡ true → Placed (readOf s .plan) → readOf (writeOf (readOf s .plan)) ≡ record
+    { plan = readOf s .plan; reading = Whole }
 placed-back s b e l =
     let w = read-plan s b e in
     w .back .answer ∙ ap (λ (p : Plan). record { plan = p; reading = Whole }) (sym (placed-same (readOf s .plan) w l))
@@ -230,8 +234,10 @@ placed-back s b e l =
 pub back-placed : (p : Plan) (w : WrittenBack p) → Placed (w .plan)
 back-placed p w =
     let c = w .copy in
-    let e : (i : ℕ) → i ≤ p .expressions .count → exprItems (w .plan) i ≡ exprItems p i = λ i h. sums-same (exprRecord (w .plan)) (exprRecord p) i (λ j u. c .expr j (omega arith)) in
-    let o : (i : ℕ) → i ≤ p .operators .count → operatorItems (w .plan) i ≡ operatorItems p i = λ i h. sums-same (operatorRecord (w .plan)) (operatorRecord p) i (λ j u. c .operator j (omega arith)) in
+    let e : (i : ℕ) → i ≤ p .expressions .count → exprItems (w .plan) i ≡ exprItems p i = λ i h. sums-same (exprRecord (w .plan)) (exprRecord p) i
+    (λ j u. c .expr j (omega arith)) in
+    let o : (i : ℕ) → i ≤ p .operators .count → operatorItems (w .plan) i ≡ operatorItems p i = λ i h. sums-same (operatorRecord (w .plan)) (operatorRecord p)
+    i (λ j u. c .operator j (omega arith)) in
     record {
       expr = λ i h. c .expr-start i (omega (arith, w .exprs)) ∙ sym (e i (omega (arith, w .exprs)));
       operator = λ i h. c .operator-start i (omega (arith, w .operators))
@@ -265,7 +271,8 @@ module _ (s t : List ℕ) (bs : Bytes s) (bt : Bytes t) (es : isWhole (readOf s 
   -- Two accepted files with the same three parts, whose lists start at the same places, have one plan. Assumes nothing.
   pub same-plan-read :
       Three (recordsOf s) (partOf 1 (recordsOf t)) (partOf 2 (recordsOf t)) (partOf 3 (recordsOf t))
-      → ((i : ℕ) → i < planS .expressions .count → exprStart planS i ≡ exprStart planT i) → ((i : ℕ) → i < planS .operators .count → operatorStart planS i ≡ operatorStart planT i)
+      → ((i : ℕ) → i < planS .expressions .count → exprStart planS i ≡ exprStart planT i)
+      → ((i : ℕ) → i < planS .operators .count → operatorStart planS i ≡ operatorStart planT i)
       → planS ≡ planT
   same-plan-read h e o =
       let u = read-plan s bs es in
@@ -293,7 +300,9 @@ module _ (s t : List ℕ) (bs : Bytes s) (bt : Bytes t) (es : isWhole (readOf s 
         operator = or;
         operator-start = o;
         item = λ j l. same-items planS planT e o
-            (λ i m k n. sym (x .copy .expr-items i m k n) ∙ ap (λ (p : Plan). itemRecord p (exprStart p i + k)) q ∙ y .copy .expr-items i (omega arith) k (subst (λ (z : Record). k < totalOf z) (er i m) n))
-            (λ i m k n. sym (x .copy .operator-items i m k n) ∙ ap (λ (p : Plan). itemRecord p (operatorStart p i + k)) q ∙ y .copy .operator-items i (omega arith) k (subst (λ (z : Record). k < totalOf z) (or i m) n))
+            (λ i m k n. sym (x .copy .expr-items i m k n) ∙ ap (λ (p : Plan). itemRecord p (exprStart p i + k)) q ∙ y .copy .expr-items i (omega arith) k
+            (subst (λ (z : Record). k < totalOf z) (er i m) n))
+            (λ i m k n. sym (x .copy .operator-items i m k n) ∙ ap (λ (p : Plan). itemRecord p (operatorStart p i + k)) q ∙ y .copy .operator-items i
+            (omega arith) k (subst (λ (z : Record). k < totalOf z) (or i m) n))
             j (u .covered j l);
       })

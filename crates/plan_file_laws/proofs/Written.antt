@@ -24,7 +24,8 @@ not-zero : (n : ℕ) → 0 < n → n ≡ 0 → ⊥
 not-zero n h e = omega arith
 
 -- Bytes that are long enough begin with a record, whose bytes they are, and then the rest. Assumes nothing.
-pub split-record : (t : List ℕ) → Bytes t → rowOf (getD t 0 0) .length ≤ length t → t ≡ putRecord (recordFrom t (rowOf (getD t 0 0))) (drop (rowOf (getD t 0 0) .length) t)
+pub split-record : (t : List ℕ) → Bytes t → rowOf (getD t 0 0) .length ≤ length t → t ≡ putRecord (recordFrom t (rowOf (getD t 0 0)))
+    (drop (rowOf (getD t 0 0) .length) t)
 unfolding recordFrom putBody
 split-record t b h =
     let r = rowOf (getD t 0 0) in
@@ -119,7 +120,17 @@ record-length x u =
     let u3 = putWord (r .c) (x .c) u4 in
     let u2 = putWord (r .b) (x .b) u3 in
     let u1 = putWord (r .a) (x .a) u2 in
-    omega (arith, l .total, length-code (r .code) 1 (x .code) u1, length-word (r .a) (x .a) u2, length-word (r .b) (x .b) u3, length-word (r .c) (x .c) u4, length-word (r .d) (x .d) u5, length-code (r .code) 3 (x .code) u6, length-bits (r .bits) (x .bits) (place6 r) u (l .bits))
+    omega (
+      arith,
+      l .total,
+      length-code (r .code) 1 (x .code) u1,
+      length-word (r .a) (x .a) u2,
+      length-word (r .b) (x .b) u3,
+      length-word (r .c) (x .c) u4,
+      length-word (r .d) (x .d) u5,
+      length-code (r .code) 3 (x .code) u6,
+      length-bits (r .bits) (x .bits) (place6 r) u (l .bits),
+    )
 
 -- ---- records one after the other
 pub put-append : (xs ys : List Record) (u : List ℕ) → putRecords (xs ++ ys) u ≡ putRecords xs (putRecords ys u)

@@ -22,7 +22,8 @@ use Rattle.plan_file_laws.proofs.Sequences.{put-snoc}
 use Rattle.plan_file_laws.proofs.Cuts.{put-rest}
 use Rattle.plan_file_laws.proofs.Written.{put-append}
 use Rattle.writing.specs.Text.{lines}
-use Rattle.plan_file_write.specs.Written.{clippedBits, recordBytes, itemIn, itemsBytes, listedBytes, columnIn, columnsBytes, exprBytes, operatorBytes, writtenOf}
+use Rattle.plan_file_write.specs.Written.{clippedBits, recordBytes, itemIn, itemsBytes, listedBytes, columnIn, columnsBytes, exprBytes}
+use Rattle.plan_file_write.specs.Written.{operatorBytes, writtenOf}
 
 -- a literal that its four bytes hold
 Small : Record → Type 0
@@ -37,7 +38,8 @@ small-bits n v f = go (eqb n 4) refl
 
 same-bytes : (x : Record) → Small x → recordBytes x ≡ putRecord x []
 unfolding recordBytes Small
-same-bytes x f = λ i. putRecord (record { kind = x .kind; code = x .code; a = x .a; b = x .b; c = x .c; d = x .d; bits = small-bits (rowOf (x .kind) .bits) (x .bits) f i }) []
+same-bytes x f = λ i. putRecord
+    (record { kind = x .kind; code = x .code; a = x .a; b = x .b; c = x .c; d = x .d; bits = small-bits (rowOf (x .kind) .bits) (x .bits) f i }) []
 
 record-rest : (x : Record) (u : List ℕ) → putRecord x u ≡ putRecord x [] ++ u
 unfolding putRecords
@@ -71,10 +73,12 @@ module _ (p : Plan) where
   columns-same (suc n) = after-one (columnsTo p n) (columnRecord p n) _ (columns-same n) (λ e. omega arith)
 
   operators-same : (n : ℕ)
-      → lines n (operatorBytes (p .operators .kind) (p .operators .code) (p .operators .a) (p .operators .b) (p .operators .c) (p .operators .d) (p .operators .start) (p .items .a) (p .items .b)) ≡ putRecords (operatorsTo p n) []
+      → lines n (operatorBytes (p .operators .kind) (p .operators .code) (p .operators .a) (p .operators .b) (p .operators .c) (p .operators .d)
+      (p .operators .start) (p .items .a) (p .items .b)) ≡ putRecords (operatorsTo p n) []
   unfolding lines operatorsTo putRecords Small
   operators-same zero = refl
-  operators-same (suc n) = after-some (operatorsTo p n) (withItems p (operatorRecord p n) (operatorStart p n)) _ _ (operators-same n) (listed-same (operatorRecord p n) (operatorStart p n) (λ e. omega arith))
+  operators-same (suc n) = after-some (operatorsTo p n) (withItems p (operatorRecord p n) (operatorStart p n)) _ _ (operators-same n)
+      (listed-same (operatorRecord p n) (operatorStart p n) (λ e. omega arith))
 
   module _ (ok : planOk p ≡ true) where
     expr-small : (i : ℕ) → i < p .expressions .count → Small (exprRecord p i)
@@ -88,13 +92,17 @@ module _ (p : Plan) where
         bits-small (row .bits) (x .bits) (and-left _ _ literal) e
 
     exprs-same : (n : ℕ) → n ≤ p .expressions .count
-        → lines n (exprBytes (p .expressions .kind) (p .expressions .code) (p .expressions .a) (p .expressions .b) (p .expressions .bits) (p .expressions .start) (p .items .a) (p .items .b)) ≡ putRecords (exprsTo p n) []
+        → lines n (exprBytes (p .expressions .kind) (p .expressions .code) (p .expressions .a) (p .expressions .b) (p .expressions .bits)
+        (p .expressions .start) (p .items .a) (p .items .b)) ≡ putRecords (exprsTo p n) []
     unfolding lines exprsTo putRecords
     exprs-same zero l = refl
-    exprs-same (suc n) l = after-some (exprsTo p n) (withItems p (exprRecord p n) (exprStart p n)) _ _ (exprs-same n (omega arith)) (listed-same (exprRecord p n) (exprStart p n) (expr-small n (omega arith)))
+    exprs-same (suc n) l = after-some (exprsTo p n) (withItems p (exprRecord p n) (exprStart p n)) _ _ (exprs-same n (omega arith))
+        (listed-same (exprRecord p n) (exprStart p n) (expr-small n (omega arith)))
 
     pub written-same : writtenOf p ≡ writeOf p
     unfolding writtenOf
     written-same =
-        after-some (columnsTo p (p .columns .count)) (exprsTo p (p .expressions .count) ++ operatorsTo p (p .operators .count)) _ _ (columns-same (p .columns .count))
-        (after-some (exprsTo p (p .expressions .count)) (operatorsTo p (p .operators .count)) _ _ (exprs-same (p .expressions .count) (omega arith)) (operators-same (p .operators .count)))
+        after-some (columnsTo p (p .columns .count)) (exprsTo p (p .expressions .count) ++ operatorsTo p (p .operators .count)) _ _
+        (columns-same (p .columns .count))
+        (after-some (exprsTo p (p .expressions .count)) (operatorsTo p (p .operators .count)) _ _ (exprs-same (p .expressions .count) (omega arith))
+        (operators-same (p .operators .count)))

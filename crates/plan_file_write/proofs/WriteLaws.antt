@@ -28,7 +28,10 @@ code-rest true v u = refl
 code-rest false v u = refl
 
 -- a record's body, part by part
-pub body-parts : (r : Row) (x : Record) → putCode (eqb (r .code) 1) (x .code) [] ++ (putWord (r .a) (x .a) [] ++ (putWord (r .b) (x .b) [] ++ (putWord (r .c) (x .c) [] ++ (putWord (r .d) (x .d) [] ++ (putCode (eqb (r .code) 3) (x .code) [] ++ putBits (r .bits) (x .bits) []))))) ≡ putBody r x []
+pub body-parts : (r : Row) (x : Record) → putCode (eqb (r .code) 1) (x .code) []
+    ++ (putWord (r .a) (x .a) []
+    ++ (putWord (r .b) (x .b) []
+    ++ (putWord (r .c) (x .c) [] ++ (putWord (r .d) (x .d) [] ++ (putCode (eqb (r .code) 3) (x .code) [] ++ putBits (r .bits) (x .bits) []))))) ≡ putBody r x []
 unfolding putBody
 body-parts r x =
     sym
@@ -63,4 +66,5 @@ same-bits n v f = go (eqb n 4) refl
 -- a record's bytes are the plan file's where its literal fits. Assumes a record that fits
 pub same-record : (x : Record) → Fits x → recordBytes x ≡ putRecord x []
 unfolding recordBytes
-same-record x f = λ i. putRecord (record { kind = x .kind; code = x .code; a = x .a; b = x .b; c = x .c; d = x .d; bits = same-bits (rowOf (x .kind) .bits) (x .bits) (f .bits-4) i }) []
+same-record x f = λ i. putRecord
+    (record { kind = x .kind; code = x .code; a = x .a; b = x .b; c = x .c; d = x .d; bits = same-bits (rowOf (x .kind) .bits) (x .bits) (f .bits-4) i }) []

@@ -53,6 +53,8 @@ unfoldable pub writtenOf : Plan → List ℕ
 writtenOf p =
     columnsBytes (p .columns .name) (p .columns .kind) (p .columns .count)
     ++ (lines (p .expressions .count)
-    (exprBytes (p .expressions .kind) (p .expressions .code) (p .expressions .a) (p .expressions .b) (p .expressions .bits) (p .expressions .start) (p .items .a) (p .items .b))
+    (exprBytes (p .expressions .kind) (p .expressions .code) (p .expressions .a) (p .expressions .b) (p .expressions .bits) (p .expressions .start)
+    (p .items .a) (p .items .b))
     ++ lines (p .operators .count)
-    (operatorBytes (p .operators .kind) (p .operators .code) (p .operators .a) (p .operators .b) (p .operators .c) (p .operators .d) (p .operators .start) (p .items .a) (p .items .b)))
+    (operatorBytes (p .operators .kind) (p .operators .code) (p .operators .a) (p .operators .b) (p .operators .c) (p .operators .d) (p .operators .start)
+    (p .items .a) (p .items .b)))

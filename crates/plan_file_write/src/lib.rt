@@ -12,7 +12,8 @@ ghost use mathlib.Core.List.{[]};
 ghost use Rattle.writing.specs.Text.{Wrote, lines};
 ghost use Rattle.plan_file_laws.specs.ListItems.{itemKind};
 ghost use Rattle.plan_file_laws.specs.Writing.{put2 as Writing·put2, put4 as Writing·put4, put8 as Writing·put8, putWord, putCode, putBits, putBody};
-ghost use Rattle.plan_file_write.specs.Written.{clipped, clippedBits, recordBytes, itemIn, itemsBytes, listedBytes, columnIn, columnsBytes, exprBytes, operatorBytes, writtenOf};
+ghost use Rattle.plan_file_write.specs.Written.{clipped, clippedBits, recordBytes, itemIn, itemsBytes, listedBytes, columnIn, columnsBytes};
+ghost use Rattle.plan_file_write.specs.Written.{exprBytes, operatorBytes, writtenOf};
 
 // ---- numbers, high byte first
 
@@ -200,7 +201,9 @@ fn put_expr<'a>(
     second: &'a [u16],
     i: u16,
 ) -> usize
-    ensures { λ r. ⌜ Wrote (now (out .entry)) at (now (out .exit)) r (exprBytes (now (kind .entry)) (now (code .entry)) (now (a .entry)) (now (b .entry)) (now (bits .entry)) (now (start .entry)) (now (first .entry)) (now (second .entry)) i) ⌝ }
+    ensures { λ r.
+        ⌜ Wrote (now (out .entry)) at (now (out .exit)) r (exprBytes (now (kind .entry)) (now (code .entry)) (now (a .entry)) (now (b .entry))
+        (now (bits .entry)) (now (start .entry)) (now (first .entry)) (now (second .entry)) i) ⌝ }
 {
     let x = plan::expr_record(kind, code, a, b, bits, i as usize);
     let st = lists::at16(start, i as usize);
@@ -220,7 +223,10 @@ fn put_exprs<'a>(
     second: &'a [u16],
     n: u16,
 ) -> usize
-    ensures { λ r. ⌜ Wrote (now (out .entry)) at (now (out .exit)) r (lines n (exprBytes (now (kind .entry)) (now (code .entry)) (now (a .entry)) (now (b .entry)) (now (bits .entry)) (now (start .entry)) (now (first .entry)) (now (second .entry)))) ⌝ }
+    ensures { λ r.
+        ⌜ Wrote (now (out .entry)) at (now (out .exit)) r
+        (lines n (exprBytes (now (kind .entry)) (now (code .entry)) (now (a .entry)) (now (b .entry)) (now (bits .entry)) (now (start .entry))
+        (now (first .entry)) (now (second .entry)))) ⌝ }
 {
     let mut p = at;
     let mut i: u16 = 0;
@@ -245,7 +251,9 @@ fn put_operator<'a>(
     second: &'a [u16],
     i: u16,
 ) -> usize
-    ensures { λ r. ⌜ Wrote (now (out .entry)) at (now (out .exit)) r (operatorBytes (now (kind .entry)) (now (code .entry)) (now (a .entry)) (now (b .entry)) (now (c .entry)) (now (d .entry)) (now (start .entry)) (now (first .entry)) (now (second .entry)) i) ⌝ }
+    ensures { λ r.
+        ⌜ Wrote (now (out .entry)) at (now (out .exit)) r (operatorBytes (now (kind .entry)) (now (code .entry)) (now (a .entry)) (now (b .entry))
+        (now (c .entry)) (now (d .entry)) (now (start .entry)) (now (first .entry)) (now (second .entry)) i) ⌝ }
 {
     let x = plan::operator_record(kind, code, a, b, c, d, i as usize);
     let st = lists::at16(start, i as usize);
@@ -266,7 +274,10 @@ fn put_operators<'a>(
     second: &'a [u16],
     n: u16,
 ) -> usize
-    ensures { λ r. ⌜ Wrote (now (out .entry)) at (now (out .exit)) r (lines n (operatorBytes (now (kind .entry)) (now (code .entry)) (now (a .entry)) (now (b .entry)) (now (c .entry)) (now (d .entry)) (now (start .entry)) (now (first .entry)) (now (second .entry)))) ⌝ }
+    ensures { λ r.
+        ⌜ Wrote (now (out .entry)) at (now (out .exit)) r
+        (lines n (operatorBytes (now (kind .entry)) (now (code .entry)) (now (a .entry)) (now (b .entry)) (now (c .entry)) (now (d .entry))
+        (now (start .entry)) (now (first .entry)) (now (second .entry)))) ⌝ }
 {
     let mut p = at;
     let mut i: u16 = 0;

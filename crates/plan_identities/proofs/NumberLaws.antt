@@ -14,7 +14,8 @@ use Rattle.plan_rules.specs.Rules.{scans, scannedOnce}
 use Rattle.plan_identities.specs.declared.ValueId.{ValueId}
 use Rattle.plan_identities.specs.declared.ValueId.the-variants.{Base, Derived}
 use Rattle.plan_identities.specs.Places.{firstFrom}
-use Rattle.plan_identities.specs.Identities.{tableIn, tableOf, before, sizeOf, columnsOf, baseOf, derivedOf, numberBy, valueBy, numberOf, valueIdOf, identitiesOf, numberIn, valueIn, smaller, ofPlan}
+use Rattle.plan_identities.specs.Identities.{tableIn, tableOf, before, sizeOf, columnsOf, baseOf, derivedOf, numberBy, valueBy, numberOf}
+use Rattle.plan_identities.specs.Identities.{valueIdOf, identitiesOf, numberIn, valueIn, smaller, ofPlan}
 use Rattle.plan_identities.proofs.PlaceLaws.{by-test, first-only, first-none, first-passes, first-same, filled-at}
 use Rattle.plan_identities.proofs.OrderLaws.{columns-ordered}
 use Rattle.plan_identities.proofs.RankLaws.{rank-order, rank-differs, rank-small, rank-onto, count-two}

@@ -15,7 +15,8 @@ use Rattle.plan_identities.specs.declared.ValueId.{ValueId}
 use Rattle.plan_identities.specs.declared.ValueId.the-variants.{Base, Derived}
 use Rattle.plan_identities.specs.declared.Identities.{Identities}
 use Rattle.plan_identities.specs.Places.{firstFrom, filled}
-use Rattle.plan_identities.specs.Identities.{tableOf, nameOf, byKey, before, sizeOf, columnsOf, baseOf, numberBy, valueBy, identitiesOf, numberIn, valueIn, rankIn}
+use Rattle.plan_identities.specs.Identities.{tableOf, nameOf, byKey, before, sizeOf, columnsOf, baseOf, numberBy, valueBy, identitiesOf}
+use Rattle.plan_identities.specs.Identities.{numberIn, valueIn, rankIn}
 use Rattle.plan_identities.proofs.PlaceLaws.{filled-at, filled-same}
 
 module _ (ids : Identities) where

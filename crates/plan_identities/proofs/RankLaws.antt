@@ -37,7 +37,12 @@ count-less f g (suc n) i k h lo hi p q =
     ⊎-elim
     (λ (z : i ≡ k). rw (subst (λ (j : ℕ). f j ≡ false) (sym z) p, subst (λ (j : ℕ). g j ≡ true) (sym z) q)
     (omega (arith, count-mono f g n (suc i) (λ j a b. h j (omega arith) (omega arith)))))
-    (λ l. omega (arith, one-mono (f i) (g i) (h i (omega arith) (omega arith)), count-less f g n (suc i) k (λ j a b. h j (omega arith) (omega arith)) l (omega arith) p q))
+    (λ l. omega (
+      arith,
+      one-mono (f i) (g i) (h i (omega arith) (omega arith)),
+      count-less f g n (suc i) k (λ j a b. h j (omega arith) (omega arith)) l
+          (omega arith) p q,
+    ))
     (eq-or-lt-of-le lo)
 
 -- at most one passes where two that pass are the same
@@ -46,7 +51,11 @@ unfolding countFrom
 count-one f zero i h = omega arith
 count-one f (suc n) i h =
     by-test (f i)
-    (λ e. rw (e, count-none f n (suc i) (λ j lo hi. by-test (f j) (λ t. absurd (omega (arith, h i j (omega arith) (omega arith) (omega arith) (omega arith) e t))) (λ t. t))) (omega arith))
+    (λ e. rw (
+      e,
+      count-none f n (suc i)
+          (λ j lo hi. by-test (f j) (λ t. absurd (omega (arith, h i j (omega arith) (omega arith) (omega arith) (omega arith) e t))) (λ t. t)),
+    ) (omega arith))
     (λ e. rw e (omega (arith, count-one f n (suc i) (λ j k a b c d. h j k (omega arith) (omega arith) (omega arith) (omega arith)))))
 
 -- one at least passes where one is known to
@@ -83,7 +92,8 @@ up-to x m =
     (λ g. ⊎-elim (λ (e : m ≡ x). rw (lt-ltb x (suc m) (omega arith), le-ltb x m g, eq-eqb x m (sym e)))
     (λ l. rw (le-ltb x (suc m) l, le-ltb x m g, ne-eqb x m (λ e. omega arith))) (eq-or-lt-of-le g)) (below-or-not x m)
 
-count-up-to : (r : ℕ → ℕ) (m n i : ℕ) → countFrom (λ (c : ℕ). ltb (r c) (suc m)) i n ≡ countFrom (λ (c : ℕ). ltb (r c) m) i n + countFrom (λ (c : ℕ). eqb (r c) m) i n
+count-up-to : (r : ℕ → ℕ) (m n i : ℕ) → countFrom (λ (c : ℕ). ltb (r c) (suc m)) i n ≡ countFrom (λ (c : ℕ). ltb (r c) m) i n + countFrom
+    (λ (c : ℕ). eqb (r c) m) i n
 unfolding countFrom
 count-up-to r m zero i = refl
 count-up-to r m (suc n) i = omega (arith, up-to (r i) m, count-up-to r m n (suc i))
@@ -144,7 +154,12 @@ module _ (lt : ℕ → ℕ → Bool) (s : Strict lt) (n : ℕ) where
   -- a rank is below n
   pub rank-small : (c : ℕ) → c < n → rank c < n
   rank-small c h =
-      omega (arith, count-less (λ (b : ℕ). lt b c) (λ (b : ℕ). true) n 0 c (λ j lo hi q. refl) (omega arith) (omega arith) (s .irreflexive c) refl, count-all (λ (b : ℕ). true) n 0 (λ j lo hi. refl))
+      omega (
+        arith,
+        count-less (λ (b : ℕ). lt b c) (λ (b : ℕ). true) n 0 c (λ j lo hi q. refl) (omega arith) (omega arith) (s .irreflexive c) refl,
+        count-all
+            (λ (b : ℕ). true) n 0 (λ j lo hi. refl),
+      )
 
   -- and each number below n is a rank
   pub rank-onto : (k : ℕ) → k < n → anyFrom (λ (c : ℕ). eqb (rank c) k) 0 n ≡ true

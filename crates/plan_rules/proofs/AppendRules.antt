@@ -19,7 +19,8 @@ use Rattle.plan.specs.Append.{withColumn, withExpr, withOperator, withItem}
 use Rattle.plan.specs.Records.{itemRecordOf, exprRecord, exprStart, operatorRecord, operatorStart, itemRecord}
 use Rattle.plan.specs.Extends.{Extends, Sized}
 use Rattle.plan.proofs.AppendLaws.{column-longer, expr-longer, operator-longer, item-longer, new-column}
-use Rattle.plan_rules.specs.Rules.{recordOk, itemOk, listsOk, columnOk, exprOk, operatorOkOf, operatorOk, scansOf, scans, onceOf, scannedOnce, countsWithin, countsOk, planOk}
+use Rattle.plan_rules.specs.Rules.{recordOk, itemOk, listsOk, columnOk, exprOk, operatorOkOf, operatorOk, scansOf, scans, onceOf, scannedOnce}
+use Rattle.plan_rules.specs.Rules.{countsWithin, countsOk, planOk}
 use Rattle.plan_rules.proofs.RuleLaws.{Rules, grown}
 
 -- ---- a Scan's list is whole, and its items are columns
@@ -31,7 +32,8 @@ scan-parts ia ib used x st nc ne np k e =
     subst
     (λ (m : ℕ).
     (leb (st + (countOf (rowOf m) x + moreOf (rowOf m) x)) used
-    && (allFrom (itemOk ia ib (rowOf m .item) nc ne np) st (countOf (rowOf m) x) && allFrom (itemOk ia ib 0x40 nc ne np) (st + countOf (rowOf m) x) (moreOf (rowOf m) x)))
+    && (allFrom (itemOk ia ib (rowOf m .item) nc ne np) st (countOf (rowOf m) x) && allFrom (itemOk ia ib 0x40 nc ne np) (st + countOf (rowOf m) x)
+    (moreOf (rowOf m) x)))
     ≡ true)
     k e
 
@@ -49,15 +51,18 @@ scan-columns ia ib used x st nc ne np k e j lo hi =
 
 -- ---- a plan that extends another has the same Scans among the old operators
 module _ (p q : Plan) (e : Extends p q) (r : Rules p) where
-  abbrev lists-of : (i : ℕ) → operatorOk p i ≡ true → listsOk (p .items .a) (p .items .b) (p .items .count) (operatorRecord p i) (operatorStart p i) (p .columns .count) (p .expressions .count) i ≡ true
+  abbrev lists-of : (i : ℕ) → operatorOk p i ≡ true → listsOk (p .items .a) (p .items .b) (p .items .count) (operatorRecord p i) (operatorStart p i)
+      (p .columns .count) (p .expressions .count) i ≡ true
   unfolding operatorOkOf
   lists-of i ok = and-right (recordOk 3 (operatorRecord p i) (p .columns .count) (p .expressions .count) i) _ ok
 
   -- the items of a Scan are the same
   listed-kept : (c i : ℕ) → i < p .operators .count → operatorRecord p i .kind ≡ 0x30 →
-      anyFrom (λ (j : ℕ). eqb (getD (q .items .a) j 0) c) (operatorStart p i) (operatorRecord p i .b) ≡ anyFrom (λ (j : ℕ). eqb (getD (p .items .a) j 0) c) (operatorStart p i) (operatorRecord p i .b)
+      anyFrom (λ (j : ℕ). eqb (getD (q .items .a) j 0) c) (operatorStart p i) (operatorRecord p i .b) ≡ anyFrom (λ (j : ℕ). eqb (getD (p .items .a) j 0) c)
+      (operatorStart p i) (operatorRecord p i .b)
   listed-kept c i h k =
-      let whole = scan-whole (p .items .a) (p .items .b) (p .items .count) (operatorRecord p i) (operatorStart p i) (p .columns .count) (p .expressions .count) i k (lists-of i (r .operator i h)) in
+      let whole = scan-whole (p .items .a) (p .items .b) (p .items .count) (operatorRecord p i) (operatorStart p i) (p .columns .count)
+      (p .expressions .count) i k (lists-of i (r .operator i h)) in
       any-same (λ (j : ℕ). eqb (getD (q .items .a) j 0) c) (λ (j : ℕ). eqb (getD (p .items .a) j 0) c) (operatorRecord p i .b) (operatorStart p i)
       (λ j lo hi. ap (λ (x : Record). eqb (x .a) c) (e .item j (omega arith)))
 
@@ -85,7 +90,8 @@ module _ (p q : Plan) (e : Extends p q) (r : Rules p) where
       go true k =
           rw k
           (any-none (λ (j : ℕ). eqb (getD (p .items .a) j 0) c) (operatorRecord p i .b) (operatorStart p i)
-          (λ j lo hi. ne-eqb (getD (p .items .a) j 0) c (λ same. let lt = scan-columns (p .items .a) (p .items .b) (p .items .count) (operatorRecord p i) (operatorStart p i) (p .columns .count) (p .expressions .count) i (eqb-true _ _ k) (lists-of i (r .operator i h)) j lo hi in omega arith)))
+          (λ j lo hi. ne-eqb (getD (p .items .a) j 0) c (λ same. let lt = scan-columns (p .items .a) (p .items .b) (p .items .count) (operatorRecord p i)
+          (operatorStart p i) (p .columns .count) (p .expressions .count) i (eqb-true _ _ k) (lists-of i (r .operator i h)) j lo hi in omega arith)))
       go false k = rw k
 
   -- so, where no operator is added, each column is in at most one Scan again
@@ -93,7 +99,8 @@ module _ (p q : Plan) (e : Extends p q) (r : Rules p) where
   once-kept same c =
       ⊎-elim
       (λ old. subst (λ (n : ℕ). leb n 1 ≡ true) (sym (count-all c)) (r .once c old))
-      (λ new. subst (λ (n : ℕ). leb n 1 ≡ true) (sym (count-all c ∙ count-none (scans p c) (p .operators .count) 0 (λ i lo hi. scans-none c i (omega arith) new))) refl)
+      (λ new. subst (λ (n : ℕ). leb n 1 ≡ true)
+      (sym (count-all c ∙ count-none (scans p c) (p .operators .count) 0 (λ i lo hi. scans-none c i (omega arith) new))) refl)
       (below-or-not c (p .columns .count))
     where
       count-all : (c : ℕ) → countFrom (scans q c) 0 (q .operators .count) ≡ countFrom (scans p c) 0 (p .operators .count)
@@ -142,7 +149,8 @@ column-keeps p x s r room low high =
     grown p (withColumn p x) e r (within _ _ _ _ (omega arith) (w .exprs) (w .operators) (w .items))
     (λ i a b.
     subst (λ (n : ℕ). columnOk (withColumn p x) n ≡ true) (only-new _ _ a b)
-    (subst (λ (y : Record). (leb 1 (y .code) && leb (y .code) 5) ≡ true) (sym (new-column p x s room)) (and-both _ _ (le-leb 1 (x .code) low) (le-leb (x .code) 5 high))))
+    (subst (λ (y : Record). (leb 1 (y .code) && leb (y .code) 5) ≡ true) (sym (new-column p x s room))
+    (and-both _ _ (le-leb 1 (x .code) low) (le-leb (x .code) 5 high))))
     (λ i a b. absurd (none-new _ _ a b))
     (λ i a b. absurd (none-new _ _ a b))
     (λ c h. once-kept p (withColumn p x) e r refl c)

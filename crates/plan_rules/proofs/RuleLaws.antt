@@ -18,7 +18,8 @@ use Rattle.plan_kinds.specs.Records.{codeOk, bitsOk, handleOk, handlesOk, count
 use Rattle.plan.specs.declared.Plan.{Plan}
 use Rattle.plan.specs.Records.{itemRecordOf, exprRecord, exprStart, operatorRecord, operatorStart, itemRecord}
 use Rattle.plan.specs.Extends.{Extends}
-use Rattle.plan_rules.specs.Rules.{recordOk, itemOk, listsOk, columnOk, exprOkOf, exprOk, operatorOkOf, operatorOk, scansOf, scans, scannedOnce, countsWithin, countsOk, planOk}
+use Rattle.plan_rules.specs.Rules.{recordOk, itemOk, listsOk, columnOk, exprOkOf, exprOk, operatorOkOf, operatorOk, scansOf, scans}
+use Rattle.plan_rules.specs.Rules.{scannedOnce, countsWithin, countsOk, planOk}
 
 -- ---- the rules, part by part
 pub record Rules (p : Plan) : Type 0 where
@@ -120,10 +121,14 @@ module _ (p q : Plan) (e : Extends p q) where
   expr-kept i h ok =
       and-both _ _
       (subst (λ (x : Record). recordOk 2 x (q .columns .count) i (q .operators .count) ≡ true) (sym (e .expr i h))
-      (record-mono (p .columns .count) i (p .operators .count) (q .columns .count) i (q .operators .count) (e .columns) (le-refl i) (e .operators) 2 (exprRecord p i) (and-left _ _ ok)))
-      (subst (λ (x : Record). listsOk (q .items .a) (q .items .b) (q .items .count) x (exprStart q i) (q .columns .count) (suc i) (q .operators .count) ≡ true) (sym (e .expr i h))
-      (subst (λ (st : ℕ). listsOk (q .items .a) (q .items .b) (q .items .count) (exprRecord p i) st (q .columns .count) (suc i) (q .operators .count) ≡ true) (sym (e .expr-start i h))
-      (lists-mono (p .columns .count) (suc i) (p .operators .count) (q .columns .count) (suc i) (q .operators .count) (e .columns) (le-refl (suc i)) (e .operators)
+      (record-mono (p .columns .count) i (p .operators .count) (q .columns .count) i (q .operators .count) (e .columns) (le-refl i) (e .operators) 2
+      (exprRecord p i) (and-left _ _ ok)))
+      (subst (λ (x : Record). listsOk (q .items .a) (q .items .b) (q .items .count) x (exprStart q i) (q .columns .count) (suc i) (q .operators .count)
+      ≡ true) (sym (e .expr i h))
+      (subst (λ (st : ℕ). listsOk (q .items .a) (q .items .b) (q .items .count) (exprRecord p i) st (q .columns .count) (suc i) (q .operators .count) ≡ true)
+      (sym (e .expr-start i h))
+      (lists-mono (p .columns .count) (suc i) (p .operators .count) (q .columns .count) (suc i) (q .operators .count) (e .columns) (le-refl (suc i))
+      (e .operators)
       (p .items .a) (p .items .b) (q .items .a) (q .items .b) (p .items .count) (q .items .count) (e .items) (e .item) (exprRecord p i) (exprStart p i)
       (and-right (recordOk 2 (exprRecord p i) (p .columns .count) i (p .operators .count)) _ ok))))
 
@@ -132,9 +137,12 @@ module _ (p q : Plan) (e : Extends p q) where
   operator-kept i h ok =
       and-both _ _
       (subst (λ (x : Record). recordOk 3 x (q .columns .count) (q .expressions .count) i ≡ true) (sym (e .operator i h))
-      (record-mono (p .columns .count) (p .expressions .count) i (q .columns .count) (q .expressions .count) i (e .columns) (e .exprs) (le-refl i) 3 (operatorRecord p i) (and-left _ _ ok)))
-      (subst (λ (x : Record). listsOk (q .items .a) (q .items .b) (q .items .count) x (operatorStart q i) (q .columns .count) (q .expressions .count) i ≡ true) (sym (e .operator i h))
-      (subst (λ (st : ℕ). listsOk (q .items .a) (q .items .b) (q .items .count) (operatorRecord p i) st (q .columns .count) (q .expressions .count) i ≡ true) (sym (e .operator-start i h))
+      (record-mono (p .columns .count) (p .expressions .count) i (q .columns .count) (q .expressions .count) i (e .columns) (e .exprs) (le-refl i) 3
+      (operatorRecord p i) (and-left _ _ ok)))
+      (subst (λ (x : Record). listsOk (q .items .a) (q .items .b) (q .items .count) x (operatorStart q i) (q .columns .count) (q .expressions .count) i
+      ≡ true) (sym (e .operator i h))
+      (subst (λ (st : ℕ). listsOk (q .items .a) (q .items .b) (q .items .count) (operatorRecord p i) st (q .columns .count) (q .expressions .count) i ≡ true)
+      (sym (e .operator-start i h))
       (lists-mono (p .columns .count) (p .expressions .count) i (q .columns .count) (q .expressions .count) i (e .columns) (e .exprs) (le-refl i)
       (p .items .a) (p .items .b) (q .items .a) (q .items .b) (p .items .count) (q .items .count) (e .items) (e .item) (operatorRecord p i) (operatorStart p i)
       (and-right (recordOk 3 (operatorRecord p i) (p .columns .count) (p .expressions .count) i) _ ok))))
@@ -150,7 +158,8 @@ module _ (p q : Plan) (e : Extends p q) where
   grown r counts columns exprs operators once =
       record {
         counts = counts;
-        column = λ i h. ⊎-elim (λ l. subst (λ (x : Record). (leb 1 (x .code) && leb (x .code) 5) ≡ true) (sym (e .column i l)) (r .column i l)) (λ g. columns i g h) (below-or-not i (p .columns .count));
+        column = λ i h. ⊎-elim (λ l. subst (λ (x : Record). (leb 1 (x .code) && leb (x .code) 5) ≡ true) (sym (e .column i l)) (r .column i l))
+            (λ g. columns i g h) (below-or-not i (p .columns .count));
         expr = λ i h. ⊎-elim (λ l. expr-kept i l (r .expr i l)) (λ g. exprs i g h) (below-or-not i (p .expressions .count));
         operator = λ i h. ⊎-elim (λ l. operator-kept i l (r .operator i l)) (λ g. operators i g h) (below-or-not i (p .operators .count));
         once = once;

@@ -45,7 +45,8 @@ exprOkOf kind code a b bits start ia ib used nc np i =
 
 abbrev pub exprOk : Plan → ℕ → Bool
 exprOk p i =
-    exprOkOf (p .expressions .kind) (p .expressions .code) (p .expressions .a) (p .expressions .b) (p .expressions .bits) (p .expressions .start) (p .items .a) (p .items .b) (p .items .count) (p .columns .count) (p .operators .count) i
+    exprOkOf (p .expressions .kind) (p .expressions .code) (p .expressions .a) (p .expressions .b) (p .expressions .bits) (p .expressions .start)
+    (p .items .a) (p .items .b) (p .items .count) (p .columns .count) (p .operators .count) i
 
 -- operator i: its inputs are operators before it
 unfoldable pub operatorOkOf : List ℕ → List ℕ → List ℕ → List ℕ → List ℕ → List ℕ → List ℕ → List ℕ → List ℕ → ℕ → ℕ → ℕ → ℕ → Bool
@@ -55,7 +56,8 @@ operatorOkOf kind code a b c d start ia ib used nc ne i =
 
 abbrev pub operatorOk : Plan → ℕ → Bool
 operatorOk p i =
-    operatorOkOf (p .operators .kind) (p .operators .code) (p .operators .a) (p .operators .b) (p .operators .c) (p .operators .d) (p .operators .start) (p .items .a) (p .items .b) (p .items .count) (p .columns .count) (p .expressions .count) i
+    operatorOkOf (p .operators .kind) (p .operators .code) (p .operators .a) (p .operators .b) (p .operators .c) (p .operators .d) (p .operators .start)
+    (p .items .a) (p .items .b) (p .items .count) (p .columns .count) (p .expressions .count) i
 
 -- operator i is a Scan that lists column c
 unfoldable pub scansOf : List ℕ → List ℕ → List ℕ → List ℕ → ℕ → ℕ → Bool

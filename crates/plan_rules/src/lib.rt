@@ -118,7 +118,8 @@ fn expr_ok<'a>(
     i: u16,
 ) -> bool
     requires { ⌜ i ≤ 1024 ⌝ }
-    ensures { λ r. ⌜ r ≡ exprOkOf (now (kind .entry)) (now (code .entry)) (now (a .entry)) (now (b .entry)) (now (bits .entry)) (now (start .entry)) (now (ia .entry)) (now (ib .entry)) used nc np i ⌝ }
+    ensures { λ r. ⌜ r ≡ exprOkOf (now (kind .entry)) (now (code .entry)) (now (a .entry)) (now (b .entry)) (now (bits .entry)) (now (start .entry))
+        (now (ia .entry)) (now (ib .entry)) used nc np i ⌝ }
 {
     let x = plan::expr_record(kind, code, a, b, bits, i as usize);
     let st = lists::at16(start, i as usize);
@@ -141,7 +142,9 @@ fn exprs_ok<'a>(
     n: u16,
 ) -> bool
     requires { ⌜ n ≤ 1024 ⌝ }
-    ensures { λ r. ⌜ r ≡ allFrom (exprOkOf (now (kind .entry)) (now (code .entry)) (now (a .entry)) (now (b .entry)) (now (bits .entry)) (now (start .entry)) (now (ia .entry)) (now (ib .entry)) used nc np) 0 n ⌝ }
+    ensures { λ r.
+        ⌜ r ≡ allFrom (exprOkOf (now (kind .entry)) (now (code .entry)) (now (a .entry)) (now (b .entry)) (now (bits .entry)) (now (start .entry))
+        (now (ia .entry)) (now (ib .entry)) used nc np) 0 n ⌝ }
 {
     let mut i: u16 = 0;
     while i < n {
@@ -169,7 +172,8 @@ fn operator_ok<'a>(
     ne: u16,
     i: u16,
 ) -> bool
-    ensures { λ r. ⌜ r ≡ operatorOkOf (now (kind .entry)) (now (code .entry)) (now (a .entry)) (now (b .entry)) (now (c .entry)) (now (d .entry)) (now (start .entry)) (now (ia .entry)) (now (ib .entry)) used nc ne i ⌝ }
+    ensures { λ r. ⌜ r ≡ operatorOkOf (now (kind .entry)) (now (code .entry)) (now (a .entry)) (now (b .entry)) (now (c .entry)) (now (d .entry))
+        (now (start .entry)) (now (ia .entry)) (now (ib .entry)) used nc ne i ⌝ }
 {
     let x = plan::operator_record(kind, code, a, b, c, d, i as usize);
     let st = lists::at16(start, i as usize);
@@ -192,7 +196,9 @@ fn operators_ok<'a>(
     ne: u16,
     n: u16,
 ) -> bool
-    ensures { λ r. ⌜ r ≡ allFrom (operatorOkOf (now (kind .entry)) (now (code .entry)) (now (a .entry)) (now (b .entry)) (now (c .entry)) (now (d .entry)) (now (start .entry)) (now (ia .entry)) (now (ib .entry)) used nc ne) 0 n ⌝ }
+    ensures { λ r.
+        ⌜ r ≡ allFrom (operatorOkOf (now (kind .entry)) (now (code .entry)) (now (a .entry)) (now (b .entry)) (now (c .entry)) (now (d .entry))
+        (now (start .entry)) (now (ia .entry)) (now (ib .entry)) used nc ne) 0 n ⌝ }
 {
     let mut i: u16 = 0;
     while i < n {

@@ -20,7 +20,8 @@ never (suc n) (suc e) = never n e
 
 module _ (columns : List ℕ) (node : ℕ → ExprData) (items : List ℕ) where
   -- h is typed in a list of flags where its node is, by the flags before it
-  pub typing-step : (n h : ℕ) → h < n → flagged (typings columns node items n) h ≡ nodeTyped (flagged (typings columns node items h)) (booleanAt columns node) (operandsOf items) (node h)
+  pub typing-step : (n h : ℕ) → h < n → flagged (typings columns node items n) h ≡ nodeTyped (flagged (typings columns node items h)) (booleanAt columns node)
+      (operandsOf items) (node h)
   unfolding typings
   typing-step n h lt = in-order-at (typingNext columns node items) false n h lt
 

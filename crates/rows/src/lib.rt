@@ -165,7 +165,10 @@ fn value_of<'a>(
     below: usize,
     h: usize,
 ) -> ScalarValue
-    ensures { λ r. ⌜ r ≡ valueIn (values (cellOf (now («row_case» .entry)) (now («row_code» .entry)) (now («row_bits» .entry))) (nodeOf (now (kind .entry)) (now (code .entry)) (now (a .entry)) (now (b .entry)) (now (bits .entry)) (now (start .entry))) (now (items .entry)) below) h ⌝ }
+    ensures { λ r.
+        ⌜ r ≡ valueIn (values (cellOf (now («row_case» .entry)) (now («row_code» .entry)) (now («row_bits» .entry)))
+        (nodeOf (now (kind .entry)) (now (code .entry)) (now (a .entry)) (now (b .entry)) (now (bits .entry)) (now (start .entry))) (now (items .entry))
+        below) h ⌝ }
 {
     if below <= h {
         return ScalarValue::Null(Kind::Boolean);
@@ -262,7 +265,11 @@ fn value_of_run<'a>(
     at: usize,
     n: usize,
 ) -> u8
-    ensures { λ r. ⌜ r ≡ naryOf op (truths (valueIn (values (cellOf (now («row_case» .entry)) (now («row_code» .entry)) (now («row_bits» .entry))) (nodeOf (now (kind .entry)) (now (code .entry)) (now (a .entry)) (now (b .entry)) (now (bits .entry)) (now (start .entry))) (now (items .entry)) below)) (take n (drop at (now (items .entry))))) ⌝ }
+    ensures { λ r.
+        ⌜ r ≡ naryOf op
+        (truths (valueIn (values (cellOf (now («row_case» .entry)) (now («row_code» .entry)) (now («row_bits» .entry)))
+        (nodeOf (now (kind .entry)) (now (code .entry)) (now (a .entry)) (now (b .entry)) (now (bits .entry)) (now (start .entry))) (now (items .entry))
+        below)) (take n (drop at (now (items .entry))))) ⌝ }
 {
     let mut t = none_of(op);
     let mut j = at;
@@ -321,7 +328,9 @@ fn boolean_at<'a>(
     columns: &'a [u8],
     i: usize,
 ) -> bool
-    ensures { λ r. ⌜ r ≡ booleanAt (now (columns .entry)) (nodeOf (now (kind .entry)) (now (code .entry)) (now (a .entry)) (now (b .entry)) (now (bits .entry)) (now (start .entry))) i ⌝ }
+    ensures { λ r.
+        ⌜ r ≡ booleanAt (now (columns .entry)) (nodeOf (now (kind .entry)) (now (code .entry)) (now (a .entry)) (now (b .entry)) (now (bits .entry))
+        (now (start .entry))) i ⌝ }
 {
     let node = plan_data::node_at(kind, code, a, b, bits, start, i);
     scalar::same_kind(kind_of_node(columns, node), Kind::Boolean)
@@ -358,7 +367,10 @@ fn wanted<'a>(
     flags: &'a [bool],
     e: usize,
 ) -> bool
-    ensures { λ r. ⌜ r ≡ wanted (flagged (now (flags .entry))) (booleanAt (now (columns .entry)) (nodeOf (now (kind .entry)) (now (code .entry)) (now (a .entry)) (now (b .entry)) (now (bits .entry)) (now (start .entry)))) e ⌝ }
+    ensures { λ r.
+        ⌜ r ≡ wanted (flagged (now (flags .entry)))
+        (booleanAt (now (columns .entry)) (nodeOf (now (kind .entry)) (now (code .entry)) (now (a .entry)) (now (b .entry)) (now (bits .entry))
+        (now (start .entry)))) e ⌝ }
 {
     at_flag(flags, e) & boolean_at(kind, code, a, b, bits, start, columns, e)
 }
@@ -377,7 +389,11 @@ fn all_wanted<'a>(
     at: usize,
     n: usize,
 ) -> bool
-    ensures { λ r. ⌜ r ≡ every (wanted (flagged (now (flags .entry))) (booleanAt (now (columns .entry)) (nodeOf (now (kind .entry)) (now (code .entry)) (now (a .entry)) (now (b .entry)) (now (bits .entry)) (now (start .entry))))) (take n (drop at (now (items .entry)))) ⌝ }
+    ensures { λ r.
+        ⌜ r ≡ every
+        (wanted (flagged (now (flags .entry)))
+        (booleanAt (now (columns .entry)) (nodeOf (now (kind .entry)) (now (code .entry)) (now (a .entry)) (now (b .entry)) (now (bits .entry))
+        (now (start .entry))))) (take n (drop at (now (items .entry)))) ⌝ }
 {
     let mut j = at;
     let mut left = n;
@@ -408,7 +424,11 @@ fn node_typed<'a>(
     flags: &'a [bool],
     h: usize,
 ) -> bool
-    ensures { λ r. ⌜ r ≡ nodeTyped (flagged (now (flags .entry))) (booleanAt (now (columns .entry)) (nodeOf (now (kind .entry)) (now (code .entry)) (now (a .entry)) (now (b .entry)) (now (bits .entry)) (now (start .entry)))) (operandsOf (now (items .entry))) (nodeOf (now (kind .entry)) (now (code .entry)) (now (a .entry)) (now (b .entry)) (now (bits .entry)) (now (start .entry)) h) ⌝ }
+    ensures { λ r.
+        ⌜ r ≡ nodeTyped (flagged (now (flags .entry)))
+        (booleanAt (now (columns .entry)) (nodeOf (now (kind .entry)) (now (code .entry)) (now (a .entry)) (now (b .entry)) (now (bits .entry))
+        (now (start .entry)))) (operandsOf (now (items .entry))) (nodeOf (now (kind .entry)) (now (code .entry)) (now (a .entry)) (now (b .entry))
+        (now (bits .entry)) (now (start .entry)) h) ⌝ }
 {
     let node = plan_data::node_at(kind, code, a, b, bits, start, h);
     match node {
@@ -450,7 +470,9 @@ fn typed_at<'a>(
     h: usize,
 ) -> bool
     requires { ⌜ h < 1024 ⌝ }
-    ensures { λ r. ⌜ r ≡ typedAt (now (columns .entry)) (nodeOf (now (kind .entry)) (now (code .entry)) (now (a .entry)) (now (b .entry)) (now (bits .entry)) (now (start .entry))) (now (items .entry)) h ⌝ }
+    ensures { λ r.
+        ⌜ r ≡ typedAt (now (columns .entry)) (nodeOf (now (kind .entry)) (now (code .entry)) (now (a .entry)) (now (b .entry)) (now (bits .entry))
+        (now (start .entry))) (now (items .entry)) h ⌝ }
 {
     let mut flags = [false; 1024];
     let mut i: usize = 0;

@@ -35,7 +35,8 @@ use Rattle.rows_laws.specs.References.{nodeRefers, refersNext, reference
 use Rattle.rows_laws.proofs.NodeRules.{NodeOk, node-ok}
 
 -- two lists made entry by entry are the same where each next entry is, over the entries of one of them
-in-order-same : {A : Type 0} (entry other : List A → ℕ → A) (n : ℕ) → ((k : ℕ) → k < n → entry (inOrder entry k) k ≡ other (inOrder entry k) k) → inOrder entry n ≡ inOrder other n
+in-order-same : {A : Type 0} (entry other : List A → ℕ → A) (n : ℕ) → ((k : ℕ) → k < n → entry (inOrder entry k) k ≡ other (inOrder entry k) k) → inOrder
+    entry n ≡ inOrder other n
 unfolding inOrder
 in-order-same entry other zero h = refl
 in-order-same {A} entry other (suc n) h =
@@ -50,14 +51,16 @@ SameRun items more (Unary op e) = Unit {0}
 SameRun items more (Binary op l r) = Unit {0}
 SameRun items more (Nary op es) = operandsOf more es ≡ operandsOf items es
 
-run-value : (cell value : ℕ → ScalarValue) (items more : List ℕ) (x : ExprData) → SameRun items more x → nodeValue cell value (operandsOf items) x ≡ nodeValue cell value (operandsOf more) x
+run-value : (cell value : ℕ → ScalarValue) (items more : List ℕ) (x : ExprData) → SameRun items more x → nodeValue cell value (operandsOf items) x ≡ nodeValue
+    cell value (operandsOf more) x
 run-value cell value items more (Literal v) s = refl
 run-value cell value items more (ColumnRef c) s = refl
 run-value cell value items more (Unary op e) s = refl
 run-value cell value items more (Binary op l r) s = refl
 run-value cell value items more (Nary op es) s = ap (λ (l : List ℕ). ofTruth (naryOf op (truths value l))) (sym s)
 
-run-refers : (c : ℕ) (refers : ℕ → Bool) (items more : List ℕ) (x : ExprData) → SameRun items more x → nodeRefers c refers (operandsOf items) x ≡ nodeRefers c refers (operandsOf more) x
+run-refers : (c : ℕ) (refers : ℕ → Bool) (items more : List ℕ) (x : ExprData) → SameRun items more x → nodeRefers c refers (operandsOf items) x ≡ nodeRefers c
+    refers (operandsOf more) x
 run-refers c refers items more (Literal v) s = refl
 run-refers c refers items more (ColumnRef k) s = refl
 run-refers c refers items more (Unary op e) s = refl
@@ -115,7 +118,8 @@ module _ (node other : ℕ → ExprData) (items more : List ℕ) (n : ℕ)
         (sym
         (in-order-same (typingNext columns node items) (typingNext wider other more) (suc h)
         (λ k l.
-        run-typed (flagged (inOrder (typingNext columns node items) k)) (booleanAt columns node) (booleanAt wider other) (wanted-same k (omega arith)) items more (node k) (runs k (omega arith))
+        run-typed (flagged (inOrder (typingNext columns node items) k)) (booleanAt columns node) (booleanAt wider other) (wanted-same k (omega arith)) items
+        more (node k) (runs k (omega arith))
         ∙ ap (nodeTyped (flagged (inOrder (typingNext columns node items) k)) (booleanAt wider other) (operandsOf more)) (sym (nodes k (omega arith))))))
 
 -- a part of two lists whose entries there are the same
@@ -126,7 +130,8 @@ part-same l m (suc n) s a b h =
     let p : s < length l = omega arith in
     let q : s < length m = omega arith in
     rw (drop-cons l s 0 p, drop-cons m s 0 q)
-    (ap₂ (λ (x : ℕ) (xs : List ℕ). x ∷ xs) (h s (omega arith) (omega arith)) (part-same l m n (suc s) (omega arith) (omega arith) (λ j lo hi. h j (omega arith) (omega arith))))
+    (ap₂ (λ (x : ℕ) (xs : List ℕ). x ∷ xs) (h s (omega arith) (omega arith))
+    (part-same l m n (suc s) (omega arith) (omega arith) (λ j lo hi. h j (omega arith) (omega arith))))
 
 module _ (p q : Plan) (r : Rules p) (e : Extends p q) (sp : Sized p) (sq : Sized q) where
   -- the expressions that p had are the same nodes in q
@@ -164,8 +169,10 @@ module _ (p q : Plan) (r : Rules p) (e : Extends p q) (sp : Sized p) (sq : Sized
   pub typed-kept : (h : ℕ) → h < p .expressions .count → typed q h ≡ typed p h
   typed-kept h lt =
       ap₂ (λ (a b : Bool). a && b)
-      (boolean-same (nodeAt p) (nodeAt q) (p .items .a) (q .items .a) (p .expressions .count) node-kept run-kept (p .columns .kind) (q .columns .kind) kind-kept h lt)
-      (typed-same (nodeAt p) (nodeAt q) (p .items .a) (q .items .a) (p .expressions .count) node-kept run-kept (p .columns .kind) (q .columns .kind) kind-kept h lt)
+      (boolean-same (nodeAt p) (nodeAt q) (p .items .a) (q .items .a) (p .expressions .count) node-kept run-kept (p .columns .kind) (q .columns .kind)
+      kind-kept h lt)
+      (typed-same (nodeAt p) (nodeAt q) (p .items .a) (q .items .a) (p .expressions .count) node-kept run-kept (p .columns .kind) (q .columns .kind) kind-kept
+      h lt)
 
   -- and refers to the same columns
   pub refers-kept : (h c : ℕ) → h < p .expressions .count → exprRefersTo q h c ≡ exprRefersTo p h c

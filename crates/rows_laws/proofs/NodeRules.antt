@@ -95,26 +95,27 @@ module _ (ia ib : List ℕ) (used : ℕ) (x : Record) (st nc h np : ℕ) (k : x 
       (subst (λ (n : ℕ). itemOk ia ib (rowOf n .item) nc (suc h) np j ≡ true) k
       (all-at (itemOk ia ib (rowOf (x .kind) .item) nc (suc h) np) (countOf (rowOf (x .kind)) x) st items-right j lo (omega (arith, counted))))
 
-module _ (nc np used h : ℕ) (ia ib : List ℕ) (x : Record) (st : ℕ) (ok : recordOk 2 x nc h np ≡ true) (lists : listsOk ia ib used x st nc (suc h) np ≡ true) where
-  pub record-node : NodeOk nc ia used h (exprData x st)
-  unfolding exprData
-  record-node = go (eqb (x .kind) 0x20) (eqb (x .kind) 0x21) (eqb (x .kind) 0x22) (eqb (x .kind) 0x23) refl refl refl refl
-    where
-      go : (a b c d : Bool) → eqb (x .kind) 0x20 ≡ a → eqb (x .kind) 0x21 ≡ b → eqb (x .kind) 0x22 ≡ c → eqb (x .kind) 0x23 ≡ d
-          → NodeOk nc ia used h
-          (cond a (ColumnRef (record { 0 = x .a }))
-          (cond b (Unary (unaryOpOf (x .code)) (record { 0 = x .a }))
-          (cond c (Binary (binaryOpOf (x .code)) (record { 0 = x .a }) (record { 0 = x .b }))
-          (cond d (Nary (naryOpOf (x .code)) (runOf st (x .a))) (Literal (scalarOf (x .kind) (x .code) (x .bits)))))))
-      go true b c d p q r s = column-known x nc h np ok (eqb-true (x .kind) 0x20 p)
-      go false true c d p q r s = operand-earlier x nc h np ok (eqb-true (x .kind) 0x21 q)
-      go false false true d p q r s =
-          (left-earlier x nc h np ok (eqb-true (x .kind) 0x22 r), right-earlier x nc h np ok (eqb-true (x .kind) 0x22 r))
-      go false false false true p q r s = (
-        list-within ia ib used x st nc h np (eqb-true (x .kind) 0x23 s) lists,
-        listed-earlier ia ib used x st nc h np (eqb-true (x .kind) 0x23 s) lists,
-      )
-      go false false false false p q r s = tt
+module _ (nc np used h : ℕ) (ia ib : List ℕ) (x : Record) (st : ℕ) (ok : recordOk 2 x nc h np ≡ true) (lists : listsOk ia ib used x st nc (suc h) np ≡ true)
+  where
+    pub record-node : NodeOk nc ia used h (exprData x st)
+    unfolding exprData
+    record-node = go (eqb (x .kind) 0x20) (eqb (x .kind) 0x21) (eqb (x .kind) 0x22) (eqb (x .kind) 0x23) refl refl refl refl
+      where
+        go : (a b c d : Bool) → eqb (x .kind) 0x20 ≡ a → eqb (x .kind) 0x21 ≡ b → eqb (x .kind) 0x22 ≡ c → eqb (x .kind) 0x23 ≡ d
+            → NodeOk nc ia used h
+            (cond a (ColumnRef (record { 0 = x .a }))
+            (cond b (Unary (unaryOpOf (x .code)) (record { 0 = x .a }))
+            (cond c (Binary (binaryOpOf (x .code)) (record { 0 = x .a }) (record { 0 = x .b }))
+            (cond d (Nary (naryOpOf (x .code)) (runOf st (x .a))) (Literal (scalarOf (x .kind) (x .code) (x .bits)))))))
+        go true b c d p q r s = column-known x nc h np ok (eqb-true (x .kind) 0x20 p)
+        go false true c d p q r s = operand-earlier x nc h np ok (eqb-true (x .kind) 0x21 q)
+        go false false true d p q r s =
+            (left-earlier x nc h np ok (eqb-true (x .kind) 0x22 r), right-earlier x nc h np ok (eqb-true (x .kind) 0x22 r))
+        go false false false true p q r s = (
+          list-within ia ib used x st nc h np (eqb-true (x .kind) 0x23 s) lists,
+          listed-earlier ia ib used x st nc h np (eqb-true (x .kind) 0x23 s) lists,
+        )
+        go false false false false p q r s = tt
 
 -- every expression of a plan that keeps the rules
 pub node-ok : (p : Plan) → Rules p → (h : ℕ) → h < p .expressions .count → NodeOk (p .columns .count) (p .items .a) (p .items .count) h (nodeAt p h)

@@ -69,7 +69,8 @@ module _ (node : ℕ → ExprData) (items : List ℕ) where
     alike zero h lt s = absurd (omega arith)
     alike (suc n) h lt s =
         value-step cell node items (suc h) h (omega arith)
-        ∙ node-same cell other (valueIn (values cell node items h)) (valueIn (values other node items h)) (λ (c : ℕ). flagged (references node items c h)) (operandsOf items)
+        ∙ node-same cell other (valueIn (values cell node items h)) (valueIn (values other node items h)) (λ (c : ℕ). flagged (references node items c h))
+        (operandsOf items)
         (λ e r.
         ⊎-elim (λ l. value-in cell node items h e l ∙ alike n e (omega arith) (λ c q. r c (reference-in c h e l ∙ q)) ∙ sym (value-in other node items h e l))
         (λ g. value-past cell node items h e g ∙ sym (value-past other node items h e g)) (below-or-not e h))

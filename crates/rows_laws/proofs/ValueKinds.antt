@@ -74,7 +74,8 @@ pub value-kind : (p : Plan) (row : Row) → planOk p ≡ true → rowOk p row �
     → ofKind (kindAt (p .columns .kind) (nodeAt p) h) (valueOn p row h) ≡ true
 value-kind p row ok right h lt =
     rw (value-step (cellAt row) (nodeAt p) (p .items .a) (suc h) h (omega arith))
-    (node-kind (p .columns .kind) (cellAt row) (valueIn (values (cellAt row) (nodeAt p) (p .items .a) h)) (operandsOf (p .items .a)) (p .columns .count) (row-fits p row right)
+    (node-kind (p .columns .kind) (cellAt row) (valueIn (values (cellAt row) (nodeAt p) (p .items .a) h)) (operandsOf (p .items .a)) (p .columns .count)
+    (row-fits p row right)
     (p .items .a) (p .items .count) h (nodeAt p h) (node-ok p (rules p ok) h lt))
 
 -- a typed expression is Boolean or NULL
@@ -82,7 +83,8 @@ pub typed-boolean : (p : Plan) (row : Row) → planOk p ≡ true → rowOk p row
     → ofKind K.Boolean (valueOn p row h) ≡ true
 typed-boolean p row ok right h lt t =
     subst (λ (k : Kind). ofKind k (valueOn p row h) ≡ true)
-    (kinds-same (kindAt (p .columns .kind) (nodeAt p) h) K.Boolean (and-left (booleanAt (p .columns .kind) (nodeAt p) h) (typedAt (p .columns .kind) (nodeAt p) (p .items .a) h) t))
+    (kinds-same (kindAt (p .columns .kind) (nodeAt p) h) K.Boolean
+    (and-left (booleanAt (p .columns .kind) (nodeAt p) h) (typedAt (p .columns .kind) (nodeAt p) (p .items .a) h) t))
     (value-kind p row ok right h lt)
 
 -- TRUE, FALSE or UNKNOWN: a Boolean, or a NULL of some kind
@@ -125,4 +127,5 @@ evaluated p e row v = go (planOk p) (ltb (e .0) (p .expressions .count)) (typed 
 pub answer-ternary : (p : Plan) (e : Expr) (row : Row) (v : ScalarValue) → evaluateOf p e row ≡ Value v → Ternary v
 answer-ternary p e row v q =
     let r = evaluated p e row v q in
-    ternary v (subst (λ (w : ScalarValue). ofKind K.Boolean w ≡ true) (sym (r .value-is)) (typed-boolean p row (r .rules-kept) (r .row-right) (e .0) (r .is-there) (r .is-typed)))
+    ternary v (subst (λ (w : ScalarValue). ofKind K.Boolean w ≡ true) (sym (r .value-is))
+    (typed-boolean p row (r .rules-kept) (r .row-right) (e .0) (r .is-there) (r .is-typed)))

@@ -16,7 +16,8 @@ use Rattle.scalar.specs.declared.ScalarValue.the-variants as S
 use Rattle.scalar.proofs.ScalarValue.{the-type}
 
 -- a is the variant i, and b is one of the variants ks, which i is not
-module _ {X : Type 0} (other : X) (fn : Kind → Kind → X) (fb : Bool → Bool → X) (fi fj : ℤ → ℤ → X) (ff : Float → Float → X) (fd : ℤ → ℤ → X) (i : ℕ) (ks : List ℕ) where
+module _ {X : Type 0} (other : X) (fn : Kind → Kind → X) (fb : Bool → Bool → X) (fi fj : ℤ → ℤ → X) (ff : Float → Float → X) (fd : ℤ → ℤ → X) (i : ℕ)
+    (ks : List ℕ) where
   pub apart : (a b : ScalarValue) → tagOf the-type a ≡ i → T (not (hasKey ks i)) → OneOf ks (tagOf the-type b) → other ≡ pairwise other fn fb fi fj ff fd a b
   apart (S.Null x) (S.Null y) e h o = absurd (miss ks 0 (subst (λ (k : ℕ). T (not (hasKey ks k))) (sym e) h) o)
   apart (S.Null x) (S.Boolean y) e h o = refl

@@ -37,9 +37,11 @@ in-range (pos n) h k = le→leb n 9007199254740992 (ltb-false 9007199254740992 n
 in-range (negsuc n) h k = lt→ltb n 9007199254740992 (omega (arith, ltb-false 9007199254740991 n h))
 
 pub refused : (n : ℤ) (v : ScalarValue) → v ≡ S.Int64 n → SFits w64 n → inFloat binary64 (toZ w64 (ofZ w64 n)) ≡ false → Nothing ≡ scalarToF64 v
-refused n v e f h = sym (ap scalarToF64 e ∙ ap (λ (b : Bool). cond b (Of (ofInt binary64 n)) Nothing) (small-inFloat n ∙ ap (inFloat binary64) (sym (toZ-ofZ w64 n f)) ∙ h))
+refused n v e f h = sym (ap scalarToF64 e ∙ ap (λ (b : Bool). cond b (Of (ofInt binary64 n)) Nothing)
+    (small-inFloat n ∙ ap (inFloat binary64) (sym (toZ-ofZ w64 n f)) ∙ h))
 
-pub taken : (n : ℤ) (v : ScalarValue) → v ≡ S.Int64 n → SFits w64 n → T (inFloat binary64 (toZ w64 (ofZ w64 n))) → Of (ofInt binary64 (toZ w64 (ofZ w64 n))) ≡ scalarToF64 v
+pub taken : (n : ℤ) (v : ScalarValue) → v ≡ S.Int64 n → SFits w64 n → T (inFloat binary64 (toZ w64 (ofZ w64 n))) → Of (ofInt binary64 (toZ w64 (ofZ w64 n)))
+    ≡ scalarToF64 v
 taken n v e f t =
     ap (λ (z : ℤ). Of (ofInt binary64 z)) (toZ-ofZ w64 n f)
     ∙ sym (ap scalarToF64 e ∙ pick-yes (small n) (Of (ofInt binary64 n)) Nothing (subst T (ap (inFloat binary64) (toZ-ofZ w64 n f) ∙ sym (small-inFloat n)) t))

@@ -3,7 +3,8 @@
 use mathlib.Core.Path.{_≡_, refl, sym, ap, ap₂, _∙_}
 use mathlib.Core.Bool.{Bool, true, false, not, _&&_, _||_, Bool·beq, and-true, and-false, and-self}
 use Prim.Native.Nat.{ℕ, zero, suc, _+_, _-_, _*_, _%_, _^_, _≤_, _<_}
-use native.Mathlib.Nat.{lt-of-mul-lt-mul-right, mul-lt-mul-of-pos-right, eq-of-mul-eq-mul-right, add-mul, mul-right-comm, mul-assoc, mul-comm, zero-mul, mul-one, zero-add, mul-pos, lt-irrefl, lt-of-lt-of-le}
+use native.Mathlib.Nat.{lt-of-mul-lt-mul-right, mul-lt-mul-of-pos-right, eq-of-mul-eq-mul-right, add-mul, mul-right-comm, mul-assoc, mul-comm}
+use native.Mathlib.Nat.{zero-mul, mul-one, zero-add, mul-pos, lt-irrefl, lt-of-lt-of-le}
 use native.Mathlib.Omega.{arith}
 use lib.Dec.{T, leb, ltb, eqb, lt→ltb, le→leb, ltb→lt, leb→le, eqb→eq, nleb→lt, leb·suc-zero, leb·suc-suc, leb·zero, eqb·zero-suc, eqb·suc-zero, eqb·suc-suc}
 use lib.Pow.{pow-add, pow-pos, pow-lt}
@@ -162,13 +163,15 @@ pub ltZ-scale : (a b : ℤ) (p : ℕ) → 0 < p → ltZ (a *ℤ pos p) (b *ℤ p
 ltZ-scale (pos a) (pos b) p h = ltb-scale a b p h
 ltZ-scale (pos a) (negsuc b) p h = sym (below-signed false (a * p) true (suc b * p))
 ltZ-scale (negsuc a) (pos b) p h = sym (below-signed true (suc a * p) false (b * p)) ∙ below-scale true (suc a) false b p h ∙ below-signed true (suc a) false b
-ltZ-scale (negsuc a) (negsuc b) p h = sym (below-signed true (suc a * p) true (suc b * p)) ∙ below-scale true (suc a) true (suc b) p h ∙ below-signed true (suc a) true (suc b)
+ltZ-scale (negsuc a) (negsuc b) p h = sym (below-signed true (suc a * p) true (suc b * p)) ∙ below-scale true (suc a) true (suc b) p h ∙ below-signed true
+    (suc a) true (suc b)
 
 pub eqZ-scale : (a b : ℤ) (p : ℕ) → 0 < p → eqZ (a *ℤ pos p) (b *ℤ pos p) ≡ eqZ a b
 eqZ-scale (pos a) (pos b) p h = eqb-scale a b p h
 eqZ-scale (pos a) (negsuc b) p h = sym (level-signed false (a * p) true (suc b * p)) ∙ level-scale false a true (suc b) p h ∙ level-signed false a true (suc b)
 eqZ-scale (negsuc a) (pos b) p h = sym (level-signed true (suc a * p) false (b * p)) ∙ level-scale true (suc a) false b p h ∙ level-signed true (suc a) false b
-eqZ-scale (negsuc a) (negsuc b) p h = sym (level-signed true (suc a * p) true (suc b * p)) ∙ level-scale true (suc a) true (suc b) p h ∙ level-signed true (suc a) true (suc b)
+eqZ-scale (negsuc a) (negsuc b) p h = sym (level-signed true (suc a * p) true (suc b * p)) ∙ level-scale true (suc a) true (suc b) p h ∙ level-signed true
+    (suc a) true (suc b)
 
 -- a whole number as a float is finite
 whole-finite : (x : Float) (s : Bool) (n : ℕ) → HasValue x s n 1 → T (finite x)

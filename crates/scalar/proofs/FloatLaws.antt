@@ -78,7 +78,8 @@ eq-self (fin s m e) =
     eq-deep l x x tt tt (omega arith) (omega arith) ∙ is-true (eqZ (exactAt l x) (exactAt l x)) (eqZ-refl (exactAt l x))
 
 -- what answers alike for finite floats of one value answers alike for floats that are `==`
-module _ (G : Float → Bool) (respects : (x y : Float) → T (finite x) → T (finite y) → ((l : ℕ) → depth x ≤ l → depth y ≤ l → exactAt l x ≡ exactAt l y) → G x ≡ G y) where
+module _ (G : Float → Bool) (respects : (x y : Float) → T (finite x) → T (finite y) → ((l : ℕ) → depth x ≤ l → depth y ≤ l → exactAt l x ≡ exactAt l y) → G x
+    ≡ G y) where
   pub alike : (x y : Float) → eq x y ≡ true → G x ≡ G y
   unfolding eq
   alike nan y h = absurd (false≢true h)
@@ -146,7 +147,8 @@ lt-self (inf s) = below-none s
 lt-self (fin s m e) =
     let x = fin s m e in
     let l = depth x in
-    lt-deep l x x tt tt (omega arith) (omega arith) ∙ is-false (ltZ (exactAt l x) (exactAt l x)) (not-T (ltZ (exactAt l x) (exactAt l x)) (irrefl (exactAt l x)))
+    lt-deep l x x tt tt (omega arith) (omega arith) ∙ is-false (ltZ (exactAt l x) (exactAt l x))
+    (not-T (ltZ (exactAt l x) (exactAt l x)) (irrefl (exactAt l x)))
 
 -- floats that are `==` are not `<`
 pub lt-apart : (x y : Float) → lt x y ≡ true → eq x y ≡ false

@@ -29,7 +29,12 @@ pub record Converts (v : ScalarValue) (x : Float) : Type 0 where
   pub held : T (fits binary64 x)
   pub same : exactIn binary64 x ≡ valueOf v
 
-whole : (z : ℤ) → T (inFloat binary64 z) → record { number : T (finite (ofInt binary64 z)); held : T (fits binary64 (ofInt binary64 z)); same : exactIn binary64 (ofInt binary64 z) ≡ wholeIn binary64 z }
+whole : (z : ℤ) → T (inFloat binary64 z) → record {
+  number : T (finite (ofInt binary64 z));
+  held : T (fits binary64 (ofInt binary64 z));
+  same : exactIn
+      binary64 (ofInt binary64 z) ≡ wholeIn binary64 z;
+}
 whole z t = record { number = ofInt-finite binary64 z t; held = ofInt-fits binary64 z; same = exact-ofInt binary64 z t }
 
 -- P of the number, where there is one
@@ -45,7 +50,8 @@ all : (v : ScalarValue) → Typed v → OfNumber (Converts v) (scalarToF64 v)
 all (S.Null k) h = tt
 all (S.Boolean b) h = tt
 all (S.Int32 n) h = let w = whole n (i32-inFloat n h) in record { number = w .number; held = w .held; same = w .same }
-all (S.Int64 n) h = chosen (Converts (S.Int64 n)) (small n) (ofInt binary64 n) (λ t. let w = whole n (subst T (small-inFloat n) t) in record { number = w .number; held = w .held; same = w .same })
+all (S.Int64 n) h = chosen (Converts (S.Int64 n)) (small n) (ofInt binary64 n)
+    (λ t. let w = whole n (subst T (small-inFloat n) t) in record { number = w .number; held = w .held; same = w .same })
 all (S.Float64 x) h = chosen (Converts (S.Float64 x)) (finite x) x (λ t. record { number = t; held = h; same = refl })
 all (S.Date32 n) h = let w = whole n (i32-inFloat n h) in record { number = w .number; held = w .held; same = w .same }
 
@@ -87,7 +93,8 @@ whole-value (S.Int64 n) h = refl
 whole-value (S.Float64 x) h = absurd (false≢true h)
 whole-value (S.Date32 n) h = refl
 
-module _ (v w : ScalarValue) (x y : Float) (hv : Typed v) (hw : Typed w) (ev : scalarToF64 v ≡ Of x) (ew : scalarToF64 w ≡ Of y) (wv : isWhole v ≡ true) (ww : isWhole w ≡ true) where
+module _ (v w : ScalarValue) (x y : Float) (hv : Typed v) (hw : Typed w) (ev : scalarToF64 v ≡ Of x) (ew : scalarToF64 w ≡ Of y) (wv : isWhole v ≡ true)
+    (ww : isWhole w ≡ true) where
   pub wholes-lt : lt x y ≡ ltZ (wholeOf v) (wholeOf w)
   wholes-lt =
       number-lt v w x y hv hw ev ew ∙ ap₂ ltZ (whole-value v wv) (whole-value w ww)

@@ -27,7 +27,8 @@ use Rattle.scalar.proofs.FloatLaws.{yes, beq→eq, alike, eq-comm, eq-s
 
 -- ---- cases
 -- a test that passes has taken two scalars of one variant, and has passed on what they carry
-module _ (P : ScalarValue → ScalarValue → Type 0) (fn : Kind → Kind → Bool) (fb : Bool → Bool → Bool) (fi fj : ℤ → ℤ → Bool) (ff : Float → Float → Bool) (fd : ℤ → ℤ → Bool)
+module _ (P : ScalarValue → ScalarValue → Type 0) (fn : Kind → Kind → Bool) (fb : Bool → Bool → Bool) (fi fj : ℤ → ℤ → Bool) (ff : Float → Float → Bool)
+    (fd : ℤ → ℤ → Bool)
     (pn : (x y : Kind) → fn x y ≡ true → P (S.Null x) (S.Null y)) (pb : (x y : Bool) → fb x y ≡ true → P (S.Boolean x) (S.Boolean y))
     (pi : (x y : ℤ) → fi x y ≡ true → P (S.Int32 x) (S.Int32 y)) (pj : (x y : ℤ) → fj x y ≡ true → P (S.Int64 x) (S.Int64 y))
     (pf : (x y : Float) → ff x y ≡ true → P (S.Float64 x) (S.Float64 y)) (pd : (x y : ℤ) → fd x y ≡ true → P (S.Date32 x) (S.Date32 y)) where
@@ -122,16 +123,17 @@ kind-self k = is-true (sameKind k k) (eqb-refl (kindCode k))
 
 -- ---- equality
 -- the same scalars are one scalar, or floats that are `==`
-module _ (P : ScalarValue → ScalarValue → Type 0) (self : (v : ScalarValue) → P v v) (float : (x y : Float) → eq x y ≡ true → P (S.Float64 x) (S.Float64 y)) where
-  pub same-cases : (a b : ScalarValue) → sameScalar a b ≡ true → P a b
-  same-cases =
-      pairs P sameKind Bool·beq eqZ eqZ eq eqZ
-      (λ x y h. subst (λ (k : Kind). P (S.Null x) (S.Null k)) (kinds-same x y h) (self (S.Null x)))
-      (λ x y h. subst (λ (b : Bool). P (S.Boolean x) (S.Boolean b)) (beq→eq x y h) (self (S.Boolean x)))
-      (λ x y h. subst (λ (z : ℤ). P (S.Int32 x) (S.Int32 z)) (eqZ→eq x y (yes h)) (self (S.Int32 x)))
-      (λ x y h. subst (λ (z : ℤ). P (S.Int64 x) (S.Int64 z)) (eqZ→eq x y (yes h)) (self (S.Int64 x)))
-      float
-      (λ x y h. subst (λ (z : ℤ). P (S.Date32 x) (S.Date32 z)) (eqZ→eq x y (yes h)) (self (S.Date32 x)))
+module _ (P : ScalarValue → ScalarValue → Type 0) (self : (v : ScalarValue) → P v v) (float : (x y : Float) → eq x y ≡ true → P (S.Float64 x) (S.Float64 y))
+  where
+    pub same-cases : (a b : ScalarValue) → sameScalar a b ≡ true → P a b
+    same-cases =
+        pairs P sameKind Bool·beq eqZ eqZ eq eqZ
+        (λ x y h. subst (λ (k : Kind). P (S.Null x) (S.Null k)) (kinds-same x y h) (self (S.Null x)))
+        (λ x y h. subst (λ (b : Bool). P (S.Boolean x) (S.Boolean b)) (beq→eq x y h) (self (S.Boolean x)))
+        (λ x y h. subst (λ (z : ℤ). P (S.Int32 x) (S.Int32 z)) (eqZ→eq x y (yes h)) (self (S.Int32 x)))
+        (λ x y h. subst (λ (z : ℤ). P (S.Int64 x) (S.Int64 z)) (eqZ→eq x y (yes h)) (self (S.Int64 x)))
+        float
+        (λ x y h. subst (λ (z : ℤ). P (S.Date32 x) (S.Date32 z)) (eqZ→eq x y (yes h)) (self (S.Date32 x)))
 
 -- a scalar is the same as itself, unless it is the NaN
 pub same-self : (v : ScalarValue) → sameScalar v v ≡ not (holdsNan v)
@@ -199,7 +201,8 @@ bounded-no-nan false x s h = refl
 
 units-no-nan : (f : Format) (s : Bool) (q k : ℕ) → isNan (units f s q k) ≡ false
 unfolding units
-units-no-nan f s q k = bounded-no-nan (ltb (q * 2 ^ k) (2 ^ (low f + suc (emax f)))) (odd (suc (prec f)) s q k (low f)) s (odd-no-nan (suc (prec f)) s q k (low f))
+units-no-nan f s q k = bounded-no-nan (ltb (q * 2 ^ k) (2 ^ (low f + suc (emax f)))) (odd (suc (prec f)) s q k (low f)) s
+    (odd-no-nan (suc (prec f)) s q k (low f))
 
 round-no-nan : (f : Format) (s : Bool) (num den : ℕ) → isNan (round f s num den) ≡ false
 unfolding round

@@ -15,7 +15,8 @@ use Rattle.scalar.specs.declared.Number.{Number}
 use Rattle.scalar.specs.declared.Number.the-variants.{Of, Nothing}
 
 -- two scalars of one variant by that variant's function, and two of different variants as `other` says
-abbrev pub pairwise : {X : Type 0} → X → (Kind → Kind → X) → (Bool → Bool → X) → (ℤ → ℤ → X) → (ℤ → ℤ → X) → (Float → Float → X) → (ℤ → ℤ → X) → ScalarValue → ScalarValue → X
+abbrev pub pairwise : {X : Type 0} → X → (Kind → Kind → X) → (Bool → Bool → X) → (ℤ → ℤ → X) → (ℤ → ℤ → X) → (Float → Float → X) → (ℤ → ℤ → X) → ScalarValue
+    → ScalarValue → X
 pairwise other n b i j f d (S.Null x) (S.Null y) = n x y
 pairwise other n b i j f d (S.Null x) (S.Boolean y) = other
 pairwise other n b i j f d (S.Null x) (S.Int32 y) = other

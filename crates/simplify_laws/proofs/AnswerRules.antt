@@ -26,10 +26,12 @@ use Rattle.plan_data.specs.Nodes.{operatorData, recordOfOperator}
 use Rattle.plan_data.specs.declared.JoinType.{JoinType}
 use Rattle.plan_data.specs.declared.JoinType.the-variants.{Inner, LeftSemi, LeftAnti, LeftOuter, Single, RightOuter, FullOuter, LeftMark}
 use Rattle.plan_data.specs.declared.OperatorData.{OperatorData}
-use Rattle.plan_data.specs.declared.OperatorData.the-variants.{Scan, ConstScan, TableFunction, Selection, Projection, Rename, Map, Aggregation, Sort, Limit, Output, CrossProduct, Join}
+use Rattle.plan_data.specs.declared.OperatorData.the-variants.{Scan, ConstScan, TableFunction, Selection, Projection, Rename, Map, Aggregation, Sort}
+use Rattle.plan_data.specs.declared.OperatorData.the-variants.{Limit, Output, CrossProduct, Join}
 use Rattle.simplify_spec.specs.Shapes.{isLiteral}
 use Rattle.simplify_spec.specs.OneExpression.{handle, shapeIn, withItems}
-use Rattle.simplify_spec.specs.OneOperator.{operatorAt, heldOf, heldCount, heldAt, eachTo, eachOf, startOf, addOperator, inputOr, rewriteOf, simplifyOf, itemCount, itemFirst, itemSecond, withList, rebuiltOf, planWith, planAdded}
+use Rattle.simplify_spec.specs.OneOperator.{operatorAt, heldOf, heldCount, heldAt, eachTo, eachOf, startOf, addOperator, inputOr, rewriteOf}
+use Rattle.simplify_spec.specs.OneOperator.{simplifyOf, itemCount, itemFirst, itemSecond, withList, rebuiltOf, planWith, planAdded}
 use Rattle.simplify_spec.specs.Meaning.{Good}
 use Rattle.simplify_spec.specs.declared.Tables.{Tables}
 use Rattle.simplify_spec.specs.declared.Each.{Each}
@@ -38,10 +40,12 @@ use Rattle.simplify_spec.proofs.HeldLaws.{choose}
 use Rattle.simplify_spec.proofs.Keeping.{told}
 use Rattle.simplify_spec.proofs.OperatorTheorems.{list-extends, all-kept, is-rewrite}
 use Rattle.simplify_laws.specs.Wholes.{RightOperator}
-use Rattle.simplify_laws.proofs.NewOperators.{new-rules, selection-right, Marked, join-right, map-right, sort-right, aggregation-right, write-length, write-at}
+use Rattle.simplify_laws.proofs.NewOperators.{new-rules, selection-right, Marked, join-right, map-right, sort-right, aggregation-right}
+use Rattle.simplify_laws.proofs.NewOperators.{write-length, write-at}
 
 -- the old record x, its lists from start0 on in the items t0; new tables with ne expressions and items t, and what became of the expressions
-module _ (x : Record) (start0 nc ne0 np used : ℕ) (t0 : Items) (ok : recordOk 3 x nc ne0 np ≡ true) (lists : listsOk (t0 .a) (t0 .b) used x start0 nc ne0 np ≡ true)
+module _ (x : Record) (start0 nc ne0 np used : ℕ) (t0 : Items) (ok : recordOk 3 x nc ne0 np ≡ true)
+    (lists : listsOk (t0 .a) (t0 .b) used x start0 nc ne0 np ≡ true)
     (small : used ≤ 2048) (t : Items) (sa : length (t .a) ≡ 2048) (sb : length (t .b) ≡ 2048) (ne n : ℕ) (np≤n : np ≤ n) (at : ℕ → ℕ) where
   handles : handlesOk (rowOf (x .kind)) x nc ne0 np ≡ true
   unfolding recordOk
@@ -59,7 +63,8 @@ module _ (x : Record) (start0 nc ne0 np used : ℕ) (t0 : Items) (ok : recordOk 
   hC = and-right (handleOk (rowOf (x .kind) .a) (x .a) nc ne0 np && handleOk (rowOf (x .kind) .b) (x .b) nc ne0 np) _ (and-left _ _ handles)
 
   hD : handleOk (rowOf (x .kind) .d) (x .d) nc ne0 np ≡ true
-  hD = and-right ((handleOk (rowOf (x .kind) .a) (x .a) nc ne0 np && handleOk (rowOf (x .kind) .b) (x .b) nc ne0 np) && handleOk (rowOf (x .kind) .c) (x .c) nc ne0 np) _ handles
+  hD = and-right ((handleOk (rowOf (x .kind) .a) (x .a) nc ne0 np && handleOk (rowOf (x .kind) .b) (x .b) nc ne0 np) && handleOk (rowOf (x .kind) .c) (x .c)
+      nc ne0 np) _ handles
 
   as-operator : (s v : ℕ) → s ≡ 4 → handleOk s v nc ne0 np ≡ true → v < n
   unfolding handleOk
@@ -86,7 +91,8 @@ module _ (x : Record) (start0 nc ne0 np used : ℕ) (t0 : Items) (ok : recordOk 
   within : (k c m : ℕ) → countOf (rowOf k) x ≡ c → moreOf (rowOf k) x ≡ m → x .kind ≡ k → start0 + (c + m) ≤ used
   unfolding listsOk
   within k c m qc qm e =
-      let w : start0 + (countOf (rowOf (x .kind)) x + moreOf (rowOf (x .kind)) x) ≤ used = leb-true (start0 + (countOf (rowOf (x .kind)) x + moreOf (rowOf (x .kind)) x)) used (and-left _ _ lists) in
+      let w : start0 + (countOf (rowOf (x .kind)) x + moreOf (rowOf (x .kind)) x) ≤ used = leb-true
+      (start0 + (countOf (rowOf (x .kind)) x + moreOf (rowOf (x .kind)) x)) used (and-left _ _ lists) in
       subst (λ (j : ℕ). start0 + j ≤ used) (ap₂ (λ (a b : ℕ). a + b) (ap (λ (y : ℕ). countOf (rowOf y) x) e ∙ qc) (ap (λ (y : ℕ). moreOf (rowOf y) x) e ∙ qm)) w
 
   firsts-old : (k i c : ℕ) → rowOf k .item ≡ i → countOf (rowOf k) x ≡ c → x .kind ≡ k → allFrom (itemOk (t0 .a) (t0 .b) i nc ne0 np) start0 c ≡ true
@@ -97,14 +103,16 @@ module _ (x : Record) (start0 nc ne0 np used : ℕ) (t0 : Items) (ok : recordOk 
       subst (λ (m : ℕ). allFrom (itemOk (t0 .a) (t0 .b) i nc ne0 np) start0 m ≡ true) (ap (λ (y : ℕ). countOf (rowOf y) x) e ∙ qc)
       (subst (λ (m : ℕ). allFrom (itemOk (t0 .a) (t0 .b) m nc ne0 np) start0 (countOf (rowOf (x .kind)) x) ≡ true) (ap (λ (y : ℕ). rowOf y .item) e ∙ qi) a)
 
-  others-old : (k c m : ℕ) → countOf (rowOf k) x ≡ c → moreOf (rowOf k) x ≡ m → x .kind ≡ k → allFrom (itemOk (t0 .a) (t0 .b) 0x40 nc ne0 np) (start0 + c) m ≡ true
+  others-old : (k c m : ℕ) → countOf (rowOf k) x ≡ c → moreOf (rowOf k) x ≡ m → x .kind ≡ k → allFrom (itemOk (t0 .a) (t0 .b) 0x40 nc ne0 np) (start0 + c) m
+      ≡ true
   unfolding listsOk
   others-old k c m qc qm e =
       let a : allFrom (itemOk (t0 .a) (t0 .b) 0x40 nc ne0 np) (start0 + countOf (rowOf (x .kind)) x) (moreOf (rowOf (x .kind)) x) ≡ true =
       and-right (allFrom (itemOk (t0 .a) (t0 .b) (rowOf (x .kind) .item) nc ne0 np) start0 (countOf (rowOf (x .kind)) x)) _
       (and-right (leb (start0 + (countOf (rowOf (x .kind)) x + moreOf (rowOf (x .kind)) x)) used) _ lists) in
       subst (λ (j : ℕ). allFrom (itemOk (t0 .a) (t0 .b) 0x40 nc ne0 np) (start0 + j) m ≡ true) (ap (λ (y : ℕ). countOf (rowOf y) x) e ∙ qc)
-      (subst (λ (j : ℕ). allFrom (itemOk (t0 .a) (t0 .b) 0x40 nc ne0 np) (start0 + countOf (rowOf (x .kind)) x) j ≡ true) (ap (λ (y : ℕ). moreOf (rowOf y) x) e ∙ qm) a)
+      (subst (λ (j : ℕ). allFrom (itemOk (t0 .a) (t0 .b) 0x40 nc ne0 np) (start0 + countOf (rowOf (x .kind)) x) j ≡ true)
+      (ap (λ (y : ℕ). moreOf (rowOf y) x) e ∙ qm) a)
 
   item-column : (k j : ℕ) → rowOf k .a ≡ 2 → itemOk (t0 .a) (t0 .b) k nc ne0 np j ≡ true → getD (t0 .a) j 0 < nc
   unfolding itemOk
@@ -112,7 +120,8 @@ module _ (x : Record) (start0 nc ne0 np used : ℕ) (t0 : Items) (ok : recordOk 
 
   -- ---- the new operator
   pub record Fine (d : OperatorData) : Type 0 where
-    pub right : RightOperator (withList t (itemCount (heldOf d)) (itemFirst t0 (heldOf d) at) (itemSecond (heldOf d) at)) nc ne n (t .count) (recordOfOperator (rebuiltOf d (t .count) at))
+    pub right : RightOperator (withList t (itemCount (heldOf d)) (itemFirst t0 (heldOf d) at) (itemSecond (heldOf d) at)) nc ne n (t .count)
+        (recordOfOperator (rebuiltOf d (t .count) at))
     pub other : recordOfOperator (rebuiltOf d (t .count) at) .kind ≡ 0x30 → ⊥
     pub none : recordOfOperator (rebuiltOf d (t .count) at) .bits ≡ 0
 
@@ -167,7 +176,8 @@ module _ (x : Record) (start0 nc ne0 np used : ℕ) (t0 : Items) (ok : recordOk 
   join-fine e one ats room =
       record {
         right =
-            join-right (withList t 0 (λ (k : ℕ). 0) (λ (k : ℕ). 0)) nc ne n (t .count) (omega arith) (joinTypeOf (x .code)) (handle (at 0)) (record { 0 = x .b }) (record { 0 = x .c }) (ats 0 (omega arith))
+            join-right (withList t 0 (λ (k : ℕ). 0) (λ (k : ℕ). 0)) nc ne n (t .count) (omega arith) (joinTypeOf (x .code)) (handle (at 0))
+            (record { 0 = x .b }) (record { 0 = x .c }) (ats 0 (omega arith))
             (as-operator (rowOf (x .kind) .b) (x .b) (row-b 0x3C 4 refl e) hB) (as-operator (rowOf (x .kind) .c) (x .c) (row-c 0x3C 4 refl e) hC)
             (code-marked (withList t 0 (λ (k : ℕ). 0) (λ (k : ℕ). 0)) (t .count) (x .code) (omega arith));
         other = join-other (joinTypeOf (x .code)) (at 0) (record { 0 = x .b }) (record { 0 = x .c });
@@ -179,7 +189,8 @@ module _ (x : Record) (start0 nc ne0 np used : ℕ) (t0 : Items) (ok : recordOk 
   mark-fine e one ats room =
       record {
         right =
-            join-right (withList t 0 (λ (k : ℕ). 0) (λ (k : ℕ). 0)) nc ne n (t .count) (omega arith) (LeftMark (record { 0 = x .d })) (handle (at 0)) (record { 0 = x .b }) (record { 0 = x .c }) (ats 0 (omega arith))
+            join-right (withList t 0 (λ (k : ℕ). 0) (λ (k : ℕ). 0)) nc ne n (t .count) (omega arith) (LeftMark (record { 0 = x .d })) (handle (at 0))
+            (record { 0 = x .b }) (record { 0 = x .c }) (ats 0 (omega arith))
             (as-operator (rowOf (x .kind) .b) (x .b) (row-b 0x3D 4 refl e) hB) (as-operator (rowOf (x .kind) .c) (x .c) (row-c 0x3D 4 refl e) hC)
             (as-column (rowOf (x .kind) .d) (x .d) (row-d 0x3D 2 refl e) hD);
         other = join-other (LeftMark (record { 0 = x .d })) (at 0) (record { 0 = x .b }) (record { 0 = x .c });
@@ -197,7 +208,9 @@ module _ (x : Record) (start0 nc ne0 np used : ℕ) (t0 : Items) (ok : recordOk 
             (as-operator (rowOf (x .kind) .a) (x .a) (row-a 0x36 4 refl e) hA) (omega arith) (le-refl _)
             (λ j lo hi.
             rw (new-first (λ (k : ℕ). getD (t0 .a) (start0 + k) 0) at (x .b) room j lo hi)
-            (item-column 0x42 (start0 + (j - t .count)) refl (all-at (itemOk (t0 .a) (t0 .b) 0x42 nc ne0 np) (x .b) start0 (firsts-old 0x36 0x42 (x .b) refl refl e) (start0 + (j - t .count)) (omega arith) (omega arith))))
+            (item-column 0x42 (start0 + (j - t .count)) refl
+            (all-at (itemOk (t0 .a) (t0 .b) 0x42 nc ne0 np) (x .b) start0 (firsts-old 0x36 0x42 (x .b) refl refl e) (start0 + (j - t .count))
+            (omega arith) (omega arith))))
             (λ j lo hi. rw (new-second (λ (k : ℕ). getD (t0 .a) (start0 + k) 0) at (x .b) room j lo hi) (ats (j - t .count) (omega arith)));
         other = λ q. omega (arith, q);
         none = refl;
@@ -213,7 +226,8 @@ module _ (x : Record) (start0 nc ne0 np used : ℕ) (t0 : Items) (ok : recordOk 
   keyed-past : (c k : ℕ) → c ≤ k → cond (ltb k c) (at k) (getD (t0 .a) (start0 + k) 0) ≡ getD (t0 .a) (start0 + k) 0
   keyed-past c k le = rw (le-ltb k c le)
 
-  aggregation-fine : x .kind ≡ 0x37 → FineIf (Aggregation (record { 0 = x .a }) (record { start = start0; count = x .b }) (record { start = start0 + x .b; count = x .c }))
+  aggregation-fine : x .kind ≡ 0x37 → FineIf (Aggregation (record { 0 = x .a }) (record { start = start0; count = x .b })
+      (record { start = start0 + x .b; count = x .c }))
   unfolding rowOf lineOf countOf moreOf
   aggregation-fine e one ats room =
       let w : start0 + (x .b + x .c) ≤ used = within 0x37 (x .b) (x .c) refl refl e in
@@ -230,7 +244,8 @@ module _ (x : Record) (start0 nc ne0 np used : ℕ) (t0 : Items) (ok : recordOk 
             new-first (keyed (x .b)) (λ (k : ℕ). 0) (x .b + x .c) room j (omega arith) (omega arith) ∙ keyed-past (x .b) (j - t .count) (omega arith) in
             rw v
             (item-column 0x40 (start0 + (j - t .count)) refl
-            (all-at (itemOk (t0 .a) (t0 .b) 0x40 nc ne0 np) (x .c) (start0 + x .b) (others-old 0x37 (x .b) (x .c) refl refl e) (start0 + (j - t .count)) (omega arith) (omega arith))))
+            (all-at (itemOk (t0 .a) (t0 .b) 0x40 nc ne0 np) (x .c) (start0 + x .b) (others-old 0x37 (x .b) (x .c) refl refl e) (start0 + (j - t .count))
+            (omega arith) (omega arith))))
             (λ j lo hi. new-second (keyed (x .b)) (λ (k : ℕ). 0) (x .b + x .c) room j lo hi);
         other = λ q. omega (arith, q);
         none = refl;
@@ -295,7 +310,8 @@ module _ (p : Plan) (st : Tables) (g : Good p st) (m : ℕ) (f h : ℕ → ℕ) 
       (λ c l. once-kept (planWith p st) (planWith p listedWith) e (g .rules) refl c)
 
   pub listed-sized : Sized (planWith p listedWith)
-  listed-sized = items-sized (planWith p st) (listedWith .items) (g .sized) (write-length (st .items .a) (st .items .count) f m) (write-length (st .items .b) (st .items .count) h m)
+  listed-sized = items-sized (planWith p st) (listedWith .items) (g .sized) (write-length (st .items .a) (st .items .count) f m)
+      (write-length (st .items .b) (st .items .count) h m)
 
 module _ (p : Plan) (s : Sized p) (ok : planOk p ≡ true) (o : Operator) (lt : o .0 < p .operators .count) where
   abbrev d : OperatorData
@@ -317,7 +333,8 @@ module _ (p : Plan) (s : Sized p) (ok : planOk p ≡ true) (o : Operator) (lt : 
     where
       go : (n : ℕ) → heldCount (heldOf (operatorAt p (o .0))) ≡ n → 1 ≤ n
       go zero e =
-          absurd (told (sym (ap (λ (k : ℕ). eachTo (p .expressions .count) (heldAt (p .items) (heldOf (operatorAt p (o .0)))) (startOf p) k .st .changed) (sym e) ∙ c)))
+          absurd (told
+          (sym (ap (λ (k : ℕ). eachTo (p .expressions .count) (heldAt (p .items) (heldOf (operatorAt p (o .0)))) (startOf p) k .st .changed) (sym e) ∙ c)))
       go (suc n) e = omega arith
 
   module _ (q : eachOf p (operatorAt p (o .0)) .ok ≡ true) (c : eachOf p (operatorAt p (o .0)) .st .changed ≡ true) where
@@ -331,46 +348,58 @@ module _ (p : Plan) (s : Sized p) (ok : planOk p ≡ true) (o : Operator) (lt : 
     unfolding operatorOkOf
     record-right = and-left _ _ (rules p ok .operator (o .0) lt)
 
-    lists-right : listsOk (p .items .a) (p .items .b) (p .items .count) (operatorRecord p (o .0)) (operatorStart p (o .0)) (p .columns .count) (p .expressions .count) (o .0) ≡ true
+    lists-right : listsOk (p .items .a) (p .items .b) (p .items .count) (operatorRecord p (o .0)) (operatorStart p (o .0)) (p .columns .count)
+        (p .expressions .count) (o .0) ≡ true
     unfolding operatorOkOf
     lists-right = and-right (recordOk 3 (operatorRecord p (o .0)) (p .columns .count) (p .expressions .count) (o .0)) _ (rules p ok .operator (o .0) lt)
 
     added-right : p .operators .count < 128 → eachOf p (operatorAt p (o .0)) .st .items .count + itemCount (heldOf (operatorAt p (o .0))) ≤ 2048
-        → planOk (planAdded p (eachOf p (operatorAt p (o .0)) .st) (operatorAt p (o .0)) (heldOf (operatorAt p (o .0))) (λ (k : ℕ). getD (eachOf p (operatorAt p (o .0)) .ats) k 0)) ≡ true
+        → planOk (planAdded p (eachOf p (operatorAt p (o .0)) .st) (operatorAt p (o .0)) (heldOf (operatorAt p (o .0)))
+        (λ (k : ℕ). getD (eachOf p (operatorAt p (o .0)) .ats) k 0)) ≡ true
     added-right free room =
         let w = counts-within p (rules p ok) in
         let fine =
-        all-fine (operatorRecord p (o .0)) (operatorStart p (o .0)) (p .columns .count) (p .expressions .count) (o .0) (p .items .count) (p .items) record-right lists-right (w .items)
-        (eachOf p (operatorAt p (o .0)) .st .items) (good .sized .item-a) (good .sized .item-b) (eachOf p (operatorAt p (o .0)) .st .exprs .count) (p .operators .count) (omega arith)
+        all-fine (operatorRecord p (o .0)) (operatorStart p (o .0)) (p .columns .count) (p .expressions .count) (o .0) (p .items .count) (p .items)
+        record-right lists-right (w .items)
+        (eachOf p (operatorAt p (o .0)) .st .items) (good .sized .item-a) (good .sized .item-b) (eachOf p (operatorAt p (o .0)) .st .exprs .count)
+        (p .operators .count) (omega arith)
         (λ (k : ℕ). getD (eachOf p (operatorAt p (o .0)) .ats) k 0) (some c) (all-kept p s ok o lt q .within) room in
         let f = itemFirst (p .items) (heldOf (operatorAt p (o .0))) (λ (k : ℕ). getD (eachOf p (operatorAt p (o .0)) .ats) k 0) in
         let h = itemSecond (heldOf (operatorAt p (o .0))) (λ (k : ℕ). getD (eachOf p (operatorAt p (o .0)) .ats) k 0) in
         let m = itemCount (heldOf (operatorAt p (o .0))) in
-        rules-of (planAdded p (eachOf p (operatorAt p (o .0)) .st) (operatorAt p (o .0)) (heldOf (operatorAt p (o .0))) (λ (k : ℕ). getD (eachOf p (operatorAt p (o .0)) .ats) k 0))
+        rules-of (planAdded p (eachOf p (operatorAt p (o .0)) .st) (operatorAt p (o .0)) (heldOf (operatorAt p (o .0)))
+        (λ (k : ℕ). getD (eachOf p (operatorAt p (o .0)) .ats) k 0))
         (new-rules (planWith p (listedWith p (eachOf p (operatorAt p (o .0)) .st) good m f h room))
-        (recordOfOperator (rebuiltOf (operatorAt p (o .0)) (eachOf p (operatorAt p (o .0)) .st .items .count) (λ (k : ℕ). getD (eachOf p (operatorAt p (o .0)) .ats) k 0)))
+        (recordOfOperator (rebuiltOf (operatorAt p (o .0)) (eachOf p (operatorAt p (o .0)) .st .items .count)
+        (λ (k : ℕ). getD (eachOf p (operatorAt p (o .0)) .ats) k 0)))
         (eachOf p (operatorAt p (o .0)) .st .items .count)
-        (listed-rules p (eachOf p (operatorAt p (o .0)) .st) good m f h room) (listed-sized p (eachOf p (operatorAt p (o .0)) .st) good m f h room) free (fine .other) (fine .none) (fine .right))
+        (listed-rules p (eachOf p (operatorAt p (o .0)) .st) good m f h room) (listed-sized p (eachOf p (operatorAt p (o .0)) .st) good m f h room) free
+        (fine .other) (fine .none) (fine .right))
 
     abbrev P : Rewritten → Type 0
     P w = planOk (w .plan) ≡ true
 
-    add-right : planOk (addOperator p (eachOf p (operatorAt p (o .0)) .st) (operatorAt p (o .0)) (heldOf (operatorAt p (o .0))) (λ (k : ℕ). getD (eachOf p (operatorAt p (o .0)) .ats) k 0) .plan) ≡ true
+    add-right : planOk (addOperator p (eachOf p (operatorAt p (o .0)) .st) (operatorAt p (o .0)) (heldOf (operatorAt p (o .0)))
+        (λ (k : ℕ). getD (eachOf p (operatorAt p (o .0)) .ats) k 0) .plan) ≡ true
     add-right =
         let test = leb (eachOf p (operatorAt p (o .0)) .st .items .count + itemCount (heldOf (operatorAt p (o .0)))) 2048 in
-        choose (λ (w : Rewritten). planOk (w .plan) ≡ true) (ltb (p .operators .count) 128 && leb (eachOf p (operatorAt p (o .0)) .st .items .count + itemCount (heldOf (operatorAt p (o .0)))) 2048) _ _
+        choose (λ (w : Rewritten). planOk (w .plan) ≡ true)
+        (ltb (p .operators .count) 128 && leb (eachOf p (operatorAt p (o .0)) .st .items .count + itemCount (heldOf (operatorAt p (o .0)))) 2048) _ _
         (λ t.
         added-right (ltb-true (p .operators .count) 128 (and-left (ltb (p .operators .count) 128) _ t))
-        (leb-true (eachOf p (operatorAt p (o .0)) .st .items .count + itemCount (heldOf (operatorAt p (o .0)))) 2048 (and-right (ltb (p .operators .count) 128) _ t)))
+        (leb-true (eachOf p (operatorAt p (o .0)) .st .items .count + itemCount (heldOf (operatorAt p (o .0)))) 2048
+        (and-right (ltb (p .operators .count) 128) _ t)))
         (λ t. ok)
 
     input-right : (y : OperatorData)
-        → planOk (inputOr p (eachOf p (operatorAt p (o .0)) .st) (operatorAt p (o .0)) (heldOf (operatorAt p (o .0))) (λ (k : ℕ). getD (eachOf p (operatorAt p (o .0)) .ats) k 0) y .plan) ≡ true
+        → planOk (inputOr p (eachOf p (operatorAt p (o .0)) .st) (operatorAt p (o .0)) (heldOf (operatorAt p (o .0)))
+        (λ (k : ℕ). getD (eachOf p (operatorAt p (o .0)) .ats) k 0) y .plan) ≡ true
     input-right (Scan a b) = add-right
     input-right (ConstScan a) = add-right
     input-right (TableFunction a) = add-right
     input-right (Selection a b) =
-        choose (λ (w : Rewritten). planOk (w .plan) ≡ true) (isLiteral true (shapeIn (eachOf p (operatorAt p (o .0)) .st) (getD (eachOf p (operatorAt p (o .0)) .ats) 0 0))) _ _
+        choose (λ (w : Rewritten). planOk (w .plan) ≡ true)
+        (isLiteral true (shapeIn (eachOf p (operatorAt p (o .0)) .st) (getD (eachOf p (operatorAt p (o .0)) .ats) 0 0))) _ _
         (λ t. rules-of (planWith p (eachOf p (operatorAt p (o .0)) .st)) (good .rules)) (λ t. add-right)
     input-right (Projection a b) = add-right
     input-right (Rename a b) = add-right
@@ -388,5 +417,6 @@ module _ (p : Plan) (s : Sized p) (ok : planOk p ≡ true) (o : Operator) (lt : 
   answer-right =
       subst (λ (w : Rewritten). planOk (w .plan) ≡ true) (sym (is-rewrite p s ok o lt))
       (choose (λ (w : Rewritten). planOk (w .plan) ≡ true) (eachOf p (operatorAt p (o .0)) .ok) _ _
-      (λ q. choose (λ (w : Rewritten). planOk (w .plan) ≡ true) (eachOf p (operatorAt p (o .0)) .st .changed) _ _ (λ c. input-right q c (operatorAt p (o .0))) (λ c. ok))
+      (λ q. choose (λ (w : Rewritten). planOk (w .plan) ≡ true) (eachOf p (operatorAt p (o .0)) .st .changed) _ _ (λ c. input-right q c (operatorAt p (o .0)))
+      (λ c. ok))
       (λ q. ok))

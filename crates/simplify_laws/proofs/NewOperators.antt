@@ -72,7 +72,8 @@ module _ (q : Plan) (x : Record) (start : ℕ) (r : Rules q) (s : Sized q) (free
   no-scan c =
       let z : 0 + q .operators .count ≡ q .operators .count = omega arith in
       let k : operatorRecord (withOperator q x start) (q .operators .count) .kind ≡ x .kind = ap (λ (y : Record). y .kind) record-new in
-      let t : eqb (operatorRecord (withOperator q x start) (q .operators .count) .kind) 0x30 ≡ false = ap (λ (m : ℕ). eqb m 0x30) k ∙ ne-eqb (x .kind) 0x30 other in
+      let t : eqb (operatorRecord (withOperator q x start) (q .operators .count) .kind) 0x30 ≡ false = ap (λ (m : ℕ). eqb m 0x30) k ∙ ne-eqb (x .kind) 0x30
+      other in
       rw (z, t)
 
   once : (c : ℕ) → c < q .columns .count → scannedOnce (withOperator q x start) c ≡ true
@@ -80,7 +81,8 @@ module _ (q : Plan) (x : Record) (start : ℕ) (r : Rules q) (s : Sized q) (free
       ap (λ (m : ℕ). leb m 1)
       (ap (countFrom (scans (withOperator q x start) c) 0) (add-one (q .operators .count))
       ∙ count-last (scans (withOperator q x start) c) (q .operators .count) 0 (no-scan c)
-      ∙ count-same (scans (withOperator q x start) c) (scans q c) (q .operators .count) 0 (λ i lo hi. scans-kept q (withOperator q x start) (operator-longer q x start) r c i (omega arith)))
+      ∙ count-same (scans (withOperator q x start) c) (scans q c) (q .operators .count) 0
+      (λ i lo hi. scans-kept q (withOperator q x start) (operator-longer q x start) r c i (omega arith)))
       ∙ r .once c lt
 
   pub new-rules : Rules (withOperator q x start)
@@ -106,7 +108,8 @@ module _ (t : Items) (nc ne n start : ℕ) (le : start ≤ t .count) where
   Marked FullOuter = Unit {0}
   Marked (LeftMark c) = c .0 < nc
 
-  pub join-right : (j : JoinType) (e : Expr) (l i : Operator) → e .0 < ne → l .0 < n → i .0 < n → Marked j → RightOperator t nc ne n start (recordOfOperator (Join j e l i))
+  pub join-right : (j : JoinType) (e : Expr) (l i : Operator) → e .0 < ne → l .0 < n → i .0 < n → Marked j → RightOperator t nc ne n start
+      (recordOfOperator (Join j e l i))
   unfolding recordOk listsOk rowOf lineOf bitsOk handleOk countOf moreOf allFrom
   join-right Inner e l i el ll il m = rw (lt-ltb (e .0) ne el, lt-ltb (l .0) n ll, lt-ltb (i .0) n il, none-listed)
   join-right LeftSemi e l i el ll il m = rw (lt-ltb (e .0) ne el, lt-ltb (l .0) n ll, lt-ltb (i .0) n il, none-listed)
@@ -134,7 +137,8 @@ module _ (t : Items) (nc ne n start : ℕ) where
   listed : (f : ℕ → Bool) (m k : ℕ) → start + k ≤ t .count → ((j : ℕ) → start ≤ j → j < start + k → f j ≡ true) → m ≡ k
       → (leb (start + (m + 0)) (t .count) && (allFrom f start m && true)) ≡ true
   listed f m k le q e =
-      rw e (and-both (leb (start + (k + 0)) (t .count)) _ (le-leb (start + (k + 0)) (t .count) (omega arith)) (and-both (allFrom f start k) true (all-of f k start q) refl))
+      rw e (and-both (leb (start + (k + 0)) (t .count)) _ (le-leb (start + (k + 0)) (t .count) (omega arith))
+      (and-both (allFrom f start k) true (all-of f k start q) refl))
 
   pub map-right : (i k : ℕ) → i < n → k < 65536 → start + k ≤ t .count
       → ((j : ℕ) → start ≤ j → j < start + k → getD (t .a) j 0 < nc) → ((j : ℕ) → start ≤ j → j < start + k → getD (t .b) j 0 < ne)
@@ -154,7 +158,8 @@ module _ (t : Items) (nc ne n start : ℕ) where
       → ((j : ℕ) → start + k ≤ j → j < start + k + c → h j ≡ true) → m ≡ k → l ≡ c
       → (leb (start + (m + l)) (t .count) && (allFrom f start m && allFrom h (start + m) l)) ≡ true
   twice f h m l k c le q w e d =
-      rw (e, d) (and-both (leb (start + (k + c)) (t .count)) _ (le-leb (start + (k + c)) (t .count) le) (and-both (allFrom f start k) _ (all-of f k start q) (all-of h c (start + k) w)))
+      rw (e, d) (and-both (leb (start + (k + c)) (t .count)) _ (le-leb (start + (k + c)) (t .count) le)
+      (and-both (allFrom f start k) _ (all-of f k start q) (all-of h c (start + k) w)))
 
   pub aggregation-right : (i k c : ℕ) → i < n → k < 65536 → c < 65536 → start + (k + c) ≤ t .count
       → ((j : ℕ) → start ≤ j → j < start + k → getD (t .a) j 0 < ne) → ((j : ℕ) → start + k ≤ j → j < start + k + c → getD (t .a) j 0 < nc)
@@ -164,7 +169,8 @@ module _ (t : Items) (nc ne n start : ℕ) where
   aggregation-right i k c il small few le a b z =
       rw (lt-ltb i n il)
       (twice (itemOk (t .a) (t .b) 0x43 nc ne n) (itemOk (t .a) (t .b) 0x40 nc ne n) (k % 65536) (c % 65536) k c le
-      (λ j lo hi. key-item j (a j lo hi) (z j lo (omega arith))) (λ j lo hi. column-item j (b j lo hi) (z j (omega arith) (omega arith))) (mod-eq-of-lt small) (mod-eq-of-lt few))
+      (λ j lo hi. key-item j (a j lo hi) (z j lo (omega arith))) (λ j lo hi. column-item j (b j lo hi) (z j (omega arith) (omega arith))) (mod-eq-of-lt small)
+      (mod-eq-of-lt few))
 
 -- ---- what was written
 pub write-length : (l : List ℕ) (at : ℕ) (f : ℕ → ℕ) (n : ℕ) → length (writeAll l at f n) ≡ length l
@@ -177,7 +183,8 @@ unfolding writeAll
 write-at l at f zero j le lo hi = absurd (omega arith)
 write-at l at f (suc n) j le lo hi = go (eqb j (at + n)) refl (λ lt. write-at l at f n j (omega arith) lo lt)
   where
-    go : (b : Bool) → eqb j (at + n) ≡ b → (j < at + n → getD (writeAll l at f n) j 0 ≡ f (j - at)) → getD (set (writeAll l at f n) (at + n) (f n)) j 0 ≡ f (j - at)
+    go : (b : Bool) → eqb j (at + n) ≡ b → (j < at + n → getD (writeAll l at f n) j 0 ≡ f (j - at)) → getD (set (writeAll l at f n) (at + n) (f n)) j 0 ≡ f
+        (j - at)
     go true e rest =
         let q : j ≡ at + n = eqb-true j (at + n) e in
         let z : at + n - at ≡ n = omega arith in

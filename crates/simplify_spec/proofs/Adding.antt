@@ -79,7 +79,8 @@ module _ (ia ib : List ℕ) (used nc np start n k : ℕ) (le : start + k ≤ use
 
   lists-right : (m : ℕ) → m ≡ k
       → (leb (start + (m + 0)) used && (allFrom (itemOk ia ib 0x24 nc (suc n) np) start m && true)) ≡ true
-  lists-right m e = rw e (and-both (leb (start + (k + 0)) used) _ (le-leb (start + (k + 0)) used (omega arith)) (and-both (allFrom (itemOk ia ib 0x24 nc (suc n) np) start k) true items-right refl))
+  lists-right m e = rw e (and-both (leb (start + (k + 0)) used) _ (le-leb (start + (k + 0)) used (omega arith))
+      (and-both (allFrom (itemOk ia ib 0x24 nc (suc n) np) start k) true items-right refl))
 
   pub nary-right : (all : Bool) → RightAt ia ib used nc np start n (Nary (naryOpFor all) (runOf start k))
   unfolding recordOk listsOk rowOf lineOf bitsOk handleOk countOf moreOf allFrom
@@ -87,7 +88,15 @@ module _ (ia ib : List ℕ) (used nc np start n k : ℕ) (le : start + k ≤ use
   nary-right false = lists-right (k % 65536) (mod-eq-of-lt small)
 
 -- ---- one node more
-own-record : (d : ExprData) → record { kind = recordOfExpr d .kind; code = recordOfExpr d .code; a = recordOfExpr d .a; b = recordOfExpr d .b; c = 0; d = 0; bits = recordOfExpr d .bits } ≡ recordOfExpr d
+own-record : (d : ExprData) → record {
+  kind = recordOfExpr d .kind;
+  code = recordOfExpr d .code;
+  a = recordOfExpr d .a;
+  b = recordOfExpr d .b;
+  c = 0;
+  d = 0;
+  bits = recordOfExpr d .bits;
+} ≡ recordOfExpr d
 own-record (Literal v) = refl
 own-record (ColumnRef c) = refl
 own-record (Unary op e) = refl
@@ -95,7 +104,8 @@ own-record (Binary op l r) = refl
 own-record (Nary op es) = refl
 
 module _ (p : Plan) (st : Tables) (g : Good p st) (room : st .exprs .count < 1024) (d : ExprData) (start : ℕ)
-    (right : RightAt (st .items .a) (st .items .b) (st .items .count) (p .columns .count) (p .operators .count) start (st .exprs .count) d) (back : ExprAt start d) where
+    (right : RightAt (st .items .a) (st .items .b) (st .items .count) (p .columns .count) (p .operators .count) start (st .exprs .count) d)
+    (back : ExprAt start d) where
   abbrev s′ : Tables
   s′ = withNode st (recordOfExpr d) start
 
@@ -113,7 +123,8 @@ module _ (p : Plan) (st : Tables) (g : Good p st) (room : st .exprs .count < 102
   new-right =
       (λ i.
       recordOk 2 (record-new i) (p .columns .count) (st .exprs .count) (p .operators .count)
-      && listsOk (st .items .a) (st .items .b) (st .items .count) (record-new i) (start-new i) (p .columns .count) (suc (st .exprs .count)) (p .operators .count))
+      && listsOk (st .items .a) (st .items .b) (st .items .count) (record-new i) (start-new i) (p .columns .count) (suc (st .exprs .count))
+      (p .operators .count))
       ∙ right
 
   pub node-grows : Grown p st (withNode st (recordOfExpr d) start)
@@ -175,7 +186,8 @@ put-zero t (x ∷ l) at j le lo hi = go (eqb j at) refl (λ m. put-zero t l (at 
         let q : (j ≡ at → ⊥) = eqb-false j at e in
         getD-set-other (itemsPut t (at + 1) l .b) at j 0 0 q ∙ rest (omega arith)
 
-put-first : (t : Items) (l : List ℕ) (at h : ℕ) → at + length l ≤ length (t .a) → AllBelow h l → (j : ℕ) → at ≤ j → j < at + length l → getD (itemsPut t at l .a) j 0 < h
+put-first : (t : Items) (l : List ℕ) (at h : ℕ) → at + length l ≤ length (t .a) → AllBelow h l → (j : ℕ) → at ≤ j → j < at + length l → getD
+    (itemsPut t at l .a) j 0 < h
 unfolding itemsPut AllBelow
 put-first t [] at h le u j lo hi = absurd (omega arith)
 put-first t (x ∷ l) at h le u j lo hi = go (eqb j at) refl (λ m. put-first t l (at + 1) h (omega arith) (u .1) j m (omega arith))
@@ -183,7 +195,8 @@ put-first t (x ∷ l) at h le u j lo hi = go (eqb j at) refl (λ m. put-first t 
     go : (b : Bool) → eqb j at ≡ b → (at + 1 ≤ j → getD (itemsPut t (at + 1) l .a) j 0 < h) → getD (set (itemsPut t (at + 1) l .a) at x) j 0 < h
     go true e rest =
         let q : j ≡ at = eqb-true j at e in
-        let v : getD (set (itemsPut t (at + 1) l .a) at x) at 0 ≡ x = getD-set-same (itemsPut t (at + 1) l .a) at x 0 (omega (arith, put-length-a t l (at + 1))) in
+        let v : getD (set (itemsPut t (at + 1) l .a) at x) at 0 ≡ x = getD-set-same (itemsPut t (at + 1) l .a) at x 0
+        (omega (arith, put-length-a t l (at + 1))) in
         rw (q, v) (u .0)
     go false e rest =
         let q : (j ≡ at → ⊥) = eqb-false j at e in
@@ -215,11 +228,20 @@ module _ (p : Plan) (st : Tables) (l : List ℕ) (g : Good p st) (fits : st .ite
         operator = λ i h. refl;
         operator-start = λ i h. refl;
         item = λ i h.
-            (λ j. record { kind = 0; code = 0; a = put-below-a (st .items) l (st .items .count) i h j; b = put-below-b (st .items) l (st .items .count) i h j; c = 0; d = 0; bits = 0 });
+            (λ j. record {
+              kind = 0;
+              code = 0;
+              a = put-below-a (st .items) l (st .items .count) i h j;
+              b = put-below-b (st .items) l (st .items .count) i h j;
+              c = 0;
+              d = 0;
+              bits = 0;
+            });
       }
 
   list-sized : Sized (planWith p listed)
-  list-sized = items-sized (planWith p st) (listed .items) (g .sized) (put-length-a (st .items) l (st .items .count)) (put-length-b (st .items) l (st .items .count))
+  list-sized = items-sized (planWith p st) (listed .items) (g .sized) (put-length-a (st .items) l (st .items .count))
+      (put-length-b (st .items) l (st .items .count))
 
   list-rules : Rules (planWith p listed)
   list-rules =
@@ -238,9 +260,11 @@ module _ (p : Plan) (st : Tables) (l : List ℕ) (g : Good p st) (fits : st .ite
 
   -- an And or Or of these operands is right
   pub list-right : (all : Bool) → AllBelow (st .exprs .count) l
-      → RightAt (listed .items .a) (listed .items .b) (listed .items .count) (p .columns .count) (p .operators .count) (st .items .count) (st .exprs .count) (Nary (naryOpFor all) (runOf (st .items .count) (length l)))
+      → RightAt (listed .items .a) (listed .items .b) (listed .items .count) (p .columns .count) (p .operators .count) (st .items .count) (st .exprs .count)
+      (Nary (naryOpFor all) (runOf (st .items .count) (length l)))
   list-right all u =
-      nary-right (listed .items .a) (listed .items .b) (listed .items .count) (p .columns .count) (p .operators .count) (st .items .count) (st .exprs .count) (length l)
+      nary-right (listed .items .a) (listed .items .b) (listed .items .count) (p .columns .count) (p .operators .count) (st .items .count) (st .exprs .count)
+      (length l)
       (le-refl _) (omega arith)
       (put-first (st .items) l (st .items .count) (st .exprs .count) (omega (arith, g .sized .item-a)) u)
       (λ j lo hi. put-zero (st .items) l (st .items .count) j (omega (arith, g .sized .item-b)) lo hi)

@@ -44,7 +44,8 @@ right-bare : (op : BinaryOp) (v w : ScalarValue) → compareOf op v (bare w) ≡
 unfolding compareOf
 right-bare op v (S.Null k) = go (isNull v)
   where
-    go : (b : Bool) → cond (b || true) (cond (ordinary op) 1 (known (b && true))) (cond (sameKind (kindOf v) K.Boolean) (known (compared op v (S.Null K.Boolean))) (cond (ordinary op) 1 0))
+    go : (b : Bool) → cond (b || true) (cond (ordinary op) 1 (known (b && true)))
+        (cond (sameKind (kindOf v) K.Boolean) (known (compared op v (S.Null K.Boolean))) (cond (ordinary op) 1 0))
         ≡ cond (b || true) (cond (ordinary op) 1 (known (b && true))) (cond (sameKind (kindOf v) k) (known (compared op v (S.Null k))) (cond (ordinary op) 1 0))
     go true = refl
     go false = refl
@@ -72,7 +73,8 @@ same-compare op v v′ w w′ e f =
 pub bare-truth : (t : ℕ) → bare (ofTruth t) ≡ ofTruth t
 bare-truth t = go (isFalse t) (isTrue t)
   where
-    go : (a b : Bool) → bare (cond a (S.Boolean false) (cond b (S.Boolean true) (S.Null K.Boolean))) ≡ cond a (S.Boolean false) (cond b (S.Boolean true) (S.Null K.Boolean))
+    go : (a b : Bool) → bare (cond a (S.Boolean false) (cond b (S.Boolean true) (S.Null K.Boolean))) ≡ cond a (S.Boolean false)
+        (cond b (S.Boolean true) (S.Null K.Boolean))
     go true b = refl
     go false true = refl
     go false false = refl

@@ -84,7 +84,8 @@ unfolding simplifyAt simplifyBelow operandsFrom naryOf exprData
 and-one-stays = refl
 
 -- a new literal, after the two expressions that there were
-pub and-true-is : (simplifyAt 1 (startOf and-true) .ok ≡ true) × (simplifyAt 1 (startOf and-true) .at ≡ 2) × (simplifyAt 1 (startOf and-true) .st .exprs .count ≡ 3)
+pub and-true-is : (simplifyAt 1 (startOf and-true) .ok ≡ true) × (simplifyAt 1 (startOf and-true) .at ≡ 2)
+    × (simplifyAt 1 (startOf and-true) .st .exprs .count ≡ 3)
     × (nodeIn (simplifyAt 1 (startOf and-true) .st) 2 ≡ Literal (S.Boolean true))
 unfolding simplifyAt simplifyBelow operandsFrom naryOf rebuilt exprData
 and-true-is = (refl, refl, refl, refl)
@@ -96,5 +97,6 @@ or-false-is = refl
 -- a Selection on And[] or And[b] is kept, on And[true] replaced by its input, on Or[false, b] by a Selection on b
 pub selections-answered : (simplifyOf and-none asked .rewrite ≡ Keep) × (simplifyOf and-one asked .rewrite ≡ Keep)
     × (simplifyOf and-true asked .rewrite ≡ Replace (record { 0 = 0 })) × (simplifyOf or-false asked .rewrite ≡ Replace (record { 0 = 2 }))
-unfolding simplifyOf rewriteOf eachTo writeAll operatorData simplifyAt simplifyBelow operandsFrom naryOf rebuilt exprData planOk countsWithin exprOkOf operatorOkOf recordOk listsOk itemOk scansOf allFrom anyFrom countFrom rowOf lineOf bitsOk handleOk countOf moreOf
+unfolding simplifyOf rewriteOf eachTo writeAll operatorData simplifyAt simplifyBelow operandsFrom naryOf rebuilt exprData planOk countsWithin exprOkOf
+    operatorOkOf recordOk listsOk itemOk scansOf allFrom anyFrom countFrom rowOf lineOf bitsOk handleOk countOf moreOf
 selections-answered = (refl, refl, refl, refl)

@@ -140,14 +140,17 @@ module _ (p : Plan) where
         at-node (Unary U.Not e) q
         ∙ ap (λ (v : ScalarValue). ofTruth (notT (truthOf v))) (is-before (e .0) (not-below st g h lt U.Not e q))
 
-    pub value-compare : (op : BinaryOp) (l r : Expr) → nodeIn st h ≡ Binary op l r → valueIn p st row h ≡ ofTruth (compareOf op (valueIn p st row (l .0)) (valueIn p st row (r .0)))
+    pub value-compare : (op : BinaryOp) (l r : Expr) → nodeIn st h ≡ Binary op l r → valueIn p st row h ≡ ofTruth
+        (compareOf op (valueIn p st row (l .0)) (valueIn p st row (r .0)))
     value-compare op l r q =
         at-node (Binary op l r) q
-        ∙ ap₂ (λ (v w : ScalarValue). ofTruth (compareOf op v w)) (is-before (l .0) (compare-below st g h lt op l r q .0)) (is-before (r .0) (compare-below st g h lt op l r q .1))
+        ∙ ap₂ (λ (v w : ScalarValue). ofTruth (compareOf op v w)) (is-before (l .0) (compare-below st g h lt op l r q .0))
+        (is-before (r .0) (compare-below st g h lt op l r q .1))
 
     pub value-nary : (all : Bool) (s n : ℕ) → nodeIn st h ≡ Nary (naryOpFor all) (runOf s n)
         → valueIn p st row h ≡ ofTruth (truthAll all (valueIn p st row) (take n (drop s (st .items .a))))
     value-nary all s n q =
         at-node (Nary (naryOpFor all) (runOf s n)) q
         ∙ ap ofTruth
-        (all-same all (values.valueIn (values.values (cellAt row) (nodeIn st) (st .items .a) h)) (valueIn p st row) h (take n (drop s (st .items .a))) (list-below st g h lt all s n q) is-before)
+        (all-same all (values.valueIn (values.values (cellAt row) (nodeIn st) (st .items .a) h)) (valueIn p st row) h (take n (drop s (st .items .a)))
+        (list-below st g h lt all s n q) is-before)

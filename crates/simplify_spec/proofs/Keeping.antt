@@ -36,7 +36,8 @@ use Rattle.rows.specs.declared.Row.{Row}
 use Rattle.rows_laws.proofs.NodeRules.{NodeOk, node-ok}
 use Rattle.rows_laws.proofs.ValueKinds.{ofKind, value-kind}
 use Rattle.simplify_spec.specs.Shapes.{shapeOf}
-use Rattle.simplify_spec.specs.OneExpression.{nodeIn, shapeIn, stOf, handle, kept, failed, took, withNode, addRecord, addNode, addLiteral, notOther, notStep, notOf, compareOf, enterOf, simplifyAt}
+use Rattle.simplify_spec.specs.OneExpression.{nodeIn, shapeIn, stOf, handle, kept, failed, took, withNode, addRecord, addNode, addLiteral}
+use Rattle.simplify_spec.specs.OneExpression.{notOther, notStep, notOf, compareOf, enterOf, simplifyAt}
 use Rattle.simplify_spec.specs.OneOperator.{planWith}
 use Rattle.simplify_spec.specs.Meaning.{bare, Alike, Good, Grown, Fixed, valueIn, kindIn, TypedIn}
 use Rattle.simplify_spec.specs.declared.Tables.{Tables}
@@ -46,7 +47,8 @@ use Rattle.simplify_spec.specs.declared.Shape.the-variants.{Boolean, Not
 use Rattle.simplify_spec.proofs.StepLaws.{enter-in, simplify-at}
 use Rattle.simplify_spec.proofs.ShapeLaws.{shape-boolean, shape-not}
 use Rattle.simplify_spec.proofs.Alikes.{same-truth, same-compare, bare-truth, boolean-bare, truth-code, truth-back}
-use Rattle.simplify_spec.proofs.Growth.{AllBelow, part-below, grown-self, grown-on, grown-told, old-node, old-value, old-part, not-below, compare-below, value-literal, value-not, value-compare}
+use Rattle.simplify_spec.proofs.Growth.{AllBelow, part-below, grown-self, grown-on, grown-told, old-node, old-value, old-part, not-below}
+use Rattle.simplify_spec.proofs.Growth.{compare-below, value-literal, value-not, value-compare}
 use Rattle.simplify_spec.proofs.Adding.{RightAt, literal-right, not-right, compare-right, new-node, node-grows}
 
 -- true is not false
@@ -139,7 +141,8 @@ module _ (p : Plan) where
         sizes = omega (arith, counts-within (planWith p a) (g .rules) .items, g .sized .item-a)
 
     pub typed-on : TypedIn p S a
-        → ((j : ℕ) → a .exprs .count ≤ j → j < b .exprs .count → nodeTyped S (booleanAt (p .columns .kind) (nodeIn b)) (operandsOf (b .items .a)) (nodeIn b j) ≡ true)
+        → ((j : ℕ) → a .exprs .count ≤ j → j < b .exprs .count → nodeTyped S (booleanAt (p .columns .kind) (nodeIn b)) (operandsOf (b .items .a)) (nodeIn b j)
+        ≡ true)
         → TypedIn p S b
     typed-on ty new k kl sk = ⊎-elim old (λ ge. new k ge kl) (below-or-not k (a .exprs .count))
       where
@@ -189,7 +192,8 @@ module _ (p : Plan) where
             grows = grown-on p st s s′ w v;
             within = omega arith;
             fixed = λ t u.
-                fixed t (grown-on p s s′ t v u) (s .exprs .count) (le-refl _) (old-node p s′ t (v .good) u (s .exprs .count) (omega arith) ∙ is-new) (omega (arith, more-exprs s′ t u));
+                fixed t (grown-on p s s′ t v u) (s .exprs .count) (le-refl _) (old-node p s′ t (v .good) u (s .exprs .count) (omega arith) ∙ is-new)
+                (omega (arith, more-exprs s′ t u));
             inner = λ e q.
                 let i = inner e (sym (ap shapeOf is-new) ∙ q) in
                 inner-on s s′ (e .0) g v (i .0) (i .1);
@@ -218,9 +222,11 @@ module _ (p : Plan) where
 
           last : nodeTyped S (booleanAt (p .columns .kind) (nodeIn s)) (operandsOf (s .items .a)) d ≡ true
               → (j : ℕ) → j ≡ s .exprs .count
-              → nodeTyped S (booleanAt (p .columns .kind) (nodeIn (withNode s (recordOfExpr d) start))) (operandsOf (s .items .a)) (nodeIn (withNode s (recordOfExpr d) start) j) ≡ true
+              → nodeTyped S (booleanAt (p .columns .kind) (nodeIn (withNode s (recordOfExpr d) start))) (operandsOf (s .items .a))
+              (nodeIn (withNode s (recordOfExpr d) start) j) ≡ true
           last r j e =
-              subst (λ (x : ExprData). nodeTyped S (booleanAt (p .columns .kind) (nodeIn (withNode s (recordOfExpr d) start))) (operandsOf (s .items .a)) x ≡ true)
+              subst (λ (x : ExprData). nodeTyped S (booleanAt (p .columns .kind) (nodeIn (withNode s (recordOfExpr d) start))) (operandsOf (s .items .a)) x
+              ≡ true)
               (sym (ap (nodeIn (withNode s (recordOfExpr d) start)) e ∙ is-new))
               (typed-go S s (withNode s (recordOfExpr d) start) g v (s .exprs .count) (le-refl _) d
               (subst (NodeOk (p .columns .count) (s .items .a) (s .items .count) (s .exprs .count)) is-new
@@ -237,11 +243,13 @@ module _ (p : Plan) where
 
     -- a literal that is appended
     pub fine-literal : (s : Tables) → Grown p st s → (b : Bool)
-        → (TypedIn p S st → S h ≡ true → (TypedIn p S s) × (kindIn p st h ≡ K.Boolean) × ((row : Row) → rowOk p row ≡ true → Scalar.Boolean b ≡ bare (valueIn p st row h)))
+        → (TypedIn p S st → S h ≡ true → (TypedIn p S s) × (kindIn p st h ≡ K.Boolean)
+        × ((row : Row) → rowOk p row ≡ true → Scalar.Boolean b ≡ bare (valueIn p st row h)))
         → addLiteral s b .ok ≡ true → Kept S st h (addLiteral s b)
     fine-literal s w b m =
         fine-add s w (Literal (Scalar.Boolean b)) (s .items .count) tt
-        (literal-right (s .items .a) (s .items .b) (s .items .count) (p .columns .count) (p .operators .count) (s .items .count) (s .exprs .count) (le-refl _) b)
+        (literal-right (s .items .a) (s .items .b) (s .items .count) (p .columns .count) (p .operators .count) (s .items .count) (s .exprs .count) (le-refl _)
+        b)
         (λ t v n ge e lt. simplify-at n t (Boolean b) (ap shapeOf e))
         (λ e q. absurd (let z : _≡_ {A = ℕ} 0 1 = cc in omega arith))
         (λ ty sh.
@@ -303,7 +311,8 @@ module _ (p : Plan) where
             kind-h,
             λ row ok.
                 turn b ∙ sym (bare-truth (notT (known b)))
-                ∙ ap (λ (v : ScalarValue). bare (ofTruth (notT (truthOf v)))) (sym (value-literal p s (N .grows .good) row i (N .within) (Scalar.Boolean b) (shape-boolean (nodeIn s i) b e)))
+                ∙ ap (λ (v : ScalarValue). bare (ofTruth (notT (truthOf v))))
+                (sym (value-literal p s (N .grows .good) row i (N .within) (Scalar.Boolean b) (shape-boolean (nodeIn s i) b e)))
                 ∙ ap bare (value-old row ok ty sh),
           ))
         where
@@ -328,7 +337,8 @@ module _ (p : Plan) where
           meant ty sh =
               let n = operand ty sh in
               let r : (S (e .0) && booleanAt (p .columns .kind) (nodeIn s) (e .0)) ≡ true =
-              subst (λ (d : ExprData). nodeTyped S (booleanAt (p .columns .kind) (nodeIn s)) (operandsOf (s .items .a)) d ≡ true) node-i (n .rules i (N .within) (n .member)) in
+              subst (λ (d : ExprData). nodeTyped S (booleanAt (p .columns .kind) (nodeIn s)) (operandsOf (s .items .a)) d ≡ true) node-i
+              (n .rules i (N .within) (n .member)) in
               let k : kindIn p s (e .0) ≡ K.Boolean = boolean-kind s (e .0) (and-right (S (e .0)) _ r) in
               record {
                 rules = n .rules;
@@ -374,7 +384,8 @@ module _ (p : Plan) where
               grows = N .grows;
               within = hs;
               fixed = λ t w.
-                  stays t w h (old-shape s t (N .grows .good) w h hs ∙ old-shape st s g (N .grows) h hl ∙ ap shapeOf is ∙ ap (λ (k : ℕ). Not (handle k)) (sym e))
+                  stays t w h (old-shape s t (N .grows .good) w h hs ∙ old-shape st s g (N .grows) h hl ∙ ap shapeOf is ∙ ap (λ (k : ℕ). Not (handle k))
+                  (sym e))
                   (omega (arith, not-below p st g h hl U.Not a is));
               inner = λ d q.
                   let same : d .0 ≡ i = ap (λ (x : ℕ). x) (sym (given d q)) in
@@ -397,7 +408,8 @@ module _ (p : Plan) where
         not-new : addNode s (Unary U.Not (handle i)) .ok ≡ true → Kept S st h (addNode s (Unary U.Not (handle i)))
         not-new =
             fine-add s (N .grows) (Unary U.Not (handle i)) (s .items .count) tt
-            (not-right (s .items .a) (s .items .b) (s .items .count) (p .columns .count) (p .operators .count) (s .items .count) (s .exprs .count) (le-refl _) (handle i) (N .within))
+            (not-right (s .items .a) (s .items .b) (s .items .count) (p .columns .count) (p .operators .count) (s .items .count) (s .exprs .count) (le-refl _)
+            (handle i) (N .within))
             (λ t v n ge e lt. stays t v n (ap shapeOf e) (omega (arith, N .within)))
             (λ d q.
             let y : handle i ≡ d = cc in
@@ -461,7 +473,8 @@ module _ (p : Plan) where
       unfolding compareOf
       stays-compare t v q e il jl =
           simplify-at q t (Compare op (handle i) (handle j)) e
-          ∙ ap (λ (x : Simplified). compareOf q op i j (x .at) (enterOf simplifyAt q (x .ok) (x .st) j)) (enter-in q i t il ∙ N .fixed t (grown-on p s u t (M .grows) v))
+          ∙ ap (λ (x : Simplified). compareOf q op i j (x .at) (enterOf simplifyAt q (x .ok) (x .st) j))
+          (enter-in q i t il ∙ N .fixed t (grown-on p s u t (M .grows) v))
           ∙ ap (compareOf q op i j i) (enter-in q j t jl ∙ M .fixed t v)
           ∙ rw (eq-eqb i i refl, eq-eqb j j refl)
 
@@ -472,7 +485,8 @@ module _ (p : Plan) where
             within = hu;
             fixed = λ t v.
                 stays-compare t v h
-                (old-shape u t (M .grows .good) v h hu ∙ old-shape st u g w h hl ∙ ap shapeOf is ∙ ap₂ (λ (x y : ℕ). Compare op (handle x) (handle y)) (sym ei) (sym ej))
+                (old-shape u t (M .grows .good) v h hu ∙ old-shape st u g w h hl ∙ ap shapeOf is ∙ ap₂ (λ (x y : ℕ). Compare op (handle x) (handle y))
+                (sym ei) (sym ej))
                 (omega (arith, compare-below p st g h hl op l r is .0)) (omega (arith, compare-below p st g h hl op l r is .1));
             inner = λ d q.
                 let x : Compare op l r ≡ Not d = sym (ap shapeOf is) ∙ sym (old-shape st u g w h hl) ∙ q in
@@ -491,7 +505,8 @@ module _ (p : Plan) where
       compare-new : addNode u (Binary op (handle i) (handle j)) .ok ≡ true → Kept S st h (addNode u (Binary op (handle i) (handle j)))
       compare-new =
           fine-add u w (Binary op (handle i) (handle j)) (u .items .count) tt
-          (compare-right (u .items .a) (u .items .b) (u .items .count) (p .columns .count) (p .operators .count) (u .items .count) (u .exprs .count) (le-refl _) op (handle i) (handle j) iu (M .within))
+          (compare-right (u .items .a) (u .items .b) (u .items .count) (p .columns .count) (p .operators .count) (u .items .count) (u .exprs .count)
+          (le-refl _) op (handle i) (handle j) iu (M .within))
           (λ t v n ge e lt. stays-compare t v n (ap shapeOf e) (omega (arith, iu)) (omega (arith, M .within)))
           (λ d q. absurd (let z : _≡_ {A = ℕ} 0 1 = cc in omega arith))
           (λ ty sh.
@@ -504,7 +519,8 @@ module _ (p : Plan) where
                 (value-compare p t (v .good) row n lt op (handle i) (handle j) e
                 ∙ ap ofTruth
                 (same-compare op (valueIn p t row i) (valueIn p st row (l .0)) (valueIn p t row j) (valueIn p st row (r .0))
-                (ap bare (old-value p u t (M .grows .good) v row i iu ∙ old-value p s u (N .grows .good) (M .grows) row i (N .within)) ∙ left-typed ty sh .value row ok)
+                (ap bare (old-value p u t (M .grows .good) v row i iu ∙ old-value p s u (N .grows .good) (M .grows) row i (N .within)) ∙ left-typed ty
+                sh .value row ok)
                 (ap bare (old-value p u t (M .grows .good) v row j (M .within)) ∙ right-typed ty sh .value row ok
                 ∙ ap bare (old-value p st s g (N .grows) row (r .0) (omega (arith, compare-below p st g h hl op l r is .1)))))
                 ∙ sym (value-compare p st g row h hl op l r is));
@@ -516,7 +532,8 @@ module _ (p : Plan) where
       fine-compare = go (eqb i (l .0)) (eqb j (r .0)) refl refl
         where
           go : (x y : Bool) → eqb i (l .0) ≡ x → eqb j (r .0) ≡ y
-              → (cond (x && y) (kept u h) (addNode u (Binary op (handle i) (handle j)))) .ok ≡ true → Kept S st h (cond (x && y) (kept u h) (addNode u (Binary op (handle i) (handle j))))
+              → (cond (x && y) (kept u h) (addNode u (Binary op (handle i) (handle j)))) .ok ≡ true → Kept S st h
+              (cond (x && y) (kept u h) (addNode u (Binary op (handle i) (handle j))))
           go true true ex ey q = compare-same (eqb-true i (l .0) ex) (eqb-true j (r .0) ey)
           go true false ex ey q = compare-new q
           go false y ex ey q = compare-new q

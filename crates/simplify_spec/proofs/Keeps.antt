@@ -20,7 +20,9 @@ use Rattle.rows.specs.Compare.{truthOf, ofTruth}
 use Rattle.rows.specs.Typing.{kindOfNode, booleanAt, nodeTyped}
 use Rattle.rows.specs.declared.Row.{Row}
 use Rattle.simplify_spec.specs.Shapes.{shapeOf, naryOpFor}
-use Rattle.simplify_spec.specs.OneExpression.{nodeIn, shapeIn, handle, kept, failed, took, addRecord, addLiteral, addNary, notStep, notOf, compareOf, enterOf, Operands, operandsFrom, itemsPut, counted, withItems, roomFor, rebuilt, naryOf, stepBy, simplifyAt}
+use Rattle.simplify_spec.specs.OneExpression.{nodeIn, shapeIn, handle, kept, failed, took, addRecord, addLiteral, addNary, notStep, notOf}
+use Rattle.simplify_spec.specs.OneExpression.{compareOf, enterOf, Operands, operandsFrom, itemsPut, counted, withItems, roomFor, rebuilt}
+use Rattle.simplify_spec.specs.OneExpression.{naryOf, stepBy, simplifyAt}
 use Rattle.simplify_spec.specs.OneOperator.{planWith}
 use Rattle.simplify_spec.specs.Meaning.{bare, Good, Grown, valueIn, kindIn, TypedIn}
 use Rattle.simplify_spec.specs.declared.Tables.{Tables}
@@ -30,9 +32,11 @@ use Rattle.simplify_spec.specs.declared.Shape.the-variants.{Boolean, Not
 use Rattle.simplify_spec.proofs.StepLaws.{enter-in, simplify-at}
 use Rattle.simplify_spec.proofs.ShapeLaws.{naryShapeOf, shape-not, shape-compare, shape-nary}
 use Rattle.simplify_spec.proofs.Alikes.{bare-truth, truth-code, truthAll, joinT, all-none, all-first, join-one, of-known}
-use Rattle.simplify_spec.proofs.Growth.{AllBelow, below-more, grown-on, old-node, old-value, old-part, all-same, not-below, compare-below, list-within, list-below, value-nary}
+use Rattle.simplify_spec.proofs.Growth.{AllBelow, below-more, grown-on, old-node, old-value, old-part, all-same, not-below, compare-below}
+use Rattle.simplify_spec.proofs.Growth.{list-within, list-below, value-nary}
 use Rattle.simplify_spec.proofs.Adding.{list-grows, list-part, list-right}
-use Rattle.simplify_spec.proofs.Keeping.{told, Kept, more-exprs, old-shape, old-kind, bool-val, boolean-kind, typed-on, kept-leaf, fine-add, fine-literal, kept-took, fine-not, fine-compare}
+use Rattle.simplify_spec.proofs.Keeping.{told, Kept, more-exprs, old-shape, old-kind, bool-val, boolean-kind, typed-on, kept-leaf, fine-add}
+use Rattle.simplify_spec.proofs.Keeping.{fine-literal, kept-took, fine-not, fine-compare}
 use Rattle.simplify_spec.proofs.Operating.{AllPlain, Wanted, wanted-first, wanted-on, RunMeant, RunKept, all-plain-on, operands-fixed, run-kept}
 
 -- And and Or alike
@@ -51,7 +55,8 @@ nary-other false s n e q = let z : _≡_ {A = ℕ} 0 1 = cc in omega arith
 module _ (p : Plan) where
   -- an And or Or of plain operands, in whatever the tables grew to
   stays-nary : (all : Bool) (s t : Tables) (l : List ℕ) → Good p s → Grown p s t → AllBelow (s .exprs .count) l → AllPlain p all s l
-      → (j a n : ℕ) → j < t .exprs .count → nodeIn t j ≡ Nary (naryOpFor all) (runOf a n) → take n (drop a (t .items .a)) ≡ l → AllBelow j l → simplifyAt j t ≡ kept t j
+      → (j a n : ℕ) → j < t .exprs .count → nodeIn t j ≡ Nary (naryOpFor all) (runOf a n) → take n (drop a (t .items .a)) ≡ l → AllBelow j l → simplifyAt j t
+      ≡ kept t j
   unfolding naryOf
   stays-nary all s t l g w u q j a n jl e part uj =
       simplify-at j t (naryShapeOf all a n) (ap shapeOf e ∙ nary-shape all a n)
@@ -78,7 +83,8 @@ module _ (p : Plan) where
     ops-below = list-below p st g h hl all a n is
 
     meant : TypedIn p S st → S h ≡ true → RunMeant p S all st a n q
-    meant ty sh = R .typed ty (subst (λ (d : ExprData). nodeTyped S (booleanAt (p .columns .kind) (nodeIn st)) (operandsOf (st .items .a)) d ≡ true) is (ty h hl sh))
+    meant ty sh = R .typed ty (subst (λ (d : ExprData). nodeTyped S (booleanAt (p .columns .kind) (nodeIn st)) (operandsOf (st .items .a)) d ≡ true) is
+        (ty h hl sh))
 
     value-h : (row : Row) → ofTruth (truthAll all (valueIn p st row) (take n (drop a (st .items .a)))) ≡ valueIn p st row h
     value-h row = sym (value-nary p st g row h hl all a n is)
@@ -122,7 +128,8 @@ module _ (p : Plan) where
             meant ty sh .rules,
             kind-h,
             λ row ok.
-                sym (of-known all) ∙ ap ofTruth (sym (all-none all (valueIn p (q .st) row))) ∙ ap (λ (l : List ℕ). ofTruth (truthAll all (valueIn p (q .st) row) l)) (sym e)
+                sym (of-known all) ∙ ap ofTruth (sym (all-none all (valueIn p (q .st) row))) ∙ ap
+                (λ (l : List ℕ). ofTruth (truthAll all (valueIn p (q .st) row) l)) (sym e)
                 ∙ ap ofTruth (meant ty sh .value row ok) ∙ bare-h row,
           ))
 
@@ -177,7 +184,8 @@ module _ (p : Plan) where
             fine-add p S st h fresh t0 (grown-on p st (q .st) t0 (R .grows) w0) new (q .st .items .count) (refl, omega arith)
             (list-right p (q .st) (q .kept) gs room all (R .under))
             (λ t v m ge e lt.
-            stays-nary all (q .st) t (q .kept) gs (grown-on p (q .st) t0 t w0 v) (R .under) (R .plain na) m (q .st .items .count) (length (q .kept)) lt e (part-on t v)
+            stays-nary all (q .st) t (q .kept) gs (grown-on p (q .st) t0 t w0 v) (R .under) (R .plain na) m (q .st .items .count) (length (q .kept)) lt e
+            (part-on t v)
             (below-than m ge))
             (λ e r. absurd (nary-other all (q .st .items .count) (length (q .kept)) e (sym (nary-shape all (q .st .items .count) (length (q .kept))) ∙ r)))
             (λ ty sh.
@@ -190,7 +198,8 @@ module _ (p : Plan) where
                   (value-nary p t (v .good) row m lt all (q .st .items .count) (length (q .kept)) e
                   ∙ ap ofTruth
                   (ap (truthAll all (valueIn p t row)) (part-on t v)
-                  ∙ all-same p all (valueIn p t row) (valueIn p (q .st) row) (q .st .exprs .count) (q .kept) (R .under) (λ j jl. old-value p (q .st) t gs (grown-on p (q .st) t0 t w0 v) row j jl)
+                  ∙ all-same p all (valueIn p t row) (valueIn p (q .st) row) (q .st .exprs .count) (q .kept) (R .under)
+                  (λ j jl. old-value p (q .st) t gs (grown-on p (q .st) t0 t w0 v) row j jl)
                   ∙ meant ty sh .value row ok)
                   ∙ value-h row);
             })
@@ -202,7 +211,8 @@ module _ (p : Plan) where
       nary-more = go (roomFor (q .st) (length (q .kept))) refl
         where
           X : Simplified
-          X = addRecord (withItems (q .st) (counted (itemsPut (q .st .items) (q .st .items .count) (q .kept)) (q .st .items .count + length (q .kept)))) (recordOfExpr (Nary (naryOpFor all) (runOf (q .st .items .count) (length (q .kept))))) (q .st .items .count)
+          X = addRecord (withItems (q .st) (counted (itemsPut (q .st .items) (q .st .items .count) (q .kept)) (q .st .items .count + length (q .kept))))
+              (recordOfExpr (Nary (naryOpFor all) (runOf (q .st .items .count) (length (q .kept))))) (q .st .items .count)
 
           go : (t : Bool) → roomFor (q .st) (length (q .kept)) ≡ t → (cond t X (failed (q .st))) .ok ≡ true → Kept p S st h (cond t X (failed (q .st)))
           go true e o = nary-new (leb-true (q .st .items .count + length (q .kept)) 2048 e) o
@@ -237,14 +247,16 @@ module _ (p : Plan) where
   unfolding naryOf
   nary-ok all h q = go (q .ok)
     where
-      go : (t : Bool) → (cond t (cond (q .absorbed) (addLiteral (q .st) (not all)) (cond (q .dirty) (rebuilt all (q .st) (q .kept)) (kept (q .st) h))) (failed (q .st))) .ok ≡ true → t ≡ true
+      go : (t : Bool) → (cond t (cond (q .absorbed) (addLiteral (q .st) (not all)) (cond (q .dirty) (rebuilt all (q .st) (q .kept)) (kept (q .st) h)))
+          (failed (q .st))) .ok ≡ true → t ≡ true
       go true e = refl
       go false e = e
 
   -- ---- altogether, by the height of the handle
   module _ (S : ℕ → Bool) where
     module _ (h : ℕ) (st : Tables) (g : Good p st) (hl : h < st .exprs .count) (fresh : (j : ℕ) → st .exprs .count ≤ j → S j ≡ true)
-        (ih : (e : ℕ) (s : Tables) → e < h → Good p s → e < s .exprs .count → ((j : ℕ) → s .exprs .count ≤ j → S j ≡ true) → simplifyAt e s .ok ≡ true → Kept p S s e (simplifyAt e s)) where
+        (ih : (e : ℕ) (s : Tables) → e < h → Good p s → e < s .exprs .count → ((j : ℕ) → s .exprs .count ≤ j → S j ≡ true) → simplifyAt e s .ok ≡ true → Kept
+        p S s e (simplifyAt e s)) where
       at-not : (a : Expr) → shapeIn st h ≡ Not a → simplifyAt h st .ok ≡ true → Kept p S st h (simplifyAt h st)
       unfolding notOf
       at-not a e =
@@ -261,11 +273,15 @@ module _ (p : Plan) where
           x = simplifyAt (a .0) st
 
           go : (t : Bool) → simplifyAt (a .0) st .ok ≡ t
-              → (cond t (notStep (simplifyAt (a .0) st .st) (simplifyAt (a .0) st .at) (a .0) h (shapeIn (simplifyAt (a .0) st .st) (simplifyAt (a .0) st .at))) (failed (simplifyAt (a .0) st .st))) .ok ≡ true
-              → Kept p S st h (cond t (notStep (simplifyAt (a .0) st .st) (simplifyAt (a .0) st .at) (a .0) h (shapeIn (simplifyAt (a .0) st .st) (simplifyAt (a .0) st .at))) (failed (simplifyAt (a .0) st .st)))
+              → (cond t (notStep (simplifyAt (a .0) st .st) (simplifyAt (a .0) st .at) (a .0) h
+              (shapeIn (simplifyAt (a .0) st .st) (simplifyAt (a .0) st .at))) (failed (simplifyAt (a .0) st .st))) .ok ≡ true
+              → Kept p S st h
+              (cond t (notStep (simplifyAt (a .0) st .st) (simplifyAt (a .0) st .at) (a .0) h
+              (shapeIn (simplifyAt (a .0) st .st) (simplifyAt (a .0) st .at))) (failed (simplifyAt (a .0) st .st)))
           go true o r =
               fine-not p S st h fresh g hl a is (simplifyAt (a .0) st .st) (simplifyAt (a .0) st .at)
-              (subst (λ (b : Bool). Kept p S st (a .0) (record { st = simplifyAt (a .0) st .st; at = simplifyAt (a .0) st .at; ok = b })) o (ih (a .0) st al g (omega (arith, al)) fresh o))
+              (subst (λ (b : Bool). Kept p S st (a .0) (record { st = simplifyAt (a .0) st .st; at = simplifyAt (a .0) st .at; ok = b })) o
+              (ih (a .0) st al g (omega (arith, al)) fresh o))
               (shapeIn (simplifyAt (a .0) st .st) (simplifyAt (a .0) st .at)) refl r
           go false o r = absurd (told (sym r))
 
@@ -291,15 +307,19 @@ module _ (p : Plan) where
           two xo y ey true yo q =
               let x = simplifyAt (l .0) st in
               let X : Kept p S st (l .0) (record { st = simplifyAt (l .0) st .st; at = simplifyAt (l .0) st .at; ok = true }) =
-              subst (λ (b : Bool). Kept p S st (l .0) (record { st = simplifyAt (l .0) st .st; at = simplifyAt (l .0) st .at; ok = b })) xo (ih (l .0) st (ab .0) g (omega (arith, ab .0)) fresh xo) in
+              subst (λ (b : Bool). Kept p S st (l .0) (record { st = simplifyAt (l .0) st .st; at = simplifyAt (l .0) st .at; ok = b })) xo
+              (ih (l .0) st (ab .0) g (omega (arith, ab .0)) fresh xo) in
               let more : st .exprs .count ≤ simplifyAt (l .0) st .st .exprs .count = more-exprs p st (simplifyAt (l .0) st .st) (X .grows) in
               let Y : Kept p S (simplifyAt (l .0) st .st) (r .0) y =
               subst (λ (z : Simplified). z .ok ≡ true → Kept p S (simplifyAt (l .0) st .st) (r .0) z) (sym ey)
               (ih (r .0) (simplifyAt (l .0) st .st) (ab .1) (X .grows .good) (omega (arith, ab .1, more)) (λ j ge. fresh j (omega (arith, more)))) yo in
-              subst (λ (b : Bool). compareOf h op (l .0) (r .0) (simplifyAt (l .0) st .at) (record { st = y .st; at = y .at; ok = b }) .ok ≡ true → Kept p S st h (compareOf h op (l .0) (r .0) (simplifyAt (l .0) st .at) (record { st = y .st; at = y .at; ok = b }))) (sym yo)
+              subst (λ (b : Bool). compareOf h op (l .0) (r .0) (simplifyAt (l .0) st .at) (record { st = y .st; at = y .at; ok = b }) .ok ≡ true → Kept p S
+              st h (compareOf h op (l .0) (r .0) (simplifyAt (l .0) st .at) (record { st = y .st; at = y .at; ok = b }))) (sym yo)
               (fine-compare p S st h fresh g hl op l r is (simplifyAt (l .0) st .st) (simplifyAt (l .0) st .at) X (y .st) (y .at)
               (subst (λ (b : Bool). Kept p S (simplifyAt (l .0) st .st) (r .0) (record { st = y .st; at = y .at; ok = b })) yo Y)) q
-          two xo y ey false yo q = absurd (told (sym (ap (λ (b : Bool). compareOf h op (l .0) (r .0) (simplifyAt (l .0) st .at) (record { st = y .st; at = y .at; ok = b }) .ok) (sym yo) ∙ q)))
+          two xo y ey false yo q = absurd
+              (told (sym (ap (λ (b : Bool). compareOf h op (l .0) (r .0) (simplifyAt (l .0) st .at) (record { st = y .st; at = y .at; ok = b }) .ok) (sym yo)
+              ∙ q)))
 
           one : (t : Bool) → simplifyAt (l .0) st .ok ≡ t
               → compareOf h op (l .0) (r .0) (simplifyAt (l .0) st .at) (enterOf simplifyAt h t (simplifyAt (l .0) st .st) (r .0)) .ok ≡ true
@@ -314,7 +334,8 @@ module _ (p : Plan) where
           subst (λ (r : Simplified). r .ok ≡ true → Kept p S st h r) (sym (simplify-at h st (naryShapeOf all a n) e ∙ nary-step all a n h st))
           (λ o.
           fine-nary S st h fresh g hl all a n is (operandsFrom simplifyAt all h true st a n)
-          (run-kept p S all h ih n st a g (omega arith) (list-within p st g h hl all a n is) (list-below p st g h hl all a n is) fresh (nary-ok all h (operandsFrom simplifyAt all h true st a n) o))
+          (run-kept p S all h ih n st a g (omega arith) (list-within p st g h hl all a n is) (list-below p st g h hl all a n is) fresh
+          (nary-ok all h (operandsFrom simplifyAt all h true st a n) o))
           (nary-ok all h (operandsFrom simplifyAt all h true st a n) o) o)
         where
           is : nodeIn st h ≡ Nary (naryOpFor all) (runOf a n)
@@ -323,7 +344,8 @@ module _ (p : Plan) where
       at-any : (x : Shape) → shapeIn st h ≡ x → simplifyAt h st .ok ≡ true → Kept p S st h (simplifyAt h st)
       at-any (Boolean b) e o =
           subst (Kept p S st h) (sym (simplify-at h st (Boolean b) e))
-          (kept-leaf p S st h g hl (λ t w. simplify-at h t (Boolean b) (old-shape p st t g w h hl ∙ e)) (λ d q. absurd (let z : _≡_ {A = ℕ} 0 1 = cc in omega arith)))
+          (kept-leaf p S st h g hl (λ t w. simplify-at h t (Boolean b) (old-shape p st t g w h hl ∙ e))
+          (λ d q. absurd (let z : _≡_ {A = ℕ} 0 1 = cc in omega arith)))
       at-any (Not a) e o = at-not a e o
       at-any (Compare op l r) e o = at-compare op l r e o
       at-any (And a n) e o = at-nary true a n e o
@@ -332,10 +354,12 @@ module _ (p : Plan) where
           subst (Kept p S st h) (sym (simplify-at h st Other e))
           (kept-leaf p S st h g hl (λ t w. simplify-at h t Other (old-shape p st t g w h hl ∙ e)) (λ d q. absurd (let z : _≡_ {A = ℕ} 0 1 = cc in omega arith)))
 
-    keeps-by : (m h : ℕ) (st : Tables) → h < m → Good p st → h < st .exprs .count → ((j : ℕ) → st .exprs .count ≤ j → S j ≡ true) → simplifyAt h st .ok ≡ true → Kept p S st h (simplifyAt h st)
+    keeps-by : (m h : ℕ) (st : Tables) → h < m → Good p st → h < st .exprs .count → ((j : ℕ) → st .exprs .count ≤ j → S j ≡ true) → simplifyAt h st .ok ≡ true
+        → Kept p S st h (simplifyAt h st)
     keeps-by zero h st lt g hl fresh o = absurd (omega arith)
     keeps-by (suc m) h st lt g hl fresh o =
         at-any h st g hl fresh (λ e s el gs es fs os. keeps-by m e s (omega arith) gs es fs os) (shapeIn st h) refl o
 
-    pub keeps : (h : ℕ) (st : Tables) → Good p st → h < st .exprs .count → ((j : ℕ) → st .exprs .count ≤ j → S j ≡ true) → simplifyAt h st .ok ≡ true → Kept p S st h (simplifyAt h st)
+    pub keeps : (h : ℕ) (st : Tables) → Good p st → h < st .exprs .count → ((j : ℕ) → st .exprs .count ≤ j → S j ≡ true) → simplifyAt h st .ok ≡ true → Kept p
+        S st h (simplifyAt h st)
     keeps h st g hl fresh o = keeps-by (suc h) h st (omega arith) g hl fresh o

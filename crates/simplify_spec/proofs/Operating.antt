@@ -85,15 +85,29 @@ module _ (p : Plan) where
       cons = part-first (t .items .a) q m (omega arith)
 
       last : (e : ℕ) → isLiteral all (shapeIn t e) ≡ false → isLiteral (not all) (shapeIn t e) ≡ false → (rest l : List ℕ) → l ≡ e ∷ rest
-          → joined all e (kept t e) (record { st = t; ok = true; kept = rest; dirty = false; absorbed = false }) ≡ record { st = t; ok = true; kept = l; dirty = false; absorbed = false }
+          → joined all e (kept t e) (record { st = t; ok = true; kept = rest; dirty = false; absorbed = false }) ≡ record
+          { st = t; ok = true; kept = l; dirty = false; absorbed = false }
       last e n1 n2 rest l el =
           ap₂ (λ (a b : Bool). joinedBy a b e e (record { st = t; ok = true; kept = rest; dirty = false; absorbed = false })) n1 n2
           ∙ (λ i. record { st = t; ok = true; kept = sym el i; dirty = not (eq-eqb e e refl i) || false; absorbed = false })
 
       step : (AllBelow h (take m (drop (q + 1) (t .items .a))) → AllPlain all t (take m (drop (q + 1) (t .items .a)))
-          → operandsFrom simplifyAt all h true t (q + 1) m ≡ record { st = t; ok = true; kept = take m (drop (q + 1) (t .items .a)); dirty = false; absorbed = false })
-          → AllBelow h (getD (t .items .a) q 0 ∷ take m (drop (q + 1) (t .items .a))) → AllPlain all t (getD (t .items .a) q 0 ∷ take m (drop (q + 1) (t .items .a)))
-          → operandsFrom simplifyAt all h true t q (suc m) ≡ record { st = t; ok = true; kept = take (suc m) (drop q (t .items .a)); dirty = false; absorbed = false }
+          → operandsFrom simplifyAt all h true t (q + 1) m ≡ record {
+            st = t;
+            ok = true;
+            kept = take m (drop (q + 1) (t .items .a));
+            dirty = false;
+            absorbed = false;
+          })
+          → AllBelow h (getD (t .items .a) q 0 ∷ take m (drop (q + 1) (t .items .a))) → AllPlain all t
+          (getD (t .items .a) q 0 ∷ take m (drop (q + 1) (t .items .a)))
+          → operandsFrom simplifyAt all h true t q (suc m) ≡ record {
+            st = t;
+            ok = true;
+            kept = take (suc m) (drop q (t .items .a));
+            dirty = false;
+            absorbed = false;
+          }
       step ih v w =
           ap (λ (r : Simplified). joined all (getD (t .items .a) q 0) r (operandsFrom simplifyAt all h (r .ok) (r .st) (q + 1) m))
           (enter-in h (getD (t .items .a) q 0) t (v .0) ∙ w .0 .fixed t (grown-self p t g))
@@ -101,7 +115,8 @@ module _ (p : Plan) where
           ∙ last (getD (t .items .a) q 0) (w .0 .neutral) (w .0 .deciding) (take m (drop (q + 1) (t .items .a))) (take (suc m) (drop q (t .items .a))) cons
 
   -- a literal's truth
-  pub lit-truth : (s : Tables) → Good p s → (row : Row) (b : Bool) (i : ℕ) → i < s .exprs .count → isLiteral b (shapeIn s i) ≡ true → truthOf (valueIn p s row i) ≡ known b
+  pub lit-truth : (s : Tables) → Good p s → (row : Row) (b : Bool) (i : ℕ) → i < s .exprs .count → isLiteral b (shapeIn s i) ≡ true → truthOf
+      (valueIn p s row i) ≡ known b
   lit-truth s g row b i l e = ap truthOf (value-literal p s g row i l (Scalar.Boolean b) (shape-literal (nodeIn s i) b e))
 
   module _ (S : ℕ → Bool) where
@@ -129,7 +144,8 @@ module _ (p : Plan) where
     pub record RunMeant (all : Bool) (st : Tables) (s m : ℕ) (q : Operands) : Type 0 where
       pub rules : TypedIn p S (q .st)
       pub bools : Wanted (q .st) (q .kept)
-      pub value : (row : Row) → rowOk p row ≡ true → truthAll all (valueIn p (q .st) row) (q .kept) ≡ truthAll all (valueIn p st row) (take m (drop s (st .items .a)))
+      pub value : (row : Row) → rowOk p row ≡ true → truthAll all (valueIn p (q .st) row) (q .kept) ≡ truthAll all (valueIn p st row)
+          (take m (drop s (st .items .a)))
       pub absorbs : q .absorbed ≡ true → (row : Row) → rowOk p row ≡ true → truthAll all (valueIn p st row) (take m (drop s (st .items .a))) ≡ known (not all)
 
     pub record RunKept (all : Bool) (st : Tables) (s m : ℕ) (q : Operands) : Type 0 where
@@ -175,43 +191,52 @@ module _ (p : Plan) where
         at-q : x .at < q .st .exprs .count
         at-q = omega (arith, N .within, more-exprs p (x .st) (q .st) (R .grows))
 
-        rest-value : (row : Row) → truthAll all (valueIn p (x .st) row) (take m (drop (s + 1) (x .st .items .a))) ≡ truthAll all (valueIn p st row) (take m (drop (s + 1) (st .items .a)))
+        rest-value : (row : Row) → truthAll all (valueIn p (x .st) row) (take m (drop (s + 1) (x .st .items .a))) ≡ truthAll all (valueIn p st row)
+            (take m (drop (s + 1) (st .items .a)))
         rest-value row =
             ap (truthAll all (valueIn p (x .st) row)) part
-            ∙ all-same p all (valueIn p (x .st) row) (valueIn p st row) (st .exprs .count) (take m (drop (s + 1) (st .items .a))) under-n (λ j jl. old-value p st (x .st) g (N .grows) row j jl)
+            ∙ all-same p all (valueIn p (x .st) row) (valueIn p st row) (st .exprs .count) (take m (drop (s + 1) (st .items .a))) under-n
+            (λ j jl. old-value p st (x .st) g (N .grows) row j jl)
 
         whole : (row : Row) → truthAll all (valueIn p st row) (take (suc m) (drop s (st .items .a)))
             ≡ joinT all (truthOf (valueIn p st row (getD (st .items .a) s 0))) (truthAll all (valueIn p st row) (take m (drop (s + 1) (st .items .a))))
-        whole row = ap (truthAll all (valueIn p st row)) cons ∙ all-first all (valueIn p st row) (getD (st .items .a) s 0) (take m (drop (s + 1) (st .items .a)))
+        whole row = ap (truthAll all (valueIn p st row)) cons ∙ all-first all (valueIn p st row) (getD (st .items .a) s 0)
+            (take m (drop (s + 1) (st .items .a)))
 
         module _ (ty : TypedIn p S st) (b : Wanted st (take (suc m) (drop s (st .items .a)))) where
-          first : (S (getD (st .items .a) s 0) ≡ true) × (booleanAt (p .columns .kind) (nodeIn st) (getD (st .items .a) s 0) ≡ true) × Wanted st (take m (drop (s + 1) (st .items .a)))
+          first : (S (getD (st .items .a) s 0) ≡ true) × (booleanAt (p .columns .kind) (nodeIn st) (getD (st .items .a) s 0) ≡ true) × Wanted st
+              (take m (drop (s + 1) (st .items .a)))
           first = wanted-first st (getD (st .items .a) s 0) (take m (drop (s + 1) (st .items .a))) (subst (Wanted st) cons b)
 
           one : Meant p S st (getD (st .items .a) s 0) x
           one = N .typed ty (first .0)
 
           one-kind : kindIn p (q .st) (x .at) ≡ K.Boolean
-          one-kind = old-kind p (x .st) (q .st) (N .grows .good) (R .grows) (x .at) (N .within) ∙ one .kind ∙ boolean-kind p st (getD (st .items .a) s 0) (first .1)
+          one-kind = old-kind p (x .st) (q .st) (N .grows .good) (R .grows) (x .at) (N .within) ∙ one .kind ∙ boolean-kind p st (getD (st .items .a) s 0)
+              (first .1)
 
           others : RunMeant all (x .st) (s + 1) m q
           others =
               R .typed (one .rules)
               (subst (Wanted (x .st)) (sym part) (wanted-on st (x .st) g (N .grows) (take m (drop (s + 1) (st .items .a))) under-n (first .2)))
 
-          tail : (row : Row) → rowOk p row ≡ true → truthAll all (valueIn p (q .st) row) (q .kept) ≡ truthAll all (valueIn p st row) (take m (drop (s + 1) (st .items .a)))
+          tail : (row : Row) → rowOk p row ≡ true → truthAll all (valueIn p (q .st) row) (q .kept) ≡ truthAll all (valueIn p st row)
+              (take m (drop (s + 1) (st .items .a)))
           tail row ok = others .value row ok ∙ rest-value row
 
-          lit-first : (c : Bool) → isLiteral c (shapeIn (x .st) (x .at)) ≡ true → (row : Row) → rowOk p row ≡ true → truthOf (valueIn p st row (getD (st .items .a) s 0)) ≡ known c
+          lit-first : (c : Bool) → isLiteral c (shapeIn (x .st) (x .at)) ≡ true → (row : Row) → rowOk p row ≡ true → truthOf
+              (valueIn p st row (getD (st .items .a) s 0)) ≡ known c
           lit-first c i row ok =
               sym (same-truth (valueIn p (x .st) row (x .at)) (valueIn p st row (getD (st .items .a) s 0)) (one .value row ok))
               ∙ lit-truth (x .st) (N .grows .good) row c (x .at) (N .within) i
 
           value-one : (t : Bool) → isLiteral all (shapeIn (x .st) (x .at)) ≡ t → (row : Row) → rowOk p row ≡ true
-              → truthAll all (valueIn p (q .st) row) (cond t (q .kept) (x .at ∷ q .kept)) ≡ truthAll all (valueIn p st row) (take (suc m) (drop s (st .items .a)))
+              → truthAll all (valueIn p (q .st) row) (cond t (q .kept) (x .at ∷ q .kept)) ≡ truthAll all (valueIn p st row)
+              (take (suc m) (drop s (st .items .a)))
           value-one true i row ok =
               tail row ok
-              ∙ sym (join-unit all (truthAll all (valueIn p st row) (take m (drop (s + 1) (st .items .a)))) (all-code3 all (valueIn p st row) (take m (drop (s + 1) (st .items .a)))))
+              ∙ sym (join-unit all (truthAll all (valueIn p st row) (take m (drop (s + 1) (st .items .a))))
+              (all-code3 all (valueIn p st row) (take m (drop (s + 1) (st .items .a)))))
               ∙ ap (λ (y : ℕ). joinT all y (truthAll all (valueIn p st row) (take m (drop (s + 1) (st .items .a))))) (sym (lit-first all i row ok))
               ∙ sym (whole row)
           value-one false i row ok =
@@ -260,7 +285,8 @@ module _ (p : Plan) where
             under-one true = R .under
             under-one false = (at-q, R .under)
 
-            plain-one : (c : Bool) → isLiteral all (shapeIn (x .st) (x .at)) ≡ c → a || q .absorbed ≡ false → AllPlain all (q .st) (cond c (q .kept) (x .at ∷ q .kept))
+            plain-one : (c : Bool) → isLiteral all (shapeIn (x .st) (x .at)) ≡ c → a || q .absorbed ≡ false → AllPlain all (q .st)
+                (cond c (q .kept) (x .at ∷ q .kept))
             plain-one true ec o = R .plain (or-right a (q .absorbed) o)
             plain-one false ec o = (
               plain-on all (x .st) (q .st) (x .at) (N .grows .good) (R .grows) (N .within)
@@ -268,11 +294,13 @@ module _ (p : Plan) where
               R .plain (or-right a (q .absorbed) o),
             )
 
-            clean-one : (c : Bool) → (c || not (eqb (x .at) (getD (st .items .a) s 0))) || q .dirty ≡ false → cond c (q .kept) (x .at ∷ q .kept) ≡ take (suc m) (drop s (st .items .a))
+            clean-one : (c : Bool) → (c || not (eqb (x .at) (getD (st .items .a) s 0))) || q .dirty ≡ false → cond c (q .kept) (x .at ∷ q .kept) ≡ take
+                (suc m) (drop s (st .items .a))
             clean-one true o = absurd (told o)
             clean-one false o =
                 let same : x .at ≡ getD (st .items .a) s 0 =
-                eqb-true (x .at) (getD (st .items .a) s 0) (not-false (eqb (x .at) (getD (st .items .a) s 0)) (or-left (not (eqb (x .at) (getD (st .items .a) s 0))) (q .dirty) o)) in
+                eqb-true (x .at) (getD (st .items .a) s 0)
+                (not-false (eqb (x .at) (getD (st .items .a) s 0)) (or-left (not (eqb (x .at) (getD (st .items .a) s 0))) (q .dirty) o)) in
                 ap₂ (λ (y : ℕ) (l : List ℕ). y ∷ l) same (R .clean (or-right (not (eqb (x .at) (getD (st .items .a) s 0))) (q .dirty) o) ∙ part) ∙ sym cons
 
       -- operands that ended well began well
@@ -288,7 +316,8 @@ module _ (p : Plan) where
           (run-ok h m (enterOf simplifyAt h ok st (getD (st .items .a) s 0) .ok) (enterOf simplifyAt h ok st (getD (st .items .a) s 0) .st) (s + 1) r)
 
       pub run-kept : (h : ℕ)
-          → ((e : ℕ) (u : Tables) → e < h → Good p u → e < u .exprs .count → ((j : ℕ) → u .exprs .count ≤ j → S j ≡ true) → simplifyAt e u .ok ≡ true → Kept p S u e (simplifyAt e u))
+          → ((e : ℕ) (u : Tables) → e < h → Good p u → e < u .exprs .count → ((j : ℕ) → u .exprs .count ≤ j → S j ≡ true) → simplifyAt e u .ok ≡ true → Kept p
+          S u e (simplifyAt e u))
           → (m : ℕ) (st : Tables) (s : ℕ) → Good p st → h ≤ st .exprs .count → s + m ≤ st .items .count → AllBelow h (take m (drop s (st .items .a)))
           → ((j : ℕ) → st .exprs .count ≤ j → S j ≡ true)
           → operandsFrom simplifyAt all h true st s m .ok ≡ true → RunKept all st s m (operandsFrom simplifyAt all h true st s m)
@@ -300,7 +329,8 @@ module _ (p : Plan) where
           cons : take (suc m) (drop s (st .items .a)) ≡ getD (st .items .a) s 0 ∷ take m (drop (s + 1) (st .items .a))
           cons = part-first (st .items .a) s m (omega (arith, items-long st g))
 
-          step : ((t : Tables) → Good p t → h ≤ t .exprs .count → s + 1 + m ≤ t .items .count → AllBelow h (take m (drop (s + 1) (t .items .a))) → ((j : ℕ) → t .exprs .count ≤ j → S j ≡ true)
+          step : ((t : Tables) → Good p t → h ≤ t .exprs .count → s + 1 + m ≤ t .items .count → AllBelow h (take m (drop (s + 1) (t .items .a)))
+              → ((j : ℕ) → t .exprs .count ≤ j → S j ≡ true)
               → operandsFrom simplifyAt all h true t (s + 1) m .ok ≡ true → RunKept all t (s + 1) m (operandsFrom simplifyAt all h true t (s + 1) m))
               → AllBelow h (getD (st .items .a) s 0 ∷ take m (drop (s + 1) (st .items .a)))
               → RunKept all st s (suc m) (operandsFrom simplifyAt all h true st s (suc m))
@@ -322,4 +352,5 @@ module _ (p : Plan) where
               subst (RunKept all st s (suc m))
               (sym (ap (λ (r : Simplified). joined all e r (operandsFrom simplifyAt all h (r .ok) (r .st) (s + 1) m)) en
               ∙ ap (λ (b : Bool). joined all e x (operandsFrom simplifyAt all h b (x .st) (s + 1) m)) xo))
-              (run-one st h s m g hn sm (v .0) (v .1) x N q R (isLiteral all (shapeIn (x .st) (x .at))) (isLiteral (not all) (shapeIn (x .st) (x .at))) refl refl)
+              (run-one st h s m g hn sm (v .0) (v .1) x N q R (isLiteral all (shapeIn (x .st) (x .at))) (isLiteral (not all) (shapeIn (x .st) (x .at))) refl
+              refl)

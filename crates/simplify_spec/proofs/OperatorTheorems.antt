@@ -18,10 +18,13 @@ use Rattle.plan_rules.specs.Rules.{planOk}
 use Rattle.plan_rules.proofs.RuleLaws.{rules}
 use Rattle.plan_data.specs.Nodes.{recordOfOperator}
 use Rattle.plan_data.specs.declared.OperatorData.{OperatorData}
-use Rattle.plan_data.specs.declared.OperatorData.the-variants.{Scan, ConstScan, TableFunction, Selection, Projection, Rename, Map, Aggregation, Sort, Limit, Output, CrossProduct, Join}
+use Rattle.plan_data.specs.declared.OperatorData.the-variants.{Scan, ConstScan, TableFunction, Selection, Projection, Rename, Map, Aggregation, Sort}
+use Rattle.plan_data.specs.declared.OperatorData.the-variants.{Limit, Output, CrossProduct, Join}
 use Rattle.simplify_spec.specs.Shapes.{isLiteral}
 use Rattle.simplify_spec.specs.OneExpression.{shapeIn, kept, enterOf, withItems, simplifyAt}
-use Rattle.simplify_spec.specs.OneOperator.{operatorAt, heldOf, heldCount, heldAt, eachWith, eachTo, itemCount, itemFirst, itemSecond, writeAll, withList, rebuiltOf, planWith, planAdded, addOperator, inputOr, rewriteOf, startOf, eachOf, simplifyOf}
+use Rattle.simplify_spec.specs.OneOperator.{operatorAt, heldOf, heldCount, heldAt, eachWith, eachTo, itemCount, itemFirst, itemSecond}
+use Rattle.simplify_spec.specs.OneOperator.{writeAll, withList, rebuiltOf, planWith, planAdded, addOperator, inputOr, rewriteOf, startOf}
+use Rattle.simplify_spec.specs.OneOperator.{eachOf, simplifyOf}
 use Rattle.simplify_spec.specs.Meaning.{Good, Grown}
 use Rattle.simplify_spec.specs.declared.Tables.{Tables}
 use Rattle.simplify_spec.specs.declared.Simplified.{Simplified}
@@ -51,13 +54,15 @@ module _ (p : Plan) (es : ℕ → ℕ) (st : Tables) (g : Good p st) where
       go true e = refl
       go false e = e
 
-  each-kept : (k : ℕ) → k ≤ 2048 → ((j : ℕ) → j < k → es j < st .exprs .count) → eachTo (st .exprs .count) es st k .ok ≡ true → EachKept p st (eachTo (st .exprs .count) es st k) k
+  each-kept : (k : ℕ) → k ≤ 2048 → ((j : ℕ) → j < k → es j < st .exprs .count) → eachTo (st .exprs .count) es st k .ok ≡ true → EachKept p st
+      (eachTo (st .exprs .count) es st k) k
   unfolding eachTo
   each-kept zero le f o =
       record { grows = grown-self p st g; size = refl; within = λ j lt. absurd (omega arith); still = λ e. refl }
   each-kept (suc k) le f o = step (eachTo (st .exprs .count) es st k) (each-kept k (omega arith) (λ j lt. f j (omega arith)) (each-ok k o)) (each-ok k o) o
     where
-      step : (r : Each) → EachKept p st r k → r .ok ≡ true → eachWith (st .exprs .count) (es k) r k .ok ≡ true → EachKept p st (eachWith (st .exprs .count) (es k) r k) (suc k)
+      step : (r : Each) → EachKept p st r k → r .ok ≡ true → eachWith (st .exprs .count) (es k) r k .ok ≡ true → EachKept p st
+          (eachWith (st .exprs .count) (es k) r k) (suc k)
       step r R ro o =
           subst (λ (z : Simplified). z .ok ≡ true → EachKept p st (record { st = z .st; ok = z .ok; ats = set (r .ats) k (z .at) }) (suc k)) (sym en) made o
         where
@@ -67,10 +72,12 @@ module _ (p : Plan) (es : ℕ → ℕ) (st : Tables) (g : Good p st) where
           en : enterOf simplifyAt (st .exprs .count) (r .ok) (r .st) (es k) ≡ simplifyAt (es k) (r .st)
           en = ap (λ (b : Bool). enterOf simplifyAt (st .exprs .count) b (r .st) (es k)) ro ∙ enter-in (st .exprs .count) (es k) (r .st) (f k (omega arith))
 
-          made : simplifyAt (es k) (r .st) .ok ≡ true → EachKept p st (record { st = simplifyAt (es k) (r .st) .st; ok = simplifyAt (es k) (r .st) .ok; ats = set (r .ats) k (simplifyAt (es k) (r .st) .at) }) (suc k)
+          made : simplifyAt (es k) (r .st) .ok ≡ true → EachKept p st
+              (record { st = simplifyAt (es k) (r .st) .st; ok = simplifyAt (es k) (r .st) .ok; ats = set (r .ats) k (simplifyAt (es k) (r .st) .at) }) (suc k)
           made xo =
               let N : Kept p (λ (j : ℕ). true) (r .st) (es k) (simplifyAt (es k) (r .st)) =
-              keeps p (λ (j : ℕ). true) (es k) (r .st) (R .grows .good) (omega (arith, f k (omega arith), more-exprs p st (r .st) (R .grows))) (λ j ge. refl) xo in
+              keeps p (λ (j : ℕ). true) (es k) (r .st) (R .grows .good) (omega (arith, f k (omega arith), more-exprs p st (r .st) (R .grows))) (λ j ge. refl)
+              xo in
               record {
                 grows = grown-on p st (r .st) (simplifyAt (es k) (r .st) .st) (R .grows) (N .grows);
                 size = length-set (r .ats) k (simplifyAt (es k) (r .st) .at) ∙ R .size;
@@ -80,7 +87,8 @@ module _ (p : Plan) (es : ℕ → ℕ) (st : Tables) (g : Good p st) where
                     a ∙ R .still (ap (λ (y : Tables). y .changed) (sym a) ∙ e);
               }
             where
-              at-each : (j : ℕ) → j < suc k → (b : Bool) → eqb j k ≡ b → simplifyAt (es k) (r .st) .at < simplifyAt (es k) (r .st) .st .exprs .count → r .st .exprs .count ≤ simplifyAt (es k) (r .st) .st .exprs .count
+              at-each : (j : ℕ) → j < suc k → (b : Bool) → eqb j k ≡ b → simplifyAt (es k) (r .st) .at < simplifyAt (es k) (r .st) .st .exprs .count
+                  → r .st .exprs .count ≤ simplifyAt (es k) (r .st) .st .exprs .count
                   → getD (set (r .ats) k (simplifyAt (es k) (r .st) .at)) j 0 < simplifyAt (es k) (r .st) .st .exprs .count
               at-each j lt true e w m =
                   let q : j ≡ k = eqb-true j k e in
@@ -89,7 +97,8 @@ module _ (p : Plan) (es : ℕ → ℕ) (st : Tables) (g : Good p st) where
                   rw (q, v) w
               at-each j lt false e w m =
                   let q : (j ≡ k → ⊥) = eqb-false j k e in
-                  let v : getD (set (r .ats) k (simplifyAt (es k) (r .st) .at)) j 0 ≡ getD (r .ats) j 0 = getD-set-other (r .ats) k j (simplifyAt (es k) (r .st) .at) 0 q in
+                  let v : getD (set (r .ats) k (simplifyAt (es k) (r .st) .at)) j 0 ≡ getD (r .ats) j 0 = getD-set-other (r .ats) k j
+                  (simplifyAt (es k) (r .st) .at) 0 q in
                   rw v (omega (arith, R .within j (omega arith), m))
 
 -- ---- items that are written past the old ones
@@ -111,7 +120,16 @@ list-extends p st n f h =
       operator = λ i l. refl;
       operator-start = λ i l. refl;
       item = λ i l.
-          (λ j. record { kind = 0; code = 0; a = write-below (st .items .a) (st .items .count) f n i l j; b = write-below (st .items .b) (st .items .count) h n i l j; c = 0; d = 0; bits = 0 });
+          (λ j. record {
+            kind = 0;
+            code = 0;
+            a = write-below (st .items .a) (st .items .count) f n i l j;
+            b = write-below (st .items .b) (st .items .count) h
+                n i l j;
+            c = 0;
+            d = 0;
+            bits = 0;
+          });
     }
 
 added-extends : (p : Plan) (st : Tables) (d : OperatorData) (held : Held) (at : ℕ → ℕ) → Extends p (planWith p st) → Extends p (planAdded p st d held at)
@@ -133,11 +151,13 @@ module _ (p : Plan) (s : Sized p) (ok : planOk p ≡ true) (o : Operator) (lt : 
 
   pub all-kept : eachOf p (operatorAt p (o .0)) .ok ≡ true → EachKept p (startOf p) (eachOf p (operatorAt p (o .0))) (heldCount (heldOf (operatorAt p (o .0))))
   all-kept q =
-      each-kept p (heldAt (p .items) (heldOf (operatorAt p (o .0)))) (startOf p) good (heldCount (heldOf (operatorAt p (o .0)))) (held-few p (rules p ok) (o .0) lt) (held-in p (rules p ok) (o .0) lt) q
+      each-kept p (heldAt (p .items) (heldOf (operatorAt p (o .0)))) (startOf p) good (heldCount (heldOf (operatorAt p (o .0))))
+      (held-few p (rules p ok) (o .0) lt) (held-in p (rules p ok) (o .0) lt) q
 
   add-extends : (t : Tables) (held : Held) (at : ℕ → ℕ) (z : OperatorData) → Extends p (planWith p t) → Extends p (addOperator p t z held at .plan)
   add-extends t held at z e =
-      choose (λ (w : Rewritten). Extends p (w .plan)) (ltb (p .operators .count) 128 && leb (t .items .count + itemCount held) 2048) _ _ (λ q. added-extends p t z held at e) (λ q. extends-refl p)
+      choose (λ (w : Rewritten). Extends p (w .plan)) (ltb (p .operators .count) 128 && leb (t .items .count + itemCount held) 2048) _ _
+      (λ q. added-extends p t z held at e) (λ q. extends-refl p)
 
   input-extends : (t : Tables) (held : Held) (at : ℕ → ℕ) (z y : OperatorData) → Extends p (planWith p t) → Extends p (inputOr p t z held at y .plan)
   input-extends t held at z (Scan a b) e = add-extends t held at z e
@@ -168,10 +188,12 @@ module _ (p : Plan) (s : Sized p) (ok : planOk p ≡ true) (o : Operator) (lt : 
       (λ q.
       choose (λ (w : Rewritten). Extends p (w .plan)) (eachOf p (operatorAt p (o .0)) .st .changed) _ _
       (λ c.
-      input-extends (eachOf p (operatorAt p (o .0)) .st) (heldOf (operatorAt p (o .0))) (λ (k : ℕ). getD (eachOf p (operatorAt p (o .0)) .ats) k 0) (operatorAt p (o .0)) (operatorAt p (o .0)) (all-kept q .grows .extends))
+      input-extends (eachOf p (operatorAt p (o .0)) .st) (heldOf (operatorAt p (o .0))) (λ (k : ℕ). getD (eachOf p (operatorAt p (o .0)) .ats) k 0)
+      (operatorAt p (o .0)) (operatorAt p (o .0)) (all-kept q .grows .extends))
       (λ c. extends-refl p))
       (λ q. extends-refl p))
 
   -- where nothing changed, nothing was appended on the way either
-  pub nothing-appended : eachOf p (operatorAt p (o .0)) .ok ≡ true → eachOf p (operatorAt p (o .0)) .st .changed ≡ false → eachOf p (operatorAt p (o .0)) .st ≡ startOf p
+  pub nothing-appended : eachOf p (operatorAt p (o .0)) .ok ≡ true → eachOf p (operatorAt p (o .0)) .st .changed ≡ false → eachOf p (operatorAt p (o .0)) .st
+      ≡ startOf p
   nothing-appended q c = all-kept q .still c

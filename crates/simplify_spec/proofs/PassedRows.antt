@@ -27,7 +27,8 @@ use Rattle.rows.specs.Evaluate.{valueOn, typed}
 use Rattle.rows.specs.declared.Row.{Row}
 use Rattle.simplify_spec.specs.Shapes.{isLiteral}
 use Rattle.simplify_spec.specs.OneExpression.{shapeIn, handle, withItems, simplifyAt}
-use Rattle.simplify_spec.specs.OneOperator.{operatorAt, heldOf, heldCount, heldAt, eachTo, itemFirst, itemSecond, writeAll, withList, rebuiltOf, planWith, planAdded, operatorHandle, rewriteOf, startOf, eachOf, simplifyOf}
+use Rattle.simplify_spec.specs.OneOperator.{operatorAt, heldOf, heldCount, heldAt, eachTo, itemFirst, itemSecond, writeAll, withList}
+use Rattle.simplify_spec.specs.OneOperator.{rebuiltOf, planWith, planAdded, operatorHandle, rewriteOf, startOf, eachOf, simplifyOf}
 use Rattle.simplify_spec.specs.Meaning.{Good, valueIn}
 use Rattle.simplify_spec.specs.declared.Tables.{Tables}
 use Rattle.simplify_spec.specs.declared.Simplified.{Simplified}
@@ -55,7 +56,8 @@ pub record Remade (p q : Plan) (e : ℕ) (make : Expr → OperatorData) (r : Ope
 abbrev pub Passed : Plan → Plan → ℕ → Operator → Operator → Type 0
 Passed p q e i r = ((r ≡ i) × ((row : Row) → rowOk p row ≡ true → truthOf (valueOn p row e) ≡ 2)) ⊎ Remade p q e (λ (f : Expr). Selection f i) r
 
-module _ (p : Plan) (s : Sized p) (ok : planOk p ≡ true) (o : Operator) (lt : o .0 < p .operators .count) (e : Expr) (one : heldOf (operatorAt p (o .0)) ≡ One e) where
+module _ (p : Plan) (s : Sized p) (ok : planOk p ≡ true) (o : Operator) (lt : o .0 < p .operators .count) (e : Expr)
+    (one : heldOf (operatorAt p (o .0)) ≡ One e) where
   abbrev x : Simplified
   x = simplifyAt (e .0) (startOf p)
 
@@ -66,28 +68,39 @@ module _ (p : Plan) (s : Sized p) (ok : planOk p ≡ true) (o : Operator) (lt : 
   there =
       subst (λ (h : Held). (k : ℕ) → k < heldCount h → heldAt (p .items) h k < p .expressions .count) one (held-in p (rules p ok) (o .0) lt) 0 (omega arith)
 
-  each-is : eachOf p (operatorAt p (o .0)) ≡ record { st = simplifyAt (e .0) (startOf p) .st; ok = simplifyAt (e .0) (startOf p) .ok; ats = set (replicate 2048 0) 0 (simplifyAt (e .0) (startOf p) .at) }
+  each-is : eachOf p (operatorAt p (o .0)) ≡ record {
+    st = simplifyAt (e .0) (startOf p) .st;
+    ok = simplifyAt (e .0) (startOf p) .ok;
+    ats = set
+        (replicate 2048 0) 0 (simplifyAt (e .0) (startOf p) .at);
+  }
   unfolding eachTo
   each-is =
       ap (λ (h : Held). eachTo (p .expressions .count) (heldAt (p .items) h) (startOf p) (heldCount h)) one
-      ∙ ap (λ (z : Simplified). record { st = z .st; ok = z .ok; ats = set (replicate 2048 0) 0 (z .at) }) (enter-in (p .expressions .count) (e .0) (startOf p) there)
+      ∙ ap (λ (z : Simplified). record { st = z .st; ok = z .ok; ats = set (replicate 2048 0) 0 (z .at) })
+      (enter-in (p .expressions .count) (e .0) (startOf p) there)
 
   g : Good p (startOf p)
   g = plan-good p s ok
 
   module _ (q : simplifyAt (e .0) (startOf p) .ok ≡ true) (ty : typed p (e .0) ≡ true) where
-    same-truth-of : (row : Row) → rowOk p row ≡ true → truthOf (valueIn p (simplifyAt (e .0) (startOf p) .st) row (simplifyAt (e .0) (startOf p) .at)) ≡ truthOf (valueOn p row (e .0))
+    same-truth-of : (row : Row) → rowOk p row ≡ true → truthOf (valueIn p (simplifyAt (e .0) (startOf p) .st) row (simplifyAt (e .0) (startOf p) .at))
+        ≡ truthOf (valueOn p row (e .0))
     same-truth-of = truth-kept p (e .0) (startOf p) g there q (and-right (booleanAt (p .columns .kind) (nodeAt p) (e .0)) _ ty)
 
     -- an operator with one expression and no items, appended
     module _ (d : OperatorData) (make : Expr → OperatorData) (held : Held) (free : p .operators .count < 128)
-        (kind code a b c f : ℕ) (made : recordOfOperator (rebuiltOf d (simplifyAt (e .0) (startOf p) .st .items .count) ats) ≡ record { kind = kind; code = code; a = a; b = b; c = c; d = f; bits = 0 })
-        (back : operatorData (record { kind = kind; code = code; a = a; b = b; c = c; d = f; bits = 0 }) (simplifyAt (e .0) (startOf p) .st .items .count) ≡ make (handle (simplifyAt (e .0) (startOf p) .at))) where
+        (kind code a b c f : ℕ) (made : recordOfOperator (rebuiltOf d (simplifyAt (e .0) (startOf p) .st .items .count) ats) ≡ record
+        { kind = kind; code = code; a = a; b = b; c = c; d = f; bits = 0 })
+        (back : operatorData (record { kind = kind; code = code; a = a; b = b; c = c; d = f; bits = 0 }) (simplifyAt (e .0) (startOf p) .st .items .count)
+        ≡ make (handle (simplifyAt (e .0) (startOf p) .at))) where
       abbrev t : Tables
       t = simplifyAt (e .0) (startOf p) .st
 
       abbrev base : Plan
-      base = planWith p (withItems (simplifyAt (e .0) (startOf p) .st) (withList (simplifyAt (e .0) (startOf p) .st .items) 0 (itemFirst (p .items) (One e) ats) (itemSecond (One e) ats)))
+      base = planWith p
+          (withItems (simplifyAt (e .0) (startOf p) .st) (withList (simplifyAt (e .0) (startOf p) .st .items) 0 (itemFirst (p .items) (One e) ats)
+          (itemSecond (One e) ats)))
 
       base-sized : Sized base
       unfolding writeAll
@@ -121,9 +134,11 @@ module _ (p : Plan) (s : Sized p) (ok : planOk p ≡ true) (o : Operator) (lt : 
             at = simplifyAt (e .0) (startOf p) .at;
             reads =
                 ap₂ operatorData
-                (new-operator base (recordOfOperator (rebuiltOf d (simplifyAt (e .0) (startOf p) .st .items .count) ats)) (simplifyAt (e .0) (startOf p) .st .items .count) base-sized free
+                (new-operator base (recordOfOperator (rebuiltOf d (simplifyAt (e .0) (startOf p) .st .items .count) ats))
+                (simplifyAt (e .0) (startOf p) .st .items .count) base-sized free
                 ∙ (λ j. record { kind = made j .kind; code = made j .code; a = made j .a; b = made j .b; c = made j .c; d = made j .d; bits = 0 }))
-                (new-operator-start base (recordOfOperator (rebuiltOf d (simplifyAt (e .0) (startOf p) .st .items .count) ats)) (simplifyAt (e .0) (startOf p) .st .items .count) base-sized free)
+                (new-operator-start base (recordOfOperator (rebuiltOf d (simplifyAt (e .0) (startOf p) .st .items .count) ats))
+                (simplifyAt (e .0) (startOf p) .st .items .count) base-sized free)
                 ∙ back;
             same = same-truth-of;
           }
@@ -139,7 +154,8 @@ same-handle e = cc
 
 module _ (p : Plan) (s : Sized p) (ok : planOk p ≡ true) (o : Operator) (lt : o .0 < p .operators .count) (e : Expr) (ty : typed p (e .0) ≡ true) where
   -- a typed Selection that is replaced
-  pub selection-passes : (i : Operator) → operatorAt p (o .0) ≡ Selection e i → (r : Operator) → simplifyOf p o .rewrite ≡ Replace r → Passed p (simplifyOf p o .plan) (e .0) i r
+  pub selection-passes : (i : Operator) → operatorAt p (o .0) ≡ Selection e i → (r : Operator) → simplifyOf p o .rewrite ≡ Replace r → Passed p
+      (simplifyOf p o .plan) (e .0) i r
   unfolding rewriteOf operatorData
   selection-passes i is = subst P (sym whole) parts
     where
@@ -156,10 +172,23 @@ module _ (p : Plan) (s : Sized p) (ok : planOk p ≡ true) (o : Operator) (lt : 
       P w = (r : Operator) → w .rewrite ≡ Replace r → Passed p (w .plan) (e .0) i r
 
       whole : simplifyOf p o
-          ≡ rewriteOf p (Selection e i) (record { st = simplifyAt (e .0) (startOf p) .st; ok = simplifyAt (e .0) (startOf p) .ok; ats = set (replicate 2048 0) 0 (simplifyAt (e .0) (startOf p) .at) })
+          ≡ rewriteOf p (Selection e i)
+          (record {
+            st = simplifyAt (e .0) (startOf p) .st;
+            ok = simplifyAt (e .0) (startOf p) .ok;
+            ats = set (replicate 2048 0) 0
+                (simplifyAt (e .0) (startOf p) .at);
+          })
       whole = is-rewrite p s ok o lt ∙ ap₂ (rewriteOf p) is (each-is p s ok o lt e one)
 
-      parts : P (rewriteOf p (Selection e i) (record { st = simplifyAt (e .0) (startOf p) .st; ok = simplifyAt (e .0) (startOf p) .ok; ats = set (replicate 2048 0) 0 (simplifyAt (e .0) (startOf p) .at) }))
+      parts : P
+          (rewriteOf p (Selection e i)
+          (record {
+            st = simplifyAt (e .0) (startOf p) .st;
+            ok = simplifyAt (e .0) (startOf p) .ok;
+            ats = set (replicate 2048 0) 0
+                (simplifyAt (e .0) (startOf p) .at);
+          }))
       parts =
           choose P (simplifyAt (e .0) (startOf p) .ok) _ _
           (λ q.
@@ -171,14 +200,17 @@ module _ (p : Plan) (s : Sized p) (ok : planOk p ≡ true) (o : Operator) (lt : 
             sym (same-handle f),
             λ row right.
                 sym (same-truth-of p s ok o lt e one q ty row right)
-                ∙ lit-truth p (simplifyAt (e .0) (startOf p) .st) (grows p (e .0) (startOf p) (plan-good p s ok) (there p s ok o lt e one) q .good) row true (simplifyAt (e .0) (startOf p) .at)
+                ∙ lit-truth p (simplifyAt (e .0) (startOf p) .st) (grows p (e .0) (startOf p) (plan-good p s ok) (there p s ok o lt e one) q .good) row true
+                (simplifyAt (e .0) (startOf p) .at)
                 (within p (e .0) (startOf p) (plan-good p s ok) (there p s ok o lt e one) q) l,
           ))
           (λ l.
           choose P (ltb (p .operators .count) 128 && leb (simplifyAt (e .0) (startOf p) .st .items .count + 0) 2048) _ _
           (λ t r f.
           inr (subst (Remade p _ (e .0) (λ (h : Expr). Selection h i)) (same-handle f)
-          (remade p s ok o lt e one q ty (Selection e i) (λ (h : Expr). Selection h i) (One e) (ltb-true (p .operators .count) 128 (and-left (ltb (p .operators .count) 128) _ t)) 0x33 0 (simplifyAt (e .0) (startOf p) .at) (i .0) 0 0 refl refl)))
+          (remade p s ok o lt e one q ty (Selection e i) (λ (h : Expr). Selection h i) (One e)
+          (ltb-true (p .operators .count) 128 (and-left (ltb (p .operators .count) 128) _ t)) 0x33 0 (simplifyAt (e .0) (startOf p) .at) (i .0) 0 0 refl
+          refl)))
           (λ t r f. never-room f)))
           (λ c r f. never f))
           (λ q r f. never-room f)
@@ -196,13 +228,26 @@ module _ (p : Plan) (s : Sized p) (ok : planOk p ≡ true) (o : Operator) (lt : 
       P w = (r : Operator) → w .rewrite ≡ Replace r → Remade p (w .plan) (e .0) (λ (f : Expr). Join j f l i) r
 
       whole : simplifyOf p o
-          ≡ rewriteOf p (Join j e l i) (record { st = simplifyAt (e .0) (startOf p) .st; ok = simplifyAt (e .0) (startOf p) .ok; ats = set (replicate 2048 0) 0 (simplifyAt (e .0) (startOf p) .at) })
+          ≡ rewriteOf p (Join j e l i)
+          (record {
+            st = simplifyAt (e .0) (startOf p) .st;
+            ok = simplifyAt (e .0) (startOf p) .ok;
+            ats = set (replicate 2048 0) 0
+                (simplifyAt (e .0) (startOf p) .at);
+          })
       whole = is-rewrite p s ok o lt ∙ ap₂ (rewriteOf p) is (each-is p s ok o lt e one)
 
       new : OperatorData
       new = Join j (handle (simplifyAt (e .0) (startOf p) .at)) l i
 
-      parts : P (rewriteOf p (Join j e l i) (record { st = simplifyAt (e .0) (startOf p) .st; ok = simplifyAt (e .0) (startOf p) .ok; ats = set (replicate 2048 0) 0 (simplifyAt (e .0) (startOf p) .at) }))
+      parts : P
+          (rewriteOf p (Join j e l i)
+          (record {
+            st = simplifyAt (e .0) (startOf p) .st;
+            ok = simplifyAt (e .0) (startOf p) .ok;
+            ats = set (replicate 2048 0) 0
+                (simplifyAt (e .0) (startOf p) .at);
+          }))
       parts =
           choose P (simplifyAt (e .0) (startOf p) .ok) _ _
           (λ q.
@@ -211,8 +256,10 @@ module _ (p : Plan) (s : Sized p) (ok : planOk p ≡ true) (o : Operator) (lt : 
           choose P (ltb (p .operators .count) 128 && leb (simplifyAt (e .0) (startOf p) .st .items .count + 0) 2048) _ _
           (λ t r f.
           subst (Remade p _ (e .0) (λ (h : Expr). Join j h l i)) (same-handle f)
-          (remade p s ok o lt e one q ty (Join j e l i) (λ (h : Expr). Join j h l i) (One e) (ltb-true (p .operators .count) 128 (and-left (ltb (p .operators .count) 128) _ t))
-          (recordOfOperator new .kind) (recordOfOperator new .code) (recordOfOperator new .a) (recordOfOperator new .b) (recordOfOperator new .c) (recordOfOperator new .d) refl
+          (remade p s ok o lt e one q ty (Join j e l i) (λ (h : Expr). Join j h l i) (One e)
+          (ltb-true (p .operators .count) 128 (and-left (ltb (p .operators .count) 128) _ t))
+          (recordOfOperator new .kind) (recordOfOperator new .code) (recordOfOperator new .a) (recordOfOperator new .b) (recordOfOperator new .c)
+          (recordOfOperator new .d) refl
           (operator-back (simplifyAt (e .0) (startOf p) .st .items .count) new tt)))
           (λ t r f. never-room f))
           (λ c r f. never f))

@@ -7,7 +7,8 @@ use lib.Dec.{ltb, eqb}
 use lib.ListN.{getD}
 use borrow.Author.Tests.{eqb-true, eqb-false, eq-eqb, ltb-true, lt-ltb}
 use Rattle.comparison.specs.declared.BinaryOp.{BinaryOp}
-use Rattle.simplify_spec.specs.OneExpression.{shapeIn, kept, notOf, compareOf, enterOf, joined, operandsFrom, naryOf, stepBy, stepAt, simplifyBelow, simplifyAt}
+use Rattle.simplify_spec.specs.OneExpression.{shapeIn, kept, notOf, compareOf, enterOf, joined, operandsFrom, naryOf, stepBy, stepAt}
+use Rattle.simplify_spec.specs.OneExpression.{simplifyBelow, simplifyAt}
 use Rattle.simplify_spec.specs.declared.Tables.{Tables}
 use Rattle.simplify_spec.specs.declared.Simplified.{Simplified}
 use Rattle.simplify_spec.specs.declared.Shape.{Shape}
@@ -27,7 +28,8 @@ module _ (f g : ℕ → Tables → Simplified) (h : ℕ) (q : (a : ℕ) (s : Tab
   unfolding operandsFrom
   operands-same all zero ok st p = refl
   operands-same all (suc m) ok st p =
-      ap (λ (r : Simplified). joined all (getD (st .items .a) p 0) r (operandsFrom f all h (r .ok) (r .st) (p + 1) m)) (enter-same ok st (getD (st .items .a) p 0))
+      ap (λ (r : Simplified). joined all (getD (st .items .a) p 0) r (operandsFrom f all h (r .ok) (r .st) (p + 1) m))
+      (enter-same ok st (getD (st .items .a) p 0))
       ∙ ap (joined all (getD (st .items .a) p 0) (enterOf g h ok st (getD (st .items .a) p 0)))
       (operands-same all m (enterOf g h ok st (getD (st .items .a) p 0) .ok) (enterOf g h ok st (getD (st .items .a) p 0) .st) (p + 1))
 

@@ -59,7 +59,8 @@ flags-same f g b nc used h items le q (Binary op l r) ok = ap₂ (λ (s t : Bool
 flags-same f g b nc used h items le q (Nary op es) ok =
     every-flags f g b h (take (es .count) (drop (es .start) items)) (part-below h items (es .count) (es .start) (omega (arith, ok .0)) (ok .1)) q
 
-everyMore : (f g b : ℕ → Bool) (h : ℕ) → ((e : ℕ) → e < h → g e ≡ true → f e ≡ true) → (l : List ℕ) → AllBelow h l → every (wanted g b) l ≡ true → every (wanted f b) l ≡ true
+everyMore : (f g b : ℕ → Bool) (h : ℕ) → ((e : ℕ) → e < h → g e ≡ true → f e ≡ true) → (l : List ℕ) → AllBelow h l → every (wanted g b) l ≡ true → every
+    (wanted f b) l ≡ true
 unfolding every AllBelow
 everyMore f g b h q [] u t = refl
 everyMore f g b h q (x ∷ l) u t =
@@ -78,7 +79,8 @@ module _ (p : Plan) where
         → typedIn st k ≡ nodeTyped S (booleanAt (p .columns .kind) (nodeIn st)) (operandsOf (st .items .a)) (nodeIn st k)
     typed-node S k kl q =
         typing-step (p .columns .kind) (nodeIn st) (st .items .a) (suc k) k (omega arith)
-        ∙ flags-same (flagged (typings (p .columns .kind) (nodeIn st) (st .items .a) k)) S (booleanAt (p .columns .kind) (nodeIn st)) (p .columns .count) (st .items .count) k (st .items .a) long
+        ∙ flags-same (flagged (typings (p .columns .kind) (nodeIn st) (st .items .a) k)) S (booleanAt (p .columns .kind) (nodeIn st)) (p .columns .count)
+        (st .items .count) k (st .items .a) long
         (λ e el. typing-in (p .columns .kind) (nodeIn st) (st .items .a) k e el ∙ q e el) (nodeIn st k) (node-ok (planWith p st) (g .rules) k kl)
 
     -- the typed expressions, and all that will be appended
@@ -104,7 +106,8 @@ module _ (p : Plan) where
             typed-node (typedIn st) k kl (λ e el. refl)
             ∙ more (nodeIn st k) (node-ok (planWith p st) (g .rules) k kl) (ty k kl sk)
           where
-            every-more : (l : List ℕ) → AllBelow k l → every (wanted S (booleanAt (p .columns .kind) (nodeIn st))) l ≡ true → every (wanted (typedIn st) (booleanAt (p .columns .kind) (nodeIn st))) l ≡ true
+            every-more : (l : List ℕ) → AllBelow k l → every (wanted S (booleanAt (p .columns .kind) (nodeIn st))) l ≡ true → every
+                (wanted (typedIn st) (booleanAt (p .columns .kind) (nodeIn st))) l ≡ true
             every-more = everyMore (typedIn st) S (booleanAt (p .columns .kind) (nodeIn st)) k ih
 
             more : (d : ExprData) → NodeOk (p .columns .count) (st .items .a) (st .items .count) k d
@@ -118,7 +121,8 @@ module _ (p : Plan) where
             more (Unary U.Negate e) ok t = t
             more (Binary op l r) ok t = and-both _ _ (ih (l .0) (ok .0) (and-left (S (l .0)) _ t)) (ih (r .0) (ok .1) (and-right (S (l .0)) _ t))
             more (Nary op es) ok t =
-                every-more (take (es .count) (drop (es .start) (st .items .a))) (part-below k (st .items .a) (es .count) (es .start) (omega (arith, ok .0, long)) (ok .1)) t
+                every-more (take (es .count) (drop (es .start) (st .items .a)))
+                (part-below k (st .items .a) (es .count) (es .start) (omega (arith, ok .0, long)) (ok .1)) t
 
   -- ---- tables of a plan that keeps the rules
   module _ (h : ℕ) (st : Tables) (g : Good p st) (hl : h < st .exprs .count) (ok : simplifyAt h st .ok ≡ true) where
@@ -141,7 +145,8 @@ module _ (p : Plan) where
 
     -- simplifying the result gives the same handle, appends nothing and changes nothing
     pub again : (c : Bool)
-        → simplifyAt (simplifyAt h st .at) (stOf (simplifyAt h st .st .exprs) (simplifyAt h st .st .items) c) ≡ kept (stOf (simplifyAt h st .st .exprs) (simplifyAt h st .st .items) c) (simplifyAt h st .at)
+        → simplifyAt (simplifyAt h st .at) (stOf (simplifyAt h st .st .exprs) (simplifyAt h st .st .items) c) ≡ kept
+        (stOf (simplifyAt h st .st .exprs) (simplifyAt h st .st .items) c) (simplifyAt h st .at)
     again c = any .fixed (stOf (simplifyAt h st .st .exprs) (simplifyAt h st .st .items) c) (grown-told p (simplifyAt h st .st) c (grows .good))
 
     module _ (ty : typedIn st h ≡ true) where
@@ -166,14 +171,16 @@ module _ (p : Plan) where
       -- and is typed again
       pub typed-again : typedIn (simplifyAt h st .st) (simplifyAt h st .at) ≡ true
       typed-again =
-          typed-test (simplifyAt h st .st) (grows .good) (typedSet st g) (meant .rules) (suc (simplifyAt h st .at)) (simplifyAt h st .at) (omega arith) within (meant .member)
+          typed-test (simplifyAt h st .st) (grows .good) (typedSet st g) (meant .rules) (suc (simplifyAt h st .at)) (simplifyAt h st .at) (omega arith) within
+          (meant .member)
 
 -- ---- from the plan that is passed in
 pub plan-good : (p : Plan) → Sized p → planOk p ≡ true → Good p (startOf p)
 plan-good p s ok = record { rules = rules p ok; sized = s }
 
 -- an expression of a plan, simplified: what evaluating it says on a row is said again, in the plan with the appended nodes, of the new expression
-module _ (p : Plan) (s : Sized p) (e : Expr) (row : Row) (v : ScalarValue) (said : evaluateOf p e row ≡ Value v) (ok : simplifyAt (e .0) (startOf p) .ok ≡ true) where
+module _ (p : Plan) (s : Sized p) (e : Expr) (row : Row) (v : ScalarValue) (said : evaluateOf p e row ≡ Value v)
+    (ok : simplifyAt (e .0) (startOf p) .ok ≡ true) where
   E : Evaluated p e row v
   E = evaluated p e row v said
 

@@ -20,4 +20,5 @@ looked rows law e read a b x y p q =
 pub looked-row : (row : List ℕ) (law : ℕ → ℕ) → agree (λ (x y : ℕ). getD row x 0) (λ (x y : ℕ). law x) ≡ true → ((a : ℕ) → law (codeRead a) ≡ law a)
     → (a x : ℕ) → x ≡ codeRead a → getD row x 0 ≡ law a
 looked-row row law e read a x p =
-    ap (λ (k : ℕ). getD row k 0) p ∙ at-codes (λ (x y : ℕ). getD row x 0) (λ (x y : ℕ). law x) e (codeRead a) (codeRead a) (read-below a) (read-below a) ∙ read a
+    ap (λ (k : ℕ). getD row k 0) p ∙ at-codes (λ (x y : ℕ). getD row x 0) (λ (x y : ℕ). law x) e (codeRead a) (codeRead a) (read-below a) (read-below a)
+    ∙ read a

@@ -143,14 +143,16 @@ or-comm x y = ap₂ (λ (a b : Bool). cond a 2 (cond b 0 1)) (B.or-comm (isTrue 
 pub and-assoc : (x y z : ℕ) → andT (andT x y) z ≡ andT x (andT y z)
 and-assoc x y z =
     ap₂ (λ (a b : Bool). cond a 0 (cond b 2 1))
-    (ap (λ (a : Bool). a || isFalse z) (and-false x y) ∙ B.or-assoc (isFalse x) (isFalse y) (isFalse z) ∙ ap (λ (a : Bool). isFalse x || a) (sym (and-false y z)))
+    (ap (λ (a : Bool). a || isFalse z) (and-false x y) ∙ B.or-assoc (isFalse x) (isFalse y) (isFalse z) ∙ ap (λ (a : Bool). isFalse x || a)
+    (sym (and-false y z)))
     (ap (λ (a : Bool). a && isTrue z) (and-true x y) ∙ B.and-assoc (isTrue x) (isTrue y) (isTrue z) ∙ ap (λ (a : Bool). isTrue x && a) (sym (and-true y z)))
 
 pub or-assoc : (x y z : ℕ) → orT (orT x y) z ≡ orT x (orT y z)
 or-assoc x y z =
     ap₂ (λ (a b : Bool). cond a 2 (cond b 0 1))
     (ap (λ (a : Bool). a || isTrue z) (or-true x y) ∙ B.or-assoc (isTrue x) (isTrue y) (isTrue z) ∙ ap (λ (a : Bool). isTrue x || a) (sym (or-true y z)))
-    (ap (λ (a : Bool). a && isFalse z) (or-false x y) ∙ B.and-assoc (isFalse x) (isFalse y) (isFalse z) ∙ ap (λ (a : Bool). isFalse x && a) (sym (or-false y z)))
+    (ap (λ (a : Bool). a && isFalse z) (or-false x y) ∙ B.and-assoc (isFalse x) (isFalse y) (isFalse z) ∙ ap (λ (a : Bool). isFalse x && a)
+    (sym (or-false y z)))
 
 -- ---- answers are codes
 made-code : (a b : Bool) (m n : ℕ) → m < 3 → n < 3 → cond a m (cond b n 1) < 3

@@ -9,7 +9,8 @@ use lib.ListN.{length}
 use Rattle.value_classes.specs.Parents.{parentsOk}
 use Rattle.value_classes.specs.Classes.{emptyClasses, canonicalOf, unionOf}
 use Rattle.value_classes.specs.declared.ValueEquivalenceClasses.{ValueEquivalenceClasses}
-use Rattle.value_classes.proofs.RootLaws.{Falls, falls-ok, own, own-falls, own-root, length-each, root-le, joined-length, joined-falls, joined-exact, Met}
+use Rattle.value_classes.proofs.RootLaws.{Falls, falls-ok, own, own-falls, own-root, length-each, root-le, joined-length, joined-falls}
+use Rattle.value_classes.proofs.RootLaws.{joined-exact, Met}
 use Rattle.value_classes.proofs.Unions.{union-parents}
 
 -- the unions asked for one after the other, the last first
@@ -55,11 +56,13 @@ asked-ok ps h = falls-ok (asked ps .parents) (asked-sound ps h .1)
 
 -- after a union two are in one class exactly if they were, or one was with l and the other with r. Assumes 128 parents that fall
 pub union-exact : (c : ValueEquivalenceClasses) (l r : ℕ) → l < 128 → r < 128 → Sound c → (a b : ℕ)
-    → (canonicalOf (unionOf c l r .classes) a ≡ canonicalOf (unionOf c l r .classes) b) ↔ Met (canonicalOf c l) (canonicalOf c r) (canonicalOf c a) (canonicalOf c b)
+    → (canonicalOf (unionOf c l r .classes) a ≡ canonicalOf (unionOf c l r .classes) b) ↔ Met (canonicalOf c l) (canonicalOf c r) (canonicalOf c a)
+    (canonicalOf c b)
 union-exact c l r hl hr s a b = rw (union-parents c l r hl hr (s .0) (s .1)) (joined-exact (c .parents) (s .1) l r (omega arith) (omega arith) a b)
 
 exact : (x : ℕ × ℕ) (ps : List (ℕ × ℕ)) → InRange (x ∷ ps) → (a b : ℕ)
-    → (canonicalOf (asked (x ∷ ps)) a ≡ canonicalOf (asked (x ∷ ps)) b) ↔ Met (canonicalOf (asked ps) (x .0)) (canonicalOf (asked ps) (x .1)) (canonicalOf (asked ps) a) (canonicalOf (asked ps) b)
+    → (canonicalOf (asked (x ∷ ps)) a ≡ canonicalOf (asked (x ∷ ps)) b) ↔ Met (canonicalOf (asked ps) (x .0)) (canonicalOf (asked ps) (x .1))
+    (canonicalOf (asked ps) a) (canonicalOf (asked ps) b)
 unfolding asked
 exact x ps h a b = union-exact (asked ps) (x .0) (x .1) (h .0) (h .1) (asked-sound ps (h .2)) a b
 

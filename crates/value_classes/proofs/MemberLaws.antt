@@ -23,12 +23,14 @@ module _ (p : List ℕ) (r : ℕ) where
   first-ge : (n i : ℕ) → i ≤ firstFrom p r i n
   unfolding firstFrom
   first-ge zero i = omega arith
-  first-ge (suc n) i = elim (ℕ-discrete (rootOf p i) r) [ yes e ↦ rw (eq-eqb _ _ e) (omega arith) | no d ↦ rw (ne-eqb _ _ d) (omega (arith, first-ge n (suc i))) ]
+  first-ge (suc n) i = elim (ℕ-discrete (rootOf p i) r)
+      [ yes e ↦ rw (eq-eqb _ _ e) (omega arith) | no d ↦ rw (ne-eqb _ _ d) (omega (arith, first-ge n (suc i))) ]
 
   first-le : (n i : ℕ) → firstFrom p r i n ≤ i + n
   unfolding firstFrom
   first-le zero i = omega arith
-  first-le (suc n) i = elim (ℕ-discrete (rootOf p i) r) [ yes e ↦ rw (eq-eqb _ _ e) (omega arith) | no d ↦ rw (ne-eqb _ _ d) (omega (arith, first-le n (suc i))) ]
+  first-le (suc n) i = elim (ℕ-discrete (rootOf p i) r)
+      [ yes e ↦ rw (eq-eqb _ _ e) (omega arith) | no d ↦ rw (ne-eqb _ _ d) (omega (arith, first-le n (suc i))) ]
 
   first-root : (n i : ℕ) → firstFrom p r i n < i + n → rootOf p (firstFrom p r i n) ≡ r
   unfolding firstFrom
@@ -43,7 +45,8 @@ module _ (p : List ℕ) (r : ℕ) where
   first-not zero i j lo hi e = omega arith
   first-not (suc n) i j lo hi e = elim (ℕ-discrete (rootOf p i) r) [
     | yes q ↦ (let h : j < i = rw (eq-eqb _ _ q) at hi in omega arith)
-    | no d ↦ (let h : j < firstFrom p r (suc i) n = rw (ne-eqb _ _ d) at hi in elim (ℕ-discrete i j) [ yes q ↦ d (ap (rootOf p) q ∙ e) | no g ↦ first-not n (suc i) j (omega arith) h e ])
+    | no d ↦ (let h : j < firstFrom p r (suc i) n = rw (ne-eqb _ _ d) at hi in elim (ℕ-discrete i j)
+        [ yes q ↦ d (ap (rootOf p) q ∙ e) | no g ↦ first-not n (suc i) j (omega arith) h e ])
   ]
 
   -- ---- the first member from i on
@@ -123,7 +126,8 @@ module _ (p : List ℕ) where
 
 -- ---- the representatives in one pass
 -- where parents are in order, that of i is that of its parent, which the list of those before i has
-pub root-known : (p l : List ℕ) (n i q : ℕ) → length p ≡ n → parentsOk p ≡ true → q ≡ getD p i 0 → q < i → i < n → take i l ≡ each (rootOf p) i → getD l q 0 ≡ rootOf p i
+pub root-known : (p l : List ℕ) (n i q : ℕ) → length p ≡ n → parentsOk p ≡ true → q ≡ getD p i 0 → q < i → i < n → take i l ≡ each (rootOf p) i → getD l q 0
+    ≡ rootOf p i
 root-known p l n i q e ok eq low h t =
     sym (getD-take i l q 0 low) ∙ ap (λ (x : List ℕ). getD x q 0) t ∙ each-at (rootOf p) i q low
     ∙ ap (rootOf p) (eq ∙ sym (parent-in p i (omega arith) (omega arith)))

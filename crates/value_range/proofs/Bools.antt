@@ -14,6 +14,7 @@ pub upper-by : (b : Bound) (v : Float) (i : Bool) {p l e w : Bool} → not (b .p
     → (p || (l || (e && (w && not i)))) ≡ takesUpper b v i
 upper-by b v i hp hl he hw = sym (λ k. hp k || (hl k || (he k && (hw k && not i))))
 
-pub empty-by : (r : ValueRange) {p q l e b : Bool} → r .lower .present ≡ p → r .upper .present ≡ q → lt (r .upper .value) (r .lower .value) ≡ l → eq (r .lower .value) (r .upper .value) ≡ e → r .lower .inclusive ≡ b
+pub empty-by : (r : ValueRange) {p q l e b : Bool} → r .lower .present ≡ p → r .upper .present ≡ q → lt (r .upper .value) (r .lower .value) ≡ l → eq
+    (r .lower .value) (r .upper .value) ≡ e → r .lower .inclusive ≡ b
     → (p && (q && (l || (e && not (b && r .upper .inclusive))))) ≡ emptyRange r
 empty-by r hp hq hl he hb = sym (λ i. hp i && (hq i && (hl i || (he i && not (hb i && r .upper .inclusive)))))

@@ -11,7 +11,8 @@ use lib.Ieee.Fits.{and-l, and-r}
 use Rattle.scalar.specs.Exact.{eqZ, finite, exactIn}
 use Rattle.scalar.proofs.ExactLaws.{lt-exact, eq-exact}
 use Rattle.scalar.proofs.WholeLaws.{eqZ→eq, eqZ-comm, le-lt, lt-le, lt→le, other-way, irrefl}
-use Rattle.value_range.specs.Ranges.{unboundedRange, boundAt, takesLower, takesUpper, tightenLower, tightenUpper, emptyRange, upTo, meetsLower, meetsUpper, within, Sound, SoundRange}
+use Rattle.value_range.specs.Ranges.{unboundedRange, boundAt, takesLower, takesUpper, tightenLower, tightenUpper, emptyRange, upTo, meetsLower}
+use Rattle.value_range.specs.Ranges.{meetsUpper, within, Sound, SoundRange}
 use Rattle.value_range.specs.declared.Bound.{Bound}
 use Rattle.value_range.specs.declared.ValueRange.{ValueRange}
 
@@ -127,7 +128,8 @@ module _ (L E : ℤ → ℤ → Bool) (o : Order L E) where
     Finite p c = T p → T (finite c) × T (fits binary64 c)
 
     -- the test that the code makes, on exact values
-    test : (w : Bool) (c : Float) → T (finite c) × T (fits binary64 c) → (F v c || (eq v c && (w && not i))) ≡ (L (ex v) (ex c) || (eqZ (ex v) (ex c) && (w && not i)))
+    test : (w : Bool) (c : Float) → T (finite c) × T (fits binary64 c) → (F v c || (eq v c && (w && not i)))
+        ≡ (L (ex v) (ex c) || (eqZ (ex v) (ex c) && (w && not i)))
     test w c f = ap₂ (λ (l e : Bool). l || (e && (w && not i))) (exact v c fv (f .0) hv (f .1)) (eq-exact binary64 v c fv (f .0) hv (f .1))
 
     taken : (p w : Bool) (c : Float) → Finite p c → T (takes p w c) → T (keeps i x (ex v)) → T (meets p w c)
@@ -142,9 +144,11 @@ module _ (L E : ℤ → ℤ → Bool) (o : Order L E) where
     meetsBound b = meets (b .present) (b .inclusive) (b .value)
 
     tightened : (b : Bound) → Sound b → meetsBound (cond (takes (b .present) (b .inclusive) (b .value)) (boundAt v i) b) ≡ (meetsBound b && keeps i x (ex v))
-    tightened b s = go (takes (b .present) (b .inclusive) (b .value)) (taken (b .present) (b .inclusive) (b .value) s) (left (b .present) (b .inclusive) (b .value) s)
+    tightened b s = go (takes (b .present) (b .inclusive) (b .value)) (taken (b .present) (b .inclusive) (b .value) s)
+        (left (b .present) (b .inclusive) (b .value) s)
       where
-        go : (t : Bool) → (T t → T (keeps i x (ex v)) → T (meetsBound b)) → (T (not t) → T (meetsBound b) → T (keeps i x (ex v))) → meetsBound (cond t (boundAt v i) b) ≡ (meetsBound b && keeps i x (ex v))
+        go : (t : Bool) → (T t → T (keeps i x (ex v)) → T (meetsBound b)) → (T (not t) → T (meetsBound b) → T (keeps i x (ex v))) → meetsBound
+            (cond t (boundAt v i) b) ≡ (meetsBound b && keeps i x (ex v))
         go true f g = absorbed (meetsBound b) (keeps i x (ex v)) (f tt)
         go false f g = kept (meetsBound b) (keeps i x (ex v)) (g tt)
 
@@ -163,10 +167,12 @@ module _ (v : Float) (i : Bool) (r : ValueRange) where
 
   -- the other bound stays
   pub upper-keeps : tightenUpper r v i .lower ≡ r .lower
-  upper-keeps = of-chosen (λ (s : ValueRange). s .lower) (takesUpper (r .upper) v i) (record { lower = r .lower; upper = boundAt v i }) r ∙ chosen-same (takesUpper (r .upper) v i) (r .lower)
+  upper-keeps = of-chosen (λ (s : ValueRange). s .lower) (takesUpper (r .upper) v i) (record { lower = r .lower; upper = boundAt v i }) r ∙ chosen-same
+      (takesUpper (r .upper) v i) (r .lower)
 
   pub lower-keeps : tightenLower r v i .upper ≡ r .upper
-  lower-keeps = of-chosen (λ (s : ValueRange). s .upper) (takesLower (r .lower) v i) (record { lower = boundAt v i; upper = r .upper }) r ∙ chosen-same (takesLower (r .lower) v i) (r .upper)
+  lower-keeps = of-chosen (λ (s : ValueRange). s .upper) (takesLower (r .lower) v i) (record { lower = boundAt v i; upper = r .upper }) r ∙ chosen-same
+      (takesLower (r .lower) v i) (r .upper)
 
   module _ (fv : T (finite v)) (hv : T (fits binary64 v)) where
     -- a finite bound keeps an end, and so a range, of finite bounds one
@@ -189,7 +195,8 @@ module _ (v : Float) (i : Bool) (r : ValueRange) where
     pub lower-tightened : (x : ℤ) → Sound (r .lower) → meetsLower x (tightenLower r v i .lower) ≡ (meetsLower x (r .lower) && upTo i (exactIn binary64 v) x)
     lower-tightened x s =
         ap (meetsLower x) lower-end
-        ∙ tightened (λ (a b : ℤ). ltZ b a) (λ (a b : ℤ). leZ b a) downwards (λ (a b : Float). lt b a) (λ y z p q h k. lt-exact binary64 z y q p k h) x v i fv hv (r .lower) s
+        ∙ tightened (λ (a b : ℤ). ltZ b a) (λ (a b : ℤ). leZ b a) downwards (λ (a b : Float). lt b a) (λ y z p q h k. lt-exact binary64 z y q p k h) x v i fv
+        hv (r .lower) s
 
     -- within the tightened range is what was within the range and meets the new bound
     pub within-upper : (x : ℤ) → SoundRange r → within x (tightenUpper r v i) ≡ (within x r && upTo i x (exactIn binary64 v))

@@ -46,7 +46,15 @@ after-past m a n h = rw (le-ltb a m h)
 
 pub wrote-none : (o : List ℕ) (a : ℕ) → Wrote o a o a []
 unfolding stored
-wrote-none o a = (refl, elim (decLt a (length o)) [ yes l ↦ sym (after-in (length o) a 0 l (omega arith) ∙ add-zero a) | no g ↦ sym (after-past (length o) a 0 (omega arith)) ])
+wrote-none o
+    a = (
+      refl,
+      elim (decLt a (length o)) [
+        | yes l ↦ sym (after-in (length o) a 0 l (omega arith) ∙ add-zero a)
+        | no g ↦ sym
+            (after-past (length o) a 0 (omega arith))
+      ],
+    )
 
 -- where the second part starts, the first has ended
 same-end : (p y : List ℕ) (m a n : ℕ) → length p ≡ m → stored p (a + n) y ≡ stored p (after m a n) y
@@ -83,7 +91,8 @@ after-after m a n k =
 pub wrote-then : (o : List ℕ) (a : ℕ) (p : List ℕ) (b : ℕ) (q : List ℕ) (c : ℕ) (x y : List ℕ)
     → Wrote o a p b x → length p ≡ length o → Wrote p b q c y → Wrote o a q c (x ++ y)
 wrote-then o a p b q c x y u e v = (
-  v .0 ∙ ap (λ (i : ℕ). stored p i y) (u .1) ∙ sym (same-end p y (length o) a (length x) e) ∙ ap (λ (l : List ℕ). stored l (a + length x) y) (u .0) ∙ sym (stored-append x y o a),
+  v .0 ∙ ap (λ (i : ℕ). stored p i y) (u .1) ∙ sym (same-end p y (length o) a (length x) e) ∙ ap (λ (l : List ℕ). stored l (a + length x) y) (u .0) ∙ sym
+      (stored-append x y o a),
   v .1 ∙ ap (λ (m : ℕ). after m b (length y)) e ∙ ap (λ (i : ℕ). after (length o) i (length y)) (u .1) ∙ after-after (length o) a (length x) (length y)
       ∙ ap (after (length o) a) (sym (length-append x y)),
 )
@@ -105,7 +114,8 @@ dec-fuel (suc k) zero n a b = absurd (omega arith)
 dec-fuel (suc k) (suc m) n a b =
     elim (decLt n 10) [
       | yes l ↦ rw (lt-ltb n 10 l)
-      | no g ↦ (let h : 10 ≤ n = omega arith in rw (le-ltb n 10 h) (ap (λ (t : List ℕ). t ++ ((48 + n % 10) ∷ [])) (dec-fuel k m (n / 10) (omega arith) (omega arith))))
+      | no g ↦ (let h : 10 ≤ n = omega arith in rw (le-ltb n 10 h)
+          (ap (λ (t : List ℕ). t ++ ((48 + n % 10) ∷ [])) (dec-fuel k m (n / 10) (omega arith) (omega arith))))
     ]
 
 pub decimal-low : (n : ℕ) → n < 10 → decimalOf n ≡ (48 + n) ∷ []

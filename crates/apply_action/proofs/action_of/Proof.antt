@@ -83,7 +83,20 @@ returns-3 c = rw (← c .before .before .node-at .ensures, c .enum-told2 .given 
 -- src/lib.rt:242:1
 returns-4 : tie.Need-returns-4
 unfolding actionOf
-returns-4 c = rw (← c .before .before .before .before .before .before .before .before .before .before .node-at .ensures, c .before .before .before .before .before .before .before .before .node2 .given .1, ← c .before .before .before .before .before .node-at2 .ensures, ← c .before .before .before .node-at3 .ensures, ← c .before .before .seen .ensures, ← c .before .seen2 .ensures) (c .comparison-action .ensures)
+returns-4 c =
+    let at-node-at3 = c .before .before .before in
+    let at-node-at2 = at-node-at3 .before .before in
+    let at-node2 = at-node-at2 .before .before .before in
+    let at-node-at = at-node2 .before .before in
+    rw (
+      ← at-node-at .node-at .ensures,
+      at-node2 .node2 .given .1,
+      ← at-node-at2 .node-at2 .ensures,
+      ← at-node-at3 .node-at3 .ensures,
+      ←
+          c .before .before .seen .ensures,
+      ← c .before .seen2 .ensures,
+    ) (c .comparison-action .ensures)
 
 -- src/lib.rt:242:1
 returns-5 : tie.Need-returns-5

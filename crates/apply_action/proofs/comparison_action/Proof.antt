@@ -23,7 +23,9 @@ is-null-literal-requires-2 c κs = search needs
 -- src/lib.rt:217:9
 returns : tie.Need-returns
 unfolding comparisonAction
-returns c = rw (← c .before .before .before .is-ordinary .ensures, ← c .before .before .is-null-literal .ensures, ← c .before .is-null-literal2 .ensures, c .if1 .taken)
+returns c =
+    let at-is-ordinary = c .before .before .before in
+    rw (← at-is-ordinary .is-ordinary .ensures, ← c .before .before .is-null-literal .ensures, ← c .before .is-null-literal2 .ensures, c .if1 .taken)
 
 -- src/lib.rt:219:5
 operands-action-requires : tie.Need-operands-action-requires
@@ -32,7 +34,15 @@ operands-action-requires c κs = search needs
 -- src/lib.rt:211:1
 returns-2 : tie.Need-returns-2
 unfolding comparisonAction
-returns-2 c = rw (← c .before .before .before .before .is-ordinary .ensures, ← c .before .before .before .is-null-literal .ensures, ← c .before .before .is-null-literal2 .ensures, c .before .if1 .left) (c .operands-action .ensures)
+returns-2 c =
+    let at-is-null-literal = c .before .before .before in
+    let at-is-ordinary = at-is-null-literal .before in
+    rw (
+      ← at-is-ordinary .is-ordinary .ensures,
+      ← at-is-null-literal .is-null-literal .ensures,
+      ← c .before .before .is-null-literal2 .ensures,
+      c .before .if1 .left,
+    ) (c .operands-action .ensures)
 
 pub comparison-action-spec : {M : Type 1} → statement M
 comparison-action-spec =

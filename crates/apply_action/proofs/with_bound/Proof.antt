@@ -33,7 +33,16 @@ is-crossed-requires c κs = search needs
 -- src/lib.rt:369:1
 returns : tie.Need-returns
 unfolding boundCell
-returns c = rw (c .is-crossed .ensures, c .before .entry-of .ensures, c .before .before .is-empty .ensures, c .before .before .before .tightened .ensures, c .before .before .before .before .bounds-by .ensures)
+returns c =
+    let at-tightened = c .before .before .before in
+    let at-bounds-by = at-tightened .before in
+    rw (
+      c .is-crossed .ensures,
+      c .before .entry-of .ensures,
+      c .before .before .is-empty .ensures,
+      at-tightened .tightened .ensures,
+      at-bounds-by .bounds-by .ensures,
+    )
 
 pub with-bound-spec : {M : Type 1} → statement M
 with-bound-spec =

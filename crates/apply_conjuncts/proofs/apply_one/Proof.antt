@@ -14,31 +14,66 @@ abbrev start : tie.After-action-of → tie.Start
 start c = c .before .before .before .before .before .before .before .before
 
 abbrev node : tie.After-action-of → ℕ → ExprData
-node c = nodeOf (start c .args .kind .now) (start c .args .code .now) (start c .args .a .now) (start c .args .b .now) (start c .args .bits .now) (start c .args .start .now)
+node c = nodeOf (start c .args .kind .now) (start c .args .code .now) (start c .args .a .now) (start c .args .b .now) (start c .args .bits .now)
+    (start c .args .start .now)
 
 wide : (c : tie.Start) → Wide (c .args .s)
 wide c = set-wide (c .args .s) _ (c .good .1 .1 .1 .1 .1 .1 .1 .0)
 
 -- the classes are one where they were two
-joined : (c : tie.Joined1) → Joined (start (c .before .before .before .before .before) .args .lineage .now) (node (c .before .before .before .before .before)) (start (c .before .before .before .before .before) .args .h) (c .before .before .before .before .before .action-of .result) (c .before .before .before .before .before .action-of .ensures) (start (c .before .before .before .before .before) .args .s) (wide (start (c .before .before .before .before .before))) (c .if1 .q)
+joined : (c : tie.Joined1) → Joined (start (c .before .before .before .before .before) .args .lineage .now) (node (c .before .before .before .before .before))
+    (start (c .before .before .before .before .before) .args .h) (c .before .before .before .before .before .action-of .result)
+    (c .before .before .before .before .before .action-of .ensures) (start (c .before .before .before .before .before) .args .s)
+    (wide (start (c .before .before .before .before .before))) (c .if1 .q)
 joined c =
-    ⊎-elim
-    (λ w. when-two (start (c .before .before .before .before .before) .args .lineage .now) (node (c .before .before .before .before .before)) (start (c .before .before .before .before .before) .args .h) (c .before .before .before .before .before .action-of .result) (c .before .before .before .before .before .action-of .ensures) (start (c .before .before .before .before .before) .args .s) (wide (start (c .before .before .before .before .before))) _ _ (c .before .before .before .before .first-of .ensures) (c .before .before .before .second-of .ensures) _ _ (w .1 .ensures) (w .2))
-    (λ w. when-one (start (c .before .before .before .before .before) .args .lineage .now) (node (c .before .before .before .before .before)) (start (c .before .before .before .before .before) .args .h) (c .before .before .before .before .before .action-of .result) (c .before .before .before .before .before .action-of .ensures) (start (c .before .before .before .before .before) .args .s) (wide (start (c .before .before .before .before .before))) _ _ (c .before .before .before .before .first-of .ensures) (c .before .before .before .second-of .ensures) _ (c .before .apart .ensures) (w .0 .left) _ (w .1))
-    (c .if1 .came)
+    let at-second-of = c .before .before .before in
+    let at-first-of = at-second-of .before in
+    let at-action-of = at-first-of .before in
+    ⊎-elim (λ w. when-two (start at-action-of .args .lineage .now) (node at-action-of) (start at-action-of .args .h) (at-action-of .action-of .result)
+    (at-action-of .action-of .ensures) (start at-action-of .args .s) (wide (start at-action-of)) _ _ (at-first-of .first-of .ensures)
+    (at-second-of .second-of .ensures) _ _ (w .1 .ensures) (w .2)) (λ w. when-one (start at-action-of .args .lineage .now) (node at-action-of)
+    (start at-action-of .args .h) (at-action-of .action-of .result) (at-action-of .action-of .ensures) (start at-action-of .args .s)
+    (wide (start at-action-of)) _ _ (at-first-of .first-of .ensures) (at-second-of .second-of .ensures) _ (c .before .apart .ensures) (w .0 .left) _
+    (w .1)) (c .if1 .came)
 
 -- the representative is an identity
 low : (c : tie.After-canonical) → c .canonical .result < 128
-low c = alone-low (start (c .before .before .before .before .before .before .before) .args .lineage .now) (node (c .before .before .before .before .before .before .before)) (start (c .before .before .before .before .before .before .before) .args .h) (c .before .before .before .before .before .before .before .action-of .result) (c .before .before .before .before .before .before .before .action-of .ensures) (start (c .before .before .before .before .before .before .before) .args .s) (wide (start (c .before .before .before .before .before .before .before))) (c .before .before .if1 .q) (joined (c .before .before)) _ (c .before .before .before .before .before .before .first-of .ensures) _ (c .canonical .ensures)
+low c =
+    let at-first-of = c .before .before .before .before .before .before in
+    let at-action-of = at-first-of .before in
+    alone-low (start at-action-of .args .lineage .now) (node at-action-of) (start at-action-of .args .h) (at-action-of .action-of .result)
+    (at-action-of .action-of .ensures) (start at-action-of .args .s) (wide (start at-action-of)) (c .before .before .if1 .q) (joined (c .before .before))
+    _ (at-first-of .first-of .ensures) _ (c .canonical .ensures)
 
 -- all places were checked where that was wanted
-held : (c : tie.Joined2) → Held (start (c .before .before .before .before .before .before .before .before .before .before .before .before .before .before .before) .args .lineage .now) (node (c .before .before .before .before .before .before .before .before .before .before .before .before .before .before .before)) (start (c .before .before .before .before .before .before .before .before .before .before .before .before .before .before .before) .args .h) (c .before .before .before .before .before .before .before .before .before .before .before .before .before .before .before .action-of .result) (c .before .before .before .before .before .before .before .before .before .before .before .before .before .before .before .action-of .ensures) (start (c .before .before .before .before .before .before .before .before .before .before .before .before .before .before .before) .args .s) (wide (start (c .before .before .before .before .before .before .before .before .before .before .before .before .before .before .before))) (c .before .before .before .before .before .before .before .before .before .before .if1 .q) (joined (c .before .before .before .before .before .before .before .before .before .before)) _ (c .before .before .before .before .before .before .before .before .before .before .before .before .before .before .first-of .ensures) _ (c .before .before .before .before .before .before .before .before .canonical .ensures) (c .before .before .before .before .cell-after .result) (c .before .before .before .before .cell-after .ensures) (c .if2 .q)
+held : (c : tie.Joined2) → Held
+    (start (c .before .before .before .before .before .before .before .before .before .before .before .before .before .before .before) .args .lineage .now)
+    (node (c .before .before .before .before .before .before .before .before .before .before .before .before .before .before .before))
+    (start (c .before .before .before .before .before .before .before .before .before .before .before .before .before .before .before) .args .h)
+    (c .before .before .before .before .before .before .before .before .before .before .before .before .before .before .before .action-of .result)
+    (c .before .before .before .before .before .before .before .before .before .before .before .before .before .before .before .action-of .ensures)
+    (start (c .before .before .before .before .before .before .before .before .before .before .before .before .before .before .before) .args .s)
+    (wide (start (c .before .before .before .before .before .before .before .before .before .before .before .before .before .before .before)))
+    (c .before .before .before .before .before .before .before .before .before .before .if1 .q)
+    (joined (c .before .before .before .before .before .before .before .before .before .before)) _
+    (c .before .before .before .before .before .before .before .before .before .before .before .before .before .before .first-of .ensures) _
+    (c .before .before .before .before .before .before .before .before .canonical .ensures) (c .before .before .before .before .cell-after .result)
+    (c .before .before .before .before .cell-after .ensures) (c .if2 .q)
 unfolding withCell
 held c =
-    ⊎-elim
-    (λ w. when-held (start (c .before .before .before .before .before .before .before .before .before .before .before .before .before .before .before) .args .lineage .now) (node (c .before .before .before .before .before .before .before .before .before .before .before .before .before .before .before)) (start (c .before .before .before .before .before .before .before .before .before .before .before .before .before .before .before) .args .h) (c .before .before .before .before .before .before .before .before .before .before .before .before .before .before .before .action-of .result) (c .before .before .before .before .before .before .before .before .before .before .before .before .before .before .before .action-of .ensures) (start (c .before .before .before .before .before .before .before .before .before .before .before .before .before .before .before) .args .s) (wide (start (c .before .before .before .before .before .before .before .before .before .before .before .before .before .before .before))) (c .before .before .before .before .before .before .before .before .before .before .if1 .q) (joined (c .before .before .before .before .before .before .before .before .before .before)) _ (c .before .before .before .before .before .before .before .before .before .before .before .before .before .before .first-of .ensures) _ (c .before .before .before .before .before .before .before .before .canonical .ensures) (c .before .before .before .before .cell-after .result) (c .before .before .before .before .cell-after .ensures) (c .if2 .q) _ (c .before .is-checking .ensures) (w .0 .taken) _ (w .1 .ensures) (w .2))
-    (λ w. when-left (start (c .before .before .before .before .before .before .before .before .before .before .before .before .before .before .before) .args .lineage .now) (node (c .before .before .before .before .before .before .before .before .before .before .before .before .before .before .before)) (start (c .before .before .before .before .before .before .before .before .before .before .before .before .before .before .before) .args .h) (c .before .before .before .before .before .before .before .before .before .before .before .before .before .before .before .action-of .result) (c .before .before .before .before .before .before .before .before .before .before .before .before .before .before .before .action-of .ensures) (start (c .before .before .before .before .before .before .before .before .before .before .before .before .before .before .before) .args .s) (wide (start (c .before .before .before .before .before .before .before .before .before .before .before .before .before .before .before))) (c .before .before .before .before .before .before .before .before .before .before .if1 .q) (joined (c .before .before .before .before .before .before .before .before .before .before)) _ (c .before .before .before .before .before .before .before .before .before .before .before .before .before .before .first-of .ensures) _ (c .before .before .before .before .before .before .before .before .canonical .ensures) (c .before .before .before .before .cell-after .result) (c .before .before .before .before .cell-after .ensures) (c .if2 .q) _ (c .before .is-checking .ensures) (w .0 .left) (w .1))
-    (c .if2 .came)
+    let at-cell-after = c .before .before .before .before in
+    let at-canonical = at-cell-after .before .before .before .before in
+    let at-if1 = at-canonical .before .before in
+    let at-first-of = at-if1 .before .before .before .before in
+    let at-action-of = at-first-of .before in
+    ⊎-elim (λ w. when-held (start at-action-of .args .lineage .now) (node at-action-of) (start at-action-of .args .h) (at-action-of .action-of .result)
+    (at-action-of .action-of .ensures) (start at-action-of .args .s) (wide (start at-action-of)) (at-if1 .if1 .q) (joined at-if1) _
+    (at-first-of .first-of .ensures) _ (at-canonical .canonical .ensures) (at-cell-after .cell-after .result) (at-cell-after .cell-after .ensures)
+    (c .if2 .q) _ (c .before .is-checking .ensures) (w .0 .taken) _ (w .1 .ensures) (w .2))
+    (λ w. when-left (start at-action-of .args .lineage .now) (node at-action-of) (start at-action-of .args .h) (at-action-of .action-of .result)
+    (at-action-of .action-of .ensures) (start at-action-of .args .s) (wide (start at-action-of)) (at-if1 .if1 .q) (joined at-if1) _
+    (at-first-of .first-of .ensures) _ (at-canonical .canonical .ensures) (at-cell-after .cell-after .result) (at-cell-after .cell-after .ensures)
+    (c .if2 .q) _ (c .before .is-checking .ensures) (w .0 .left) (w .1)) (c .if2 .came)
 
 action-of-requires : tie.Need-action-of-requires
 action-of-requires c κs = search needs
@@ -104,7 +139,17 @@ residuals-after-requires : tie.Need-residuals-after-requires
 residuals-after-requires c κs = search needs
 
 returns : tie.Need-returns
-returns c = alone (start (c .before .before .before .before .before .before .before .before .before .before .before .before .before .before .before .before .before .before .before) .args .lineage .now) (node (c .before .before .before .before .before .before .before .before .before .before .before .before .before .before .before .before .before .before .before)) (start (c .before .before .before .before .before .before .before .before .before .before .before .before .before .before .before .before .before .before .before) .args .h) (c .before .before .before .before .before .before .before .before .before .before .before .before .before .before .before .before .before .before .before .action-of .result) (c .before .before .before .before .before .before .before .before .before .before .before .before .before .before .before .before .before .before .before .action-of .ensures) (start (c .before .before .before .before .before .before .before .before .before .before .before .before .before .before .before .before .before .before .before) .args .s) (wide (start (c .before .before .before .before .before .before .before .before .before .before .before .before .before .before .before .before .before .before .before))) (c .before .before .before .before .before .before .before .before .before .before .before .before .before .before .if1 .q) (joined (c .before .before .before .before .before .before .before .before .before .before .before .before .before .before)) _ (c .before .before .before .before .before .before .before .before .before .before .before .before .before .before .before .before .before .before .first-of .ensures) _ (c .before .before .before .before .before .before .before .before .before .before .before .before .canonical .ensures) (c .before .before .before .before .before .before .before .before .cell-after .result) (c .before .before .before .before .before .before .before .before .cell-after .ensures) (c .before .before .before .before .if2 .q) (held (c .before .before .before .before)) _ (c .before .before .is-residual .ensures) (c .before .residuals-after .result) (c .before .residuals-after .ensures)
+returns c =
+    let at-if2 = c .before .before .before .before in
+    let at-cell-after = at-if2 .before .before .before .before in
+    let at-canonical = at-cell-after .before .before .before .before in
+    let at-if1 = at-canonical .before .before in
+    let at-first-of = at-if1 .before .before .before .before in
+    let at-action-of = at-first-of .before in
+    alone (start at-action-of .args .lineage .now) (node at-action-of) (start at-action-of .args .h) (at-action-of .action-of .result)
+    (at-action-of .action-of .ensures) (start at-action-of .args .s) (wide (start at-action-of)) (at-if1 .if1 .q) (joined at-if1) _
+    (at-first-of .first-of .ensures) _ (at-canonical .canonical .ensures) (at-cell-after .cell-after .result) (at-cell-after .cell-after .ensures)
+    (at-if2 .if2 .q) (held at-if2) _ (c .before .before .is-residual .ensures) (c .before .residuals-after .result) (c .before .residuals-after .ensures)
 
 pub apply-one-spec : {M : Type 1} → statement M
 apply-one-spec =

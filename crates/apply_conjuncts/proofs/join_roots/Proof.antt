@@ -79,7 +79,13 @@ element-set-from-no-entry : tie.Need-element-set-from-no-entry
 element-set-from-no-entry c = search needs
 
 returns : tie.Need-returns
-returns c = roots-written (c .before .before .before .before .before .before .before .before .before .before .before .before .before .args .t1) (c .before .before .before .before .before .before .before .before .before .before .before .before .before .args .a) (c .before .before .before .before .before .before .before .before .before .before .before .before .before .args .b) (c .before .before .before .before .before .before .place-of .result) (c .before .before .before .empty .result) (c .before .before .empty2 .result) (c .before .before .before .before .before .before .place-of .ensures) (c .before .before .before .empty .ensures) (c .before .before .empty2 .ensures)
+returns c =
+    let at-empty = c .before .before .before in
+    let at-place-of = at-empty .before .before .before in
+    let start = at-place-of .before .before .before .before .before .before .before in
+    let args = start .args in
+    roots-written (args .t1) (args .a) (args .b) (at-place-of .place-of .result) (at-empty .empty .result) (c .before .before .empty2 .result)
+    (at-place-of .place-of .ensures) (at-empty .empty .ensures) (c .before .before .empty2 .ensures)
 
 pub join-roots-spec : {M : Type 1} → statement M
 join-roots-spec =

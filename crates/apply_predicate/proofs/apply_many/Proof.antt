@@ -14,13 +14,27 @@ apply-handles-requires : tie.Need-apply-handles-requires
 apply-handles-requires c κs = search needs
 
 returns : tie.Need-returns
-returns c = thinned-all (now (c .before .before .before .before .before .before .before .before .before .before .before .before .before .args .kind)) (now (c .before .before .before .before .before .before .before .before .before .before .before .before .before .args .code)) (now (c .before .before .before .before .before .before .before .before .before .before .before .before .before .args .a)) (now (c .before .before .before .before .before .before .before .before .before .before .before .before .before .args .b)) (now (c .before .before .before .before .before .before .before .before .before .before .before .before .before .args .bits)) (now (c .before .before .before .before .before .before .before .before .before .before .before .before .before .args .start)) (now (c .before .before .before .before .before .before .before .before .before .before .before .before .before .args .items)) (now (c .before .before .before .before .before .before .before .before .before .before .before .before .before .args .lineage)) (c .before .before .before .before .before .before .before .before .before .before .before .before .before .args .e) (c .before .before .before .before .before .before .before .before .before .before .before .before .before .args .s) _ (c .before .before .before .before .before .before .before .before .before .before .before .before .is-ready .ensures .1 (c .before .before .before .before .before .before .before .before .before .before .before .if1 .taken)) (c .before .before .before .before .before .before .before .before .before .before .thinned-conjuncts .ensures .1 (c .before .before .before .before .before .before .before .before .before .if2 .taken) (now (c .before .before .before .before .before .before .before .before .before .before .before .before .before .args .b)) (now (c .before .before .before .before .before .before .before .before .before .before .before .before .before .args .bits))) (c .apply-handles .result) (c .apply-handles .ensures)
+returns c =
+    let at-if2 = c .before .before .before .before .before .before .before .before .before in
+    let at-thinned-conjuncts = at-if2 .before in
+    let at-if1 = at-thinned-conjuncts .before in
+    let at-is-ready = at-if1 .before in
+    let start = at-is-ready .before in
+    let args = start .args in
+    thinned-all (now (args .kind)) (now (args .code)) (now (args .a)) (now (args .b)) (now (args .bits)) (now (args .start)) (now (args .items))
+    (now (args .lineage)) (args .e) (args .s) _ (at-is-ready .is-ready .ensures .1 (at-if1 .if1 .taken))
+    (at-thinned-conjuncts .thinned-conjuncts .ensures .1 (at-if2 .if2 .taken) (now (args .b)) (now (args .bits))) (c .apply-handles .result)
+    (c .apply-handles .ensures)
 
 apply-walk-requires : tie.Need-apply-walk-requires
 apply-walk-requires c κs = search needs
 
 returns-2 : tie.Need-returns-2
-returns-2 c = walked (now (c .before .before .before .before .before .before .before .before .before .before .before .args .kind)) (now (c .before .before .before .before .before .before .before .before .before .before .before .args .code)) (now (c .before .before .before .before .before .before .before .before .before .before .before .args .a)) (now (c .before .before .before .before .before .before .before .before .before .before .before .args .b)) (now (c .before .before .before .before .before .before .before .before .before .before .before .args .bits)) (now (c .before .before .before .before .before .before .before .before .before .before .before .args .start)) (now (c .before .before .before .before .before .before .before .before .before .before .before .args .items)) (now (c .before .before .before .before .before .before .before .before .before .before .before .args .lineage)) (c .before .before .before .before .before .before .before .before .before .before .before .args .e) (c .before .before .before .before .before .before .before .before .before .before .before .args .s) (c .before .before .before .before .before .before .before .before .before .before .before .args .w) (c .before .before .before .before .before .before .before .before .before .before .before .pre .1) (c .apply-walk .result) (c .apply-walk .ensures)
+returns-2 c =
+    let start = c .before .before .before .before .before .before .before .before .before .before .before in
+    let args = start .args in
+    walked (now (args .kind)) (now (args .code)) (now (args .a)) (now (args .b)) (now (args .bits)) (now (args .start)) (now (args .items))
+    (now (args .lineage)) (args .e) (args .s) (args .w) (start .pre .1) (c .apply-walk .result) (c .apply-walk .ensures)
 
 pub apply-many-spec : {M : Type 1} → statement M
 apply-many-spec =

@@ -25,7 +25,14 @@ given-back-requires-2 : tie.Need-given-back-requires-2
 given-back-requires-2 c κs = search needs
 
 returns-2 : tie.Need-returns-2
-returns-2 c = c .given-back2 .ensures ∙ ap (orGiven (c .before .before .before .before .before .before .before .before .before .before .before .before .before .args .s)) (c .before .apply-one .ensures ∙ alone-applied (now (c .before .before .before .before .before .before .before .before .before .before .before .before .before .args .kind)) (now (c .before .before .before .before .before .before .before .before .before .before .before .before .before .args .code)) (now (c .before .before .before .before .before .before .before .before .before .before .before .before .before .args .a)) (now (c .before .before .before .before .before .before .before .before .before .before .before .before .before .args .b)) (now (c .before .before .before .before .before .before .before .before .before .before .before .before .before .args .bits)) (now (c .before .before .before .before .before .before .before .before .before .before .before .before .before .args .start)) (now (c .before .before .before .before .before .before .before .before .before .before .before .before .before .args .items)) (now (c .before .before .before .before .before .before .before .before .before .before .before .before .before .args .lineage)) (c .before .before .before .before .before .before .before .before .before .before .before .before .before .args .e) (sym (c .before .before .before .before .before .before .before .before .before .before .is-and .ensures) ∙ c .before .before .before .before .before .before .before .before .before .if1 .left) _)
+returns-2 c =
+    let at-if1 = c .before .before .before .before .before .before .before .before .before in
+    let at-is-and = at-if1 .before in
+    let start = at-is-and .before .before .before in
+    let args = start .args in
+    c .given-back2 .ensures ∙ ap (orGiven (args .s)) (c .before .apply-one .ensures ∙ alone-applied (now (args .kind)) (now (args .code)) (now (args .a))
+    (now (args .b)) (now (args .bits)) (now (args .start)) (now (args .items)) (now (args .lineage)) (args .e)
+    (sym (at-is-and .is-and .ensures) ∙ at-if1 .if1 .left) _)
 
 pub apply-to-spec : {M : Type 1} → statement M
 apply-to-spec =

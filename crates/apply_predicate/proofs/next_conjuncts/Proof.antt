@@ -1,7 +1,8 @@
 use Rattle.apply_walk.specs.Walks.{passed}
 use borrow.Author.Needs.{needs}
 use Rattle.apply_walk.proofs.Rests.{stepsLeft}
-use Rattle.apply_predicate.proofs.Collecting.{Collected, Turning, at-most, less-left, some-frame, some-place, popped-on, skipped-on, found-on, entered-on, skip-operand, found-operand, enter-operand, enter-frame}
+use Rattle.apply_predicate.proofs.Collecting.{Collected, Turning, at-most, less-left, some-frame, some-place, popped-on, skipped-on, found-on}
+use Rattle.apply_predicate.proofs.Collecting.{entered-on, skip-operand, found-operand, enter-operand, enter-frame}
 use Rattle.apply_predicate.proofs.next_conjuncts.Statement.{statement}
 use Rattle.apply_predicate.proofs.next_conjuncts.Tie as tie
 use Rattle.apply_predicate.proofs.next_conjuncts.Reads as reads
@@ -19,8 +20,19 @@ abbrev At-turn : Type 0
 At-turn = lts.After-turn (turn-reads.Asked, turn-reads.Learnt, at16-reads.Asked, at16-reads.Learnt) reads.Pre reads.Post Inv-loop μ-loop
 
 turning : (c : At-turn)
-    → Turning (c .before .before .before .before .before .before .before .before .before .before .before .args .kind .now) (c .before .before .before .before .before .before .before .before .before .before .before .args .code .now) (c .before .before .before .before .before .before .before .before .before .before .before .args .a .now) (c .before .before .before .before .before .before .before .before .before .before .before .args .start .now) (c .before .before .before .before .before .before .before .before .before .before .before .args .items .now) (c .before .before .before .before .before .before .before .before .before .before .before .args .w) (c .before .before .before .before .before .loop .walk) (c .before .before .before .before .before .loop .handles) (c .before .before .before .before .before .loop .count) (c .before .before .before .before .before .loop .turns) (c .turn .result)
-turning c = record { long = c .before .before .before .before .before .before .before .before .before .before .before .pre .0; had = c .before .before .before .before .before .loop .inv; more = c .before .before .before .before .loop-test .taken; next = c .turn .ensures }
+    → Turning (c .before .before .before .before .before .before .before .before .before .before .before .args .kind .now)
+    (c .before .before .before .before .before .before .before .before .before .before .before .args .code .now)
+    (c .before .before .before .before .before .before .before .before .before .before .before .args .a .now)
+    (c .before .before .before .before .before .before .before .before .before .before .before .args .start .now)
+    (c .before .before .before .before .before .before .before .before .before .before .before .args .items .now)
+    (c .before .before .before .before .before .before .before .before .before .before .before .args .w)
+    (c .before .before .before .before .before .loop .walk) (c .before .before .before .before .before .loop .handles)
+    (c .before .before .before .before .before .loop .count) (c .before .before .before .before .before .loop .turns) (c .turn .result)
+turning c =
+    let at-loop-test = c .before .before .before .before in
+    let at-loop = at-loop-test .before in
+    let start = at-loop .before .before .before .before .before .before in
+    record { long = start .pre .0; had = at-loop .loop .inv; more = at-loop-test .loop-test .taken; next = c .turn .ensures }
 
 loop-holds : tie.Need-loop-holds Inv-loop μ-loop
 loop-holds c = search needs
@@ -139,16 +151,25 @@ mul-walk-7 : tie.Need-mul-walk-7 Inv-loop μ-loop
 mul-walk-7 c = search needs
 
 element-write-walk-7 : tie.Need-element-write-walk-7 Inv-loop μ-loop
-element-write-walk-7 c = enter-frame (turning (c .before .before .before .before .before)) (c .before .before .before .turn2 .given .0 .0) (c .before .before .before .turn2 .given .1)
+element-write-walk-7 c =
+    let at-turn2 = c .before .before .before in
+    let earlier = at-turn2 .before .before in
+    enter-frame (turning (earlier)) (at-turn2 .turn2 .given .0 .0) (at-turn2 .turn2 .given .1)
 
 add-walk-3 : tie.Need-add-walk-3 Inv-loop μ-loop
 add-walk-3 c = search needs
 
 loop-less-3 : tie.Need-loop-less-3 Inv-loop μ-loop
-loop-less-3 c = entered-on (turning (c .before .before .before .before .before)) (c .before .before .before .turn2 .given .0 .0) _ _ (c .before .before .before .turn2 .given .1) (c .before .at16 .ensures) (c .at162 .ensures) .1
+loop-less-3 c =
+    let at-turn2 = c .before .before .before in
+    let earlier = at-turn2 .before .before in
+    entered-on (turning (earlier)) (at-turn2 .turn2 .given .0 .0) _ _ (at-turn2 .turn2 .given .1) (c .before .at16 .ensures) (c .at162 .ensures) .1
 
 loop-again-3 : tie.Need-loop-again-3 Inv-loop μ-loop
-loop-again-3 c = entered-on (turning (c .before .before .before .before .before)) (c .before .before .before .turn2 .given .0 .0) _ _ (c .before .before .before .turn2 .given .1) (c .before .at16 .ensures) (c .at162 .ensures) .0
+loop-again-3 c =
+    let at-turn2 = c .before .before .before in
+    let earlier = at-turn2 .before .before in
+    entered-on (turning (earlier)) (at-turn2 .turn2 .given .0 .0) _ _ (at-turn2 .turn2 .given .1) (c .before .at16 .ensures) (c .at162 .ensures) .0
 
 enum-known-turn-2 : tie.Need-enum-known-turn-2 Inv-loop μ-loop
 enum-known-turn-2 c = search needs
@@ -175,7 +196,10 @@ mul-handles : tie.Need-mul-handles Inv-loop μ-loop
 mul-handles c = search needs
 
 array-write-handles : tie.Need-array-write-handles Inv-loop μ-loop
-array-write-handles c = some-place (c .before .before .before .before .before .before .before .before .loop .walk .depth) (c .before .before .before .before .before .before .before .before .loop .count) (c .before .before .before .before .before .before .before .before .loop .turns) (c .before .before .before .before .before .before .before .before .loop .inv .one-each) (c .before .before .before .before .before .before .before .loop-test .taken)
+array-write-handles c =
+    let at-loop-test = c .before .before .before .before .before .before .before in
+    let at-loop = at-loop-test .before in
+    some-place (at-loop .loop .walk .depth) (at-loop .loop .count) (at-loop .loop .turns) (at-loop .loop .inv .one-each) (at-loop-test .loop-test .taken)
 
 add-count : tie.Need-add-count Inv-loop μ-loop
 add-count c = search needs
@@ -189,7 +213,11 @@ unfolding passed
 loop-again-4 c = found-on (turning (c .before .before .before)) (c .before .turn3 .given .0 .0) (c .before .turn3 .given .1) .0
 
 returns : tie.Need-returns Inv-loop μ-loop
-returns c = (c .before .loop .inv .good, (at-most (c .before .loop .inv), (c .before .loop .inv .to-come, less-left (c .before .before .before .before .before .before .before .pre .0) (c .before .loop .inv) (c .loop-test .left))))
+returns c =
+    let start = c .before .before .before .before .before .before .before in (
+      c .before .loop .inv .good,
+      (at-most (c .before .loop .inv), (c .before .loop .inv .to-come, less-left (start .pre .0) (c .before .loop .inv) (c .loop-test .left))),
+    )
 
 pub next-conjuncts-spec : {M : Type 1} → statement M
 next-conjuncts-spec =

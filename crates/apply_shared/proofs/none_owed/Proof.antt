@@ -31,7 +31,9 @@ loop-less : tie.Need-loop-less Inv-loop μ-loop
 loop-less c = search needs
 
 loop-again : tie.Need-loop-again Inv-loop μ-loop
-loop-again c = (omega (arith, c .before .loop-test .taken), none-more (c .before .before .before .args .t1) (c .before .before .loop .i) (c .if1 .left) (c .before .before .loop .inv .1))
+loop-again c =
+    let start = c .before .before .before in
+    (omega (arith, c .before .loop-test .taken), none-more (start .args .t1) (c .before .before .loop .i) (c .if1 .left) (c .before .before .loop .inv .1))
 
 returns-2 : tie.Need-returns-2 Inv-loop μ-loop
 returns-2 c = λ q. none-at-all (c .before .before .args .t1) (search needs) (c .before .loop .i) (c .loop-test .left) (c .before .loop .inv .1)

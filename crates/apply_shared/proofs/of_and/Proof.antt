@@ -2,7 +2,9 @@ use Prim.Native.Nat.{_-_}
 use borrow.Author.Needs.{needs}
 use Rattle.apply_walk.specs.Walks.{passed}
 use Rattle.apply_walk.proofs.Rests.{stepsLeft}
-use Rattle.apply_shared.proofs.Thinning.{Collected, Turning, owner-within, popped-on, skipped-on, found-within, found-over, found-room, found-kept, entered-within, entered-over, entered-on, enter-frame, skip-operand, found-operand, enter-operand, test-frame, over-seen, ended, started}
+use Rattle.apply_shared.proofs.Thinning.{Collected, Turning, owner-within, popped-on, skipped-on, found-within, found-over, found-room}
+use Rattle.apply_shared.proofs.Thinning.{found-kept, entered-within, entered-over, entered-on, enter-frame, skip-operand, found-operand}
+use Rattle.apply_shared.proofs.Thinning.{enter-operand, test-frame, over-seen, ended, started}
 use Rattle.apply_shared.proofs.of_and.Statement.{statement}
 use Rattle.apply_shared.proofs.of_and.Tie as tie
 use Rattle.apply_shared.proofs.of_and.Reads as reads
@@ -15,17 +17,45 @@ use Rattle.apply_shared.proofs.none_owed.Reads as none-owed-reads
 use Rattle.apply_shared.proofs.stands_last.Reads as stands-last-reads
 
 abbrev Inv-loop : tie.InvT-loop
-Inv-loop kind code a start items owners places e walk₀ last₀ seen₀ owed₀ handles₀ count₀ walk last seen owed handles count = Collected kind code a start items e walk seen owed handles count
+Inv-loop kind code a start items owners places e walk₀ last₀ seen₀ owed₀ handles₀ count₀ walk last seen owed handles count = Collected kind code a start items
+    e walk seen owed handles count
 
 abbrev μ-loop : tie.MeasureT-loop
-μ-loop kind code a start items owners places e walk₀ last₀ seen₀ owed₀ handles₀ count₀ walk last seen owed handles count = stepsLeft kind code a start items walk
+μ-loop kind code a start items owners places e walk₀ last₀ seen₀ owed₀ handles₀ count₀ walk last seen owed handles count = stepsLeft kind code a start items
+    walk
 
 abbrev At-turn : Type 0
-At-turn = lts.After-turn (empty-reads.Asked, empty-reads.Learnt, enter-reads.Asked, enter-reads.Learnt, turn-reads.Asked, turn-reads.Learnt, stands-last-reads.Asked, stands-last-reads.Learnt, at16-reads.Asked, at16-reads.Learnt, none-owed-reads.Asked, none-owed-reads.Learnt) reads.Pre reads.Post Inv-loop μ-loop
+At-turn = lts.After-turn (
+  empty-reads.Asked,
+  empty-reads.Learnt,
+  enter-reads.Asked,
+  enter-reads.Learnt,
+  turn-reads.Asked,
+  turn-reads.Learnt,
+  stands-last-reads.Asked,
+  stands-last-reads.Learnt,
+  at16-reads.Asked,
+  at16-reads.Learnt,
+  none-owed-reads.Asked,
+  none-owed-reads.Learnt,
+) reads.Pre
+    reads.Post Inv-loop μ-loop
 
 turning : (c : At-turn)
-    → Turning (c .before .before .before .before .before .before .before .before .before .before .before .before .before .before .before .args .kind .now) (c .before .before .before .before .before .before .before .before .before .before .before .before .before .before .before .args .code .now) (c .before .before .before .before .before .before .before .before .before .before .before .before .before .before .before .args .a .now) (c .before .before .before .before .before .before .before .before .before .before .before .before .before .before .before .args .start .now) (c .before .before .before .before .before .before .before .before .before .before .before .before .before .before .before .args .items .now) (c .before .before .before .before .before .before .before .before .before .before .before .before .before .before .before .args .e) (c .before .before .before .before .before .loop .walk) (c .before .before .before .before .before .loop .seen) (c .before .before .before .before .before .loop .owed) (c .before .before .before .before .before .loop .handles) (c .before .before .before .before .before .loop .count) (c .turn .result)
-turning c = record { long = c .before .before .before .before .before .before .before .before .before .before .before .before .before .before .before .pre .1 .0; had = c .before .before .before .before .before .loop .inv; more = c .before .before .before .before .loop-test .taken; next = c .turn .ensures }
+    → Turning (c .before .before .before .before .before .before .before .before .before .before .before .before .before .before .before .args .kind .now)
+    (c .before .before .before .before .before .before .before .before .before .before .before .before .before .before .before .args .code .now)
+    (c .before .before .before .before .before .before .before .before .before .before .before .before .before .before .before .args .a .now)
+    (c .before .before .before .before .before .before .before .before .before .before .before .before .before .before .before .args .start .now)
+    (c .before .before .before .before .before .before .before .before .before .before .before .before .before .before .before .args .items .now)
+    (c .before .before .before .before .before .before .before .before .before .before .before .before .before .before .before .args .e)
+    (c .before .before .before .before .before .loop .walk) (c .before .before .before .before .before .loop .seen)
+    (c .before .before .before .before .before .loop .owed) (c .before .before .before .before .before .loop .handles)
+    (c .before .before .before .before .before .loop .count) (c .turn .result)
+turning c =
+    let at-loop-test = c .before .before .before .before in
+    let at-loop = at-loop-test .before in
+    let start = at-loop .before .before .before .before .before .before .before .before .before .before in
+    record { long = start .pre .1 .0; had = at-loop .loop .inv; more = at-loop-test .loop-test .taken; next = c .turn .ensures }
 
 empty-requires : tie.Need-empty-requires Inv-loop μ-loop
 empty-requires c κs = search needs
@@ -34,7 +64,10 @@ enter-requires : tie.Need-enter-requires Inv-loop μ-loop
 enter-requires c κs = search needs
 
 loop-holds : tie.Need-loop-holds Inv-loop μ-loop
-loop-holds c = started _ _ _ _ _ (c .before .before .before .before .before .before .before .before .before .pre .1 .0) (c .before .before .before .before .before .before .before .before .before .pre .0) (c .before .before .before .before .before .before .before .before .before .args .e) (c .before .before .before .before .before .before .before .before .before .pre .1 .1) (c .before .empty .result) (c .enter .result) (c .before .empty .ensures) (c .enter .ensures)
+loop-holds c =
+    let start = c .before .before .before .before .before .before .before .before .before in
+    started _ _ _ _ _ (start .pre .1 .0) (start .pre .0) (start .args .e) (start .pre .1 .1) (c .before .empty .result) (c .enter .result)
+    (c .before .empty .ensures) (c .enter .ensures)
 
 sub-k : tie.Need-sub-k Inv-loop μ-loop
 sub-k c = test-frame (c .before .loop .walk .depth) (c .before .loop .count) (c .loop-test .taken)
@@ -141,30 +174,52 @@ cast-owed : tie.Need-cast-owed Inv-loop μ-loop
 cast-owed c = search needs
 
 array-write-owed : tie.Need-array-write-owed Inv-loop μ-loop
-array-write-owed c = entered-within (turning (c .before .before .before .before .before)) (c .before .before .before .turn2 .given .0 .0) (c .before .before .before .turn2 .given .1)
+array-write-owed c =
+    let at-turn2 = c .before .before .before in
+    let earlier = at-turn2 .before .before in
+    entered-within (turning (earlier)) (at-turn2 .turn2 .given .0 .0) (at-turn2 .turn2 .given .1)
 
 loop-less-3 : tie.Need-loop-less-3 Inv-loop μ-loop
 unfolding passed
-loop-less-3 c = entered-over (turning (c .before .before .before .before .before)) (c .before .before .before .turn2 .given .0 .0) (c .before .before .before .turn2 .given .1) (over-seen (c .before .before .before .before .before .before .before .before .before .before .loop .last) (c .before .before .before .before .before .before .before .before .before .before .loop .walk .depth - 1) (c .before .stands-last .result) _ (c .if1 .taken)) .1
+loop-less-3 c =
+    let at-turn2 = c .before .before .before in
+    let earlier = at-turn2 .before .before in
+    let at-loop = earlier .before .before .before .before .before in
+    entered-over (turning (earlier)) (at-turn2 .turn2 .given .0 .0) (at-turn2 .turn2 .given .1)
+    (over-seen (at-loop .loop .last) (at-loop .loop .walk .depth - 1) (c .before .stands-last .result) _ (c .if1 .taken)) .1
 
 loop-again-3 : tie.Need-loop-again-3 Inv-loop μ-loop
 unfolding passed
-loop-again-3 c = entered-over (turning (c .before .before .before .before .before)) (c .before .before .before .turn2 .given .0 .0) (c .before .before .before .turn2 .given .1) (over-seen (c .before .before .before .before .before .before .before .before .before .before .loop .last) (c .before .before .before .before .before .before .before .before .before .before .loop .walk .depth - 1) (c .before .stands-last .result) _ (c .if1 .taken)) .0
+loop-again-3 c =
+    let at-turn2 = c .before .before .before in
+    let earlier = at-turn2 .before .before in
+    let at-loop = earlier .before .before .before .before .before in
+    entered-over (turning (earlier)) (at-turn2 .turn2 .given .0 .0) (at-turn2 .turn2 .given .1)
+    (over-seen (at-loop .loop .last) (at-loop .loop .walk .depth - 1) (c .before .stands-last .result) _ (c .if1 .taken)) .0
 
 cast-owed-2 : tie.Need-cast-owed-2 Inv-loop μ-loop
 cast-owed-2 c = search needs
 
 array-write-owed-2 : tie.Need-array-write-owed-2 Inv-loop μ-loop
-array-write-owed-2 c = entered-within (turning (c .before .before .before .before .before)) (c .before .before .before .turn2 .given .0 .0) (c .before .before .before .turn2 .given .1)
+array-write-owed-2 c =
+    let at-turn2 = c .before .before .before in
+    let earlier = at-turn2 .before .before in
+    entered-within (turning (earlier)) (at-turn2 .turn2 .given .0 .0) (at-turn2 .turn2 .given .1)
 
 array-write-last : tie.Need-array-write-last Inv-loop μ-loop
-array-write-last c = enter-frame (turning (c .before .before .before .before .before)) (c .before .before .before .turn2 .given .0 .0) (c .before .before .before .turn2 .given .1)
+array-write-last c =
+    let at-turn2 = c .before .before .before in
+    let earlier = at-turn2 .before .before in
+    enter-frame (turning (earlier)) (at-turn2 .turn2 .given .0 .0) (at-turn2 .turn2 .given .1)
 
 mul-walk-5 : tie.Need-mul-walk-5 Inv-loop μ-loop
 mul-walk-5 c = search needs
 
 element-write-walk-5 : tie.Need-element-write-walk-5 Inv-loop μ-loop
-element-write-walk-5 c = enter-frame (turning (c .before .before .before .before .before)) (c .before .before .before .turn2 .given .0 .0) (c .before .before .before .turn2 .given .1)
+element-write-walk-5 c =
+    let at-turn2 = c .before .before .before in
+    let earlier = at-turn2 .before .before in
+    enter-frame (turning (earlier)) (at-turn2 .turn2 .given .0 .0) (at-turn2 .turn2 .given .1)
 
 cast-at16 : tie.Need-cast-at16 Inv-loop μ-loop
 cast-at16 c = search needs
@@ -176,7 +231,10 @@ mul-walk-6 : tie.Need-mul-walk-6 Inv-loop μ-loop
 mul-walk-6 c = search needs
 
 element-write-walk-6 : tie.Need-element-write-walk-6 Inv-loop μ-loop
-element-write-walk-6 c = enter-frame (turning (c .before .before .before .before .before .before)) (c .before .before .before .before .turn2 .given .0 .0) (c .before .before .before .before .turn2 .given .1)
+element-write-walk-6 c =
+    let at-turn2 = c .before .before .before .before in
+    let earlier = at-turn2 .before .before in
+    enter-frame (turning (earlier)) (at-turn2 .turn2 .given .0 .0) (at-turn2 .turn2 .given .1)
 
 cast-at16-2 : tie.Need-cast-at16-2 Inv-loop μ-loop
 cast-at16-2 c = search needs
@@ -188,16 +246,25 @@ mul-walk-7 : tie.Need-mul-walk-7 Inv-loop μ-loop
 mul-walk-7 c = search needs
 
 element-write-walk-7 : tie.Need-element-write-walk-7 Inv-loop μ-loop
-element-write-walk-7 c = enter-frame (turning (c .before .before .before .before .before .before .before)) (c .before .before .before .before .before .turn2 .given .0 .0) (c .before .before .before .before .before .turn2 .given .1)
+element-write-walk-7 c =
+    let at-turn2 = c .before .before .before .before .before in
+    let earlier = at-turn2 .before .before in
+    enter-frame (turning (earlier)) (at-turn2 .turn2 .given .0 .0) (at-turn2 .turn2 .given .1)
 
 add-walk-3 : tie.Need-add-walk-3 Inv-loop μ-loop
 add-walk-3 c = search needs
 
 loop-less-4 : tie.Need-loop-less-4 Inv-loop μ-loop
-loop-less-4 c = entered-on (turning (c .before .before .before .before .before .before .before)) (c .before .before .before .before .before .turn2 .given .0 .0) (c .before .before .before .before .before .turn2 .given .1) _ _ (c .before .at16 .ensures) (c .at162 .ensures) .1
+loop-less-4 c =
+    let at-turn2 = c .before .before .before .before .before in
+    let earlier = at-turn2 .before .before in
+    entered-on (turning (earlier)) (at-turn2 .turn2 .given .0 .0) (at-turn2 .turn2 .given .1) _ _ (c .before .at16 .ensures) (c .at162 .ensures) .1
 
 loop-again-4 : tie.Need-loop-again-4 Inv-loop μ-loop
-loop-again-4 c = entered-on (turning (c .before .before .before .before .before .before .before)) (c .before .before .before .before .before .turn2 .given .0 .0) (c .before .before .before .before .before .turn2 .given .1) _ _ (c .before .at16 .ensures) (c .at162 .ensures) .0
+loop-again-4 c =
+    let at-turn2 = c .before .before .before .before .before in
+    let earlier = at-turn2 .before .before in
+    entered-on (turning (earlier)) (at-turn2 .turn2 .given .0 .0) (at-turn2 .turn2 .given .1) _ _ (c .before .at16 .ensures) (c .at162 .ensures) .0
 
 enum-known-turn-2 : tie.Need-enum-known-turn-2 Inv-loop μ-loop
 enum-known-turn-2 c = search needs
@@ -236,27 +303,46 @@ cast-owed-3 : tie.Need-cast-owed-3 Inv-loop μ-loop
 cast-owed-3 c = search needs
 
 array-write-owed-3 : tie.Need-array-write-owed-3 Inv-loop μ-loop
-array-write-owed-3 c = found-within (turning (c .before .before .before .before .before)) (c .before .before .before .turn3 .given .0 .0) (c .before .before .before .turn3 .given .1)
+array-write-owed-3 c =
+    let at-turn3 = c .before .before .before in
+    let earlier = at-turn3 .before .before in
+    found-within (turning (earlier)) (at-turn3 .turn3 .given .0 .0) (at-turn3 .turn3 .given .1)
 
 loop-less-5 : tie.Need-loop-less-5 Inv-loop μ-loop
 unfolding passed
-loop-less-5 c = found-over (turning (c .before .before .before .before .before)) (c .before .before .before .turn3 .given .0 .0) (c .before .before .before .turn3 .given .1) (over-seen (c .before .before .before .before .before .before .before .before .before .before .loop .last) (c .before .before .before .before .before .before .before .before .before .before .loop .walk .depth - 1) (c .before .stands-last2 .result) _ (c .if2 .taken)) .1
+loop-less-5 c =
+    let at-turn3 = c .before .before .before in
+    let earlier = at-turn3 .before .before in
+    let at-loop = earlier .before .before .before .before .before in
+    found-over (turning (earlier)) (at-turn3 .turn3 .given .0 .0) (at-turn3 .turn3 .given .1)
+    (over-seen (at-loop .loop .last) (at-loop .loop .walk .depth - 1) (c .before .stands-last2 .result) _ (c .if2 .taken)) .1
 
 loop-again-5 : tie.Need-loop-again-5 Inv-loop μ-loop
 unfolding passed
-loop-again-5 c = found-over (turning (c .before .before .before .before .before)) (c .before .before .before .turn3 .given .0 .0) (c .before .before .before .turn3 .given .1) (over-seen (c .before .before .before .before .before .before .before .before .before .before .loop .last) (c .before .before .before .before .before .before .before .before .before .before .loop .walk .depth - 1) (c .before .stands-last2 .result) _ (c .if2 .taken)) .0
+loop-again-5 c =
+    let at-turn3 = c .before .before .before in
+    let earlier = at-turn3 .before .before in
+    let at-loop = earlier .before .before .before .before .before in
+    found-over (turning (earlier)) (at-turn3 .turn3 .given .0 .0) (at-turn3 .turn3 .given .1)
+    (over-seen (at-loop .loop .last) (at-loop .loop .walk .depth - 1) (c .before .stands-last2 .result) _ (c .if2 .taken)) .0
 
 cast-owed-4 : tie.Need-cast-owed-4 Inv-loop μ-loop
 cast-owed-4 c = search needs
 
 array-write-owed-4 : tie.Need-array-write-owed-4 Inv-loop μ-loop
-array-write-owed-4 c = found-within (turning (c .before .before .before .before .before)) (c .before .before .before .turn3 .given .0 .0) (c .before .before .before .turn3 .given .1)
+array-write-owed-4 c =
+    let at-turn3 = c .before .before .before in
+    let earlier = at-turn3 .before .before in
+    found-within (turning (earlier)) (at-turn3 .turn3 .given .0 .0) (at-turn3 .turn3 .given .1)
 
 cast-seen-2 : tie.Need-cast-seen-2 Inv-loop μ-loop
 cast-seen-2 c = search needs
 
 array-write-seen-2 : tie.Need-array-write-seen-2 Inv-loop μ-loop
-array-write-seen-2 c = found-within (turning (c .before .before .before .before .before)) (c .before .before .before .turn3 .given .0 .0) (c .before .before .before .turn3 .given .1)
+array-write-seen-2 c =
+    let at-turn3 = c .before .before .before in
+    let earlier = at-turn3 .before .before in
+    found-within (turning (earlier)) (at-turn3 .turn3 .given .0 .0) (at-turn3 .turn3 .given .1)
 
 mul-handles : tie.Need-mul-handles Inv-loop μ-loop
 mul-handles c = search needs
@@ -269,17 +355,25 @@ add-count c = search needs
 
 loop-less-6 : tie.Need-loop-less-6 Inv-loop μ-loop
 unfolding passed
-loop-less-6 c = found-kept (turning (c .before .before .before .before .before)) (c .before .before .before .turn3 .given .0 .0) (c .before .before .before .turn3 .given .1) .1
+loop-less-6 c =
+    let at-turn3 = c .before .before .before in
+    let earlier = at-turn3 .before .before in
+    found-kept (turning (earlier)) (at-turn3 .turn3 .given .0 .0) (at-turn3 .turn3 .given .1) .1
 
 loop-again-6 : tie.Need-loop-again-6 Inv-loop μ-loop
 unfolding passed
-loop-again-6 c = found-kept (turning (c .before .before .before .before .before)) (c .before .before .before .turn3 .given .0 .0) (c .before .before .before .turn3 .given .1) .0
+loop-again-6 c =
+    let at-turn3 = c .before .before .before in
+    let earlier = at-turn3 .before .before in
+    found-kept (turning (earlier)) (at-turn3 .turn3 .given .0 .0) (at-turn3 .turn3 .given .1) .0
 
 none-owed-requires : tie.Need-none-owed-requires Inv-loop μ-loop
 none-owed-requires c κs = search needs
 
 returns : tie.Need-returns Inv-loop μ-loop
-returns c = (c .before .before .loop .inv .few, ended (c .before .before .before .before .before .before .before .before .before .before .before .before .pre .1 .0) (c .before .before .loop .inv) (c .none-owed .result) (c .none-owed .ensures))
+returns c =
+    let start = c .before .before .before .before .before .before .before .before .before .before .before .before in
+    (c .before .before .loop .inv .few, ended (start .pre .1 .0) (c .before .before .loop .inv) (c .none-owed .result) (c .none-owed .ensures))
 
 pub of-and-spec : {M : Type 1} → statement M
 of-and-spec =

@@ -13,13 +13,22 @@ last-places-requires : tie.Need-last-places-requires
 last-places-requires c κs = search needs
 
 of-and-requires : tie.Need-of-and-requires
-of-and-requires c κs = (search needs, (search needs, sym (c .before .before .before .before .before .before .before .before .before .before .before .before .before .before .before .before .before .is-and .ensures) ∙ c .before .before .before .before .before .before .before .before .before .before .before .before .before .before .before .before .if1 .taken))
+of-and-requires c κs =
+    let at-if1 = c .before .before .before .before .before .before .before .before .before .before .before .before .before .before .before .before in
+    let at-is-and = at-if1 .before in
+    (search needs, (search needs, sym (at-is-and .is-and .ensures) ∙ at-if1 .if1 .taken))
 
 returns : tie.Need-returns
 returns c = search needs
 
 returns-2 : tie.Need-returns-2
-returns-2 c = (omega arith, (λ q b bits. alone (now (c .before .before .before .before .args .kind)) (now (c .before .before .before .before .args .code)) (now (c .before .before .before .before .args .a)) b bits (now (c .before .before .before .before .args .start)) (now (c .before .before .before .before .args .items)) (c .before .before .before .before .args .e) (sym (c .before .is-and .ensures) ∙ c .if1 .left)))
+returns-2 c =
+    let start = c .before .before .before .before in
+    let args = start .args in (
+      omega arith,
+      (λ q b bits. alone (now (args .kind)) (now (args .code)) (now (args .a)) b bits (now (args .start)) (now (args .items)) (args .e)
+          (sym (c .before .is-and .ensures) ∙ c .if1 .left)),
+    )
 
 pub thinned-conjuncts-spec : {M : Type 1} → statement M
 thinned-conjuncts-spec =

@@ -20,11 +20,17 @@ is-and-requires c κs = search needs
 
 returns-3 : tie.Need-returns-3
 unfolding turnOf
-returns-3 c = rw (c .before .before .before .before .if1 .left, ← c .before .before .before .at16 .ensures, lt-ltb _ _ (c .before .before .if2 .left), ← c .before .is-and .ensures, c .if3 .taken)
+returns-3 c =
+    let at-at16 = c .before .before .before in
+    let at-if1 = at-at16 .before in
+    rw (at-if1 .if1 .left, ← at-at16 .at16 .ensures, lt-ltb _ _ (c .before .before .if2 .left), ← c .before .is-and .ensures, c .if3 .taken)
 
 returns-4 : tie.Need-returns-4
 unfolding turnOf
-returns-4 c = rw (c .before .before .before .before .if1 .left, ← c .before .before .before .at16 .ensures, lt-ltb _ _ (c .before .before .if2 .left), ← c .before .is-and .ensures, c .if3 .left)
+returns-4 c =
+    let at-at16 = c .before .before .before in
+    let at-if1 = at-at16 .before in
+    rw (at-if1 .if1 .left, ← at-at16 .at16 .ensures, lt-ltb _ _ (c .before .before .if2 .left), ← c .before .is-and .ensures, c .if3 .left)
 
 pub turn-spec : {M : Type 1} → statement M
 turn-spec = tie.close (tie.spec returns at16-requires returns-2 is-and-requires returns-3 returns-4)

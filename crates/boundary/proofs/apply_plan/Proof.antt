@@ -29,7 +29,13 @@ same-length c = search needs
 
 -- src/lib.rt:118:9
 returns : tie.Need-returns
-returns c = wrote-as _ _ _ _ _ _ (c .before .before .refused-deriving .ensures) (apply-refused _ _ _ (c .before .before .before .before .before .before .derive-logical-facts .ensures) _ (c .before .before .before .before .before .derive-number .ensures) (c .before .before .before .before .before .before .before .before .before .args .predicates .now) (c .before .before .before .before .if1 .taken))
+returns c =
+    let at-if1 = c .before .before .before .before in
+    let at-derive-number = at-if1 .before in
+    let at-derive-logical-facts = at-derive-number .before in
+    let start = at-derive-logical-facts .before .before .before in
+    wrote-as _ _ _ _ _ _ (c .before .before .refused-deriving .ensures) (apply-refused _ _ _ (at-derive-logical-facts .derive-logical-facts .ensures) _
+    (at-derive-number .derive-number .ensures) (start .args .predicates .now) (at-if1 .if1 .taken))
 
 -- src/lib.rt:121:9
 in-turn-requires : tie.Need-in-turn-requires
@@ -45,7 +51,14 @@ same-length-2 c = search needs
 
 -- src/lib.rt:112:1
 returns-2 : tie.Need-returns-2
-returns-2 c = wrote-as _ _ _ _ _ _ (c .before .before .turn-reply .ensures) (apply-listed _ _ _ (c .before .before .before .before .before .before .before .before .derive-logical-facts .ensures) _ (c .before .before .before .before .before .before .before .derive-number .ensures) (c .before .before .before .before .before .before .before .before .before .before .before .args .predicates .now) _ (c .before .before .before .before .in-turn .ensures) (c .before .before .before .before .before .before .if1 .left))
+returns-2 c =
+    let at-in-turn = c .before .before .before .before in
+    let at-if1 = at-in-turn .before .before in
+    let at-derive-number = at-if1 .before in
+    let at-derive-logical-facts = at-derive-number .before in
+    let start = at-derive-logical-facts .before .before .before in
+    wrote-as _ _ _ _ _ _ (c .before .before .turn-reply .ensures) (apply-listed _ _ _ (at-derive-logical-facts .derive-logical-facts .ensures) _
+    (at-derive-number .derive-number .ensures) (start .args .predicates .now) _ (at-in-turn .in-turn .ensures) (at-if1 .if1 .left))
 
 pub apply-plan-spec : {M : Type 1} → statement M
 apply-plan-spec =

@@ -43,7 +43,13 @@ loop-less c = search needs
 
 -- src/lib.rt:164:5
 loop-again : tie.Need-loop-again Inv-loop μ-loop
-loop-again c = (search needs, length-set (c .before .before .loop .a) (c .before .before .loop .i) (c .at64 .result) ∙ c .before .before .loop .inv .1, cells-next _ _ _ _ (c .before .before .loop .inv .2) (c .at64 .ensures))
+loop-again c =
+    let at-loop = c .before .before in (
+      search needs,
+      length-set (at-loop .loop .a) (at-loop .loop .i) (c .at64 .result) ∙ at-loop .loop .inv .1,
+      cells-next _ _ _ _ (at-loop .loop .inv .2)
+          (c .at64 .ensures),
+    )
 
 -- src/lib.rt:159:1
 returns : tie.Need-returns Inv-loop μ-loop

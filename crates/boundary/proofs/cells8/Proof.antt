@@ -39,7 +39,13 @@ loop-less c = search needs
 
 -- src/lib.rt:152:5
 loop-again : tie.Need-loop-again Inv-loop μ-loop
-loop-again c = (search needs, length-set (c .before .before .loop .a) (c .before .before .loop .i) (c .at8 .result) ∙ c .before .before .loop .inv .1, cells-next _ _ _ _ (c .before .before .loop .inv .2) (c .at8 .ensures))
+loop-again c =
+    let at-loop = c .before .before in (
+      search needs,
+      length-set (at-loop .loop .a) (at-loop .loop .i) (c .at8 .result) ∙ at-loop .loop .inv .1,
+      cells-next _ _ _ _ (at-loop .loop .inv .2)
+          (c .at8 .ensures),
+    )
 
 -- src/lib.rt:147:1
 returns : tie.Need-returns Inv-loop μ-loop

@@ -29,7 +29,11 @@ same-length c = search needs
 
 -- src/lib.rt:65:9
 returns : tie.Need-returns
-returns c = wrote-as _ _ _ _ _ _ (c .before .before .before .before .refused-deriving .ensures) (derive-refused _ _ _ (c .before .before .before .before .before .before .derive-logical-facts .ensures) _ (c .before .derive-number .ensures) (c .if1 .taken))
+returns c =
+    let at-refused-deriving = c .before .before .before .before in
+    let at-derive-logical-facts = at-refused-deriving .before .before in
+    wrote-as _ _ _ _ _ _ (at-refused-deriving .refused-deriving .ensures) (derive-refused _ _ _ (at-derive-logical-facts .derive-logical-facts .ensures) _
+    (c .before .derive-number .ensures) (c .if1 .taken))
 
 -- src/lib.rt:67:9
 identities-of-requires : tie.Need-identities-of-requires
@@ -45,7 +49,15 @@ same-length-2 c = search needs
 
 -- src/lib.rt:58:1
 returns-2 : tie.Need-returns-2
-returns-2 c = wrote-as _ _ _ _ _ _ (wrote-then _ _ _ _ _ _ _ _ (c .before .before .before .before .before .before .before .before .before .before .refused-deriving .ensures) (c .before .before .before .before .before .before .before .before .before .before .refused-deriving .kept .0) (c .before .before .listing .ensures .0)) (derive-listed _ _ _ (c .before .before .before .before .before .before .before .before .before .before .before .before .derive-logical-facts .ensures) _ (c .before .before .before .before .before .before .before .derive-number .ensures) _ (c .before .before .before .before .before .identities-of .ensures) (c .before .before .before .before .before .before .if1 .left))
+returns-2 c =
+    let at-identities-of = c .before .before .before .before .before in
+    let at-if1 = at-identities-of .before in
+    let at-derive-number = at-if1 .before in
+    let at-refused-deriving = at-derive-number .before .before .before in
+    let at-derive-logical-facts = at-refused-deriving .before .before in
+    wrote-as _ _ _ _ _ _ (wrote-then _ _ _ _ _ _ _ _ (at-refused-deriving .refused-deriving .ensures) (at-refused-deriving .refused-deriving .kept .0)
+    (c .before .before .listing .ensures .0)) (derive-listed _ _ _ (at-derive-logical-facts .derive-logical-facts .ensures) _
+    (at-derive-number .derive-number .ensures) _ (at-identities-of .identities-of .ensures) (at-if1 .if1 .left))
 
 pub derive-plan-spec : {M : Type 1} → statement M
 derive-plan-spec =

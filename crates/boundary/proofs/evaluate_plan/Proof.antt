@@ -36,7 +36,12 @@ same-length c = search needs
 
 -- src/lib.rt:136:1
 returns : tie.Need-returns
-returns c = wrote-as _ _ _ _ _ _ (c .before .before .head .ensures) (evaluate-said _ _ _ _ _ _ (c .before .before .before .before .before .before .evaluate .ensures) (c .before .before .before .before .before .evaluation-number .ensures) (c .before .before .before .before .truth-found .ensures))
+returns c =
+    let at-truth-found = c .before .before .before .before in
+    let at-evaluation-number = at-truth-found .before in
+    let at-evaluate = at-evaluation-number .before in
+    wrote-as _ _ _ _ _ _ (c .before .before .head .ensures)
+    (evaluate-said _ _ _ _ _ _ (at-evaluate .evaluate .ensures) (at-evaluation-number .evaluation-number .ensures) (at-truth-found .truth-found .ensures))
 
 pub evaluate-plan-spec : {M : Type 1} → statement M
 evaluate-plan-spec =

@@ -23,7 +23,9 @@ same-length c = search needs
 -- src/lib.rt:34:1
 returns : tie.Need-returns
 unfolding headOf
-returns c = wrote-then _ _ _ _ _ _ _ _ (c .before .before .before .before .before .before .byte .ensures) (c .before .before .before .before .before .before .byte .kept .0) (c .before .before .put8 .ensures)
+returns c =
+    let at-byte = c .before .before .before .before .before .before in
+    wrote-then _ _ _ _ _ _ _ _ (at-byte .byte .ensures) (at-byte .byte .kept .0) (c .before .before .put8 .ensures)
 
 pub head-spec : {M : Type 1} → statement M
 head-spec = tie.close (tie.spec byte-requires put8-requires same-length returns)

@@ -37,7 +37,12 @@ outcome-number-requires c κs = search needs
 
 -- src/lib.rt:84:13
 returns : tie.Need-returns Inv-loop μ-loop
-returns c = turn-refused _ _ _ _ (omega arith) _ (c .before .before .before .before .at16 .ensures) _ (c .before .before .before .apply-predicate .ensures) _ (c .before .outcome-number .ensures) (c .if1 .taken) ∙ c .before .before .before .before .before .before .loop .inv .1
+returns c =
+    let at-apply-predicate = c .before .before .before in
+    let at-at16 = at-apply-predicate .before in
+    let at-loop = at-at16 .before .before in
+    turn-refused _ _ _ _ (omega arith) _ (at-at16 .at16 .ensures) _ (at-apply-predicate .apply-predicate .ensures) _ (c .before .outcome-number .ensures)
+    (c .if1 .taken) ∙ at-loop .loop .inv .1
 
 -- src/lib.rt:91:9
 add-k : tie.Need-add-k Inv-loop μ-loop
@@ -49,11 +54,21 @@ loop-less c = search needs
 
 -- src/lib.rt:78:5
 loop-again : tie.Need-loop-again Inv-loop μ-loop
-loop-again c = (search needs, turn-next (c .before .before .before .before .before .before .before .before .args .p) (c .before .before .before .before .before .before .before .before .args .predicates .now) (c .before .before .before .before .before .before .loop .facts) (c .before .before .before .before .before .before .loop .k) (omega arith) _ (c .before .before .before .before .at16 .ensures) _ (c .before .before .before .apply-predicate .ensures) _ (c .before .outcome-number .ensures) (c .if1 .left) ∙ c .before .before .before .before .before .before .loop .inv .1)
+loop-again c =
+    let at-apply-predicate = c .before .before .before in
+    let at-at16 = at-apply-predicate .before in
+    let at-loop = at-at16 .before .before in
+    let start = at-loop .before .before in (
+      search needs,
+      turn-next (start .args .p) (start .args .predicates .now) (at-loop .loop .facts) (at-loop .loop .k) (omega arith) _
+          (at-at16 .at16 .ensures) _ (at-apply-predicate .apply-predicate .ensures) _ (c .before .outcome-number .ensures) (c .if1 .left) ∙ at-loop .loop .inv .1,
+    )
 
 -- src/lib.rt:73:1
 returns-2 : tie.Need-returns-2 Inv-loop μ-loop
-returns-2 c = turn-done (c .before .before .before .args .p) (c .before .before .before .args .predicates .now) (c .before .loop .facts) (c .before .loop .k) (omega arith) ∙ c .before .loop .inv .1
+returns-2 c =
+    let start = c .before .before .before in
+    turn-done (start .args .p) (start .args .predicates .now) (c .before .loop .facts) (c .before .loop .k) (omega arith) ∙ c .before .loop .inv .1
 
 pub in-turn-spec : {M : Type 1} → statement M
 in-turn-spec =

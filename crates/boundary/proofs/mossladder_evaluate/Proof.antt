@@ -32,7 +32,15 @@ same-length c = search needs
 
 -- src/lib.rt:273:9
 returns : tie.Need-returns
-returns c = wrote-as _ _ _ _ _ _ (c .before .before .refused-reading .ensures) (plan-refused (evaluateReply (c .before .before .before .before .before .before .before .before .before .before .before .before .args .expr) (rowIn (c .before .before .before .before .before .before .before .before .before .before .before .before .args .case .now) (c .before .before .before .before .before .before .before .before .before .before .before .before .args .code .now) (c .before .before .before .before .before .before .before .before .before .before .before .before .args .bits .now))) _ _ (c .before .before .before .before .before .before .read .ensures) _ (c .before .before .before .before .before .reading-number .ensures) (c .before .before .before .before .if1 .taken))
+returns c =
+    let at-if1 = c .before .before .before .before in
+    let at-reading-number = at-if1 .before in
+    let at-read = at-reading-number .before in
+    let start = at-read .before .before .before .before .before .before in
+    let args = start .args in
+    wrote-as _ _ _ _ _ _ (c .before .before .refused-reading .ensures)
+    (plan-refused (evaluateReply (args .expr) (rowIn (args .case .now) (args .code .now) (args .bits .now))) _ _ (at-read .read .ensures) _
+    (at-reading-number .reading-number .ensures) (at-if1 .if1 .taken))
 
 -- src/lib.rt:275:9
 row-in-requires : tie.Need-row-in-requires
@@ -48,7 +56,17 @@ same-length-2 c = search needs
 
 -- src/lib.rt:259:1
 returns-2 : tie.Need-returns-2
-returns-2 c = wrote-as _ _ _ _ _ _ (wrote-as _ _ _ _ _ _ (c .before .before .evaluate-plan .ensures) (ap (λ (r : Row). evaluateReply (c .before .before .before .before .before .before .before .before .before .before .before .before .before .before .args .expr) r (c .before .before .before .before .before .before .before .before .read .result .plan)) (c .before .before .before .before .before .row-in .ensures))) (plan-read (evaluateReply (c .before .before .before .before .before .before .before .before .before .before .before .before .before .before .args .expr) (rowIn (c .before .before .before .before .before .before .before .before .before .before .before .before .before .before .args .case .now) (c .before .before .before .before .before .before .before .before .before .before .before .before .before .before .args .code .now) (c .before .before .before .before .before .before .before .before .before .before .before .before .before .before .args .bits .now))) _ _ (c .before .before .before .before .before .before .before .before .read .ensures) _ (c .before .before .before .before .before .before .before .reading-number .ensures) (c .before .before .before .before .before .before .if1 .left))
+returns-2 c =
+    let at-row-in = c .before .before .before .before .before in
+    let at-if1 = at-row-in .before in
+    let at-reading-number = at-if1 .before in
+    let at-read = at-reading-number .before in
+    let start = at-read .before .before .before .before .before .before in
+    let args = start .args in
+    wrote-as _ _ _ _ _ _
+    (wrote-as _ _ _ _ _ _ (c .before .before .evaluate-plan .ensures) (ap (λ (r : Row). evaluateReply (args .expr) r (at-read .read .result .plan))
+    (at-row-in .row-in .ensures))) (plan-read (evaluateReply (args .expr) (rowIn (args .case .now) (args .code .now) (args .bits .now))) _ _
+    (at-read .read .ensures) _ (at-reading-number .reading-number .ensures) (at-if1 .if1 .left))
 
 pub mossladder-evaluate-spec : {M : Type 1} → statement M
 mossladder-evaluate-spec =

@@ -30,7 +30,12 @@ same-length c = search needs
 
 -- src/lib.rt:217:9
 returns : tie.Need-returns
-returns c = wrote-as _ _ _ _ _ _ (c .before .before .refused-reading .ensures) (plan-refused factsReply _ _ (c .before .before .before .before .before .before .read .ensures) _ (c .before .before .before .before .before .reading-number .ensures) (c .before .before .before .before .if1 .taken))
+returns c =
+    let at-if1 = c .before .before .before .before in
+    let at-reading-number = at-if1 .before in
+    let at-read = at-reading-number .before in
+    wrote-as _ _ _ _ _ _ (c .before .before .refused-reading .ensures)
+    (plan-refused factsReply _ _ (at-read .read .ensures) _ (at-reading-number .reading-number .ensures) (at-if1 .if1 .taken))
 
 -- src/lib.rt:220:9
 last-operator-requires : tie.Need-last-operator-requires
@@ -46,7 +51,13 @@ same-length-2 c = search needs
 
 -- src/lib.rt:210:1
 returns-2 : tie.Need-returns-2
-returns-2 c = wrote-as _ _ _ _ _ _ (wrote-as _ _ _ _ _ _ (c .before .before .derive-plan .ensures) (facts-last _ _ (c .before .before .before .before .last-operator .ensures))) (plan-read factsReply _ _ (c .before .before .before .before .before .before .before .before .read .ensures) _ (c .before .before .before .before .before .before .before .reading-number .ensures) (c .before .before .before .before .before .before .if1 .left))
+returns-2 c =
+    let at-last-operator = c .before .before .before .before in
+    let at-if1 = at-last-operator .before .before in
+    let at-reading-number = at-if1 .before in
+    let at-read = at-reading-number .before in
+    wrote-as _ _ _ _ _ _ (wrote-as _ _ _ _ _ _ (c .before .before .derive-plan .ensures) (facts-last _ _ (at-last-operator .last-operator .ensures)))
+    (plan-read factsReply _ _ (at-read .read .ensures) _ (at-reading-number .reading-number .ensures) (at-if1 .if1 .left))
 
 pub mossladder-facts-spec : {M : Type 1} → statement M
 mossladder-facts-spec =

@@ -27,7 +27,11 @@ same-length c = search needs
 
 -- src/lib.rt:184:1
 returns : tie.Need-returns
-returns c = wrote-as _ _ _ _ _ _ (wrote-then _ _ _ _ _ _ _ _ (c .before .before .before .before .before .before .refused-reading .ensures) (c .before .before .before .before .before .before .refused-reading .kept .0) (c .before .before .write .ensures)) (read-said _ _ (c .before .before .before .before .before .before .before .before .before .read .ensures))
+returns c =
+    let at-refused-reading = c .before .before .before .before .before .before in
+    let at-read = at-refused-reading .before .before .before in
+    wrote-as _ _ _ _ _ _ (wrote-then _ _ _ _ _ _ _ _ (at-refused-reading .refused-reading .ensures) (at-refused-reading .refused-reading .kept .0)
+    (c .before .before .write .ensures)) (read-said _ _ (at-read .read .ensures))
 
 pub mossladder-read-spec : {M : Type 1} → statement M
 mossladder-read-spec =

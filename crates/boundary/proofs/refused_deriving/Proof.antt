@@ -31,7 +31,11 @@ same-length c = search needs
 
 -- src/lib.rt:49:1
 returns : tie.Need-returns
-returns c = wrote-as _ _ _ _ _ _ (c .before .before .head .ensures) (head-same _ _ _ _ (c .before .before .before .before .before .derive-number .ensures) (c .before .before .before .before .derive-place .ensures))
+returns c =
+    let at-derive-place = c .before .before .before .before in
+    let at-derive-number = at-derive-place .before in
+    wrote-as _ _ _ _ _ _ (c .before .before .head .ensures)
+    (head-same _ _ _ _ (at-derive-number .derive-number .ensures) (at-derive-place .derive-place .ensures))
 
 pub refused-deriving-spec : {M : Type 1} → statement M
 refused-deriving-spec =

@@ -27,7 +27,11 @@ same-length c = search needs
 
 -- src/lib.rt:41:1
 returns : tie.Need-returns
-returns c = wrote-as _ _ _ _ _ _ (c .before .before .head .ensures) (head-same _ _ _ _ (c .before .before .before .before .before .reading-number .ensures) (c .before .before .before .before .reading-place .ensures))
+returns c =
+    let at-reading-place = c .before .before .before .before in
+    let at-reading-number = at-reading-place .before in
+    wrote-as _ _ _ _ _ _ (c .before .before .head .ensures)
+    (head-same _ _ _ _ (at-reading-number .reading-number .ensures) (at-reading-place .reading-place .ensures))
 
 pub refused-reading-spec : {M : Type 1} → statement M
 refused-reading-spec =

@@ -41,7 +41,13 @@ same-length c = search needs
 
 -- src/lib.rt:124:1
 returns : tie.Need-returns
-returns c = wrote-as _ _ _ _ _ _ (wrote-then _ _ _ _ _ _ _ _ (c .before .before .before .before .before .before .before .head .ensures) (c .before .before .before .before .before .before .before .head .kept .0) (c .before .before .write .ensures)) (simplify-said _ _ _ _ _ (c .before .before .before .before .before .before .before .before .before .before .before .simplify .ensures) (c .before .before .before .before .before .before .before .before .before .before .rewrite-number .ensures) (c .before .before .before .before .before .before .before .before .before .standing .ensures))
+returns c =
+    let at-head = c .before .before .before .before .before .before .before in
+    let at-standing = at-head .before .before in
+    let at-rewrite-number = at-standing .before in
+    let at-simplify = at-rewrite-number .before in
+    wrote-as _ _ _ _ _ _ (wrote-then _ _ _ _ _ _ _ _ (at-head .head .ensures) (at-head .head .kept .0) (c .before .before .write .ensures))
+    (simplify-said _ _ _ _ _ (at-simplify .simplify .ensures) (at-rewrite-number .rewrite-number .ensures) (at-standing .standing .ensures))
 
 pub simplify-plan-spec : {M : Type 1} → statement M
 simplify-plan-spec =

@@ -32,7 +32,12 @@ same-length c = search needs
 
 -- src/lib.rt:99:1
 returns : tie.Need-returns
-returns c = wrote-as _ _ _ _ _ _ (wrote-then _ _ _ _ _ _ _ _ (c .before .before .before .before .before .before .before .before .head .ensures) (c .before .before .before .before .before .before .before .before .head .kept .0) (c .before .before .listing .ensures .0)) (turn-said _ _ _ _ _ (c .before .before .before .before .before .identities-of .ensures) (c .before .before .before .before .before .before .before .before .before .before .outcome-number .ensures))
+returns c =
+    let at-identities-of = c .before .before .before .before .before in
+    let at-head = at-identities-of .before .before .before in
+    let at-outcome-number = at-head .before .before in
+    wrote-as _ _ _ _ _ _ (wrote-then _ _ _ _ _ _ _ _ (at-head .head .ensures) (at-head .head .kept .0) (c .before .before .listing .ensures .0))
+    (turn-said _ _ _ _ _ (at-identities-of .identities-of .ensures) (at-outcome-number .outcome-number .ensures))
 
 pub turn-reply-spec : {M : Type 1} → statement M
 turn-reply-spec =

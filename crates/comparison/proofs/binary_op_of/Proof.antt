@@ -23,7 +23,19 @@ returns-6 : tie.Need-returns-6
 returns-6 c = sym (ap binaryOpOf (c .if6 .taken))
 
 returns-7 : tie.Need-returns-7
-returns-7 c = rw (ne-eqb _ _ (c .before .before .before .before .before .if1 .left), ne-eqb _ _ (c .before .before .before .before .if2 .left), ne-eqb _ _ (c .before .before .before .if3 .left), ne-eqb _ _ (c .before .before .if4 .left), ne-eqb _ _ (c .before .if5 .left), ne-eqb _ _ (c .if6 .left))
+returns-7 c =
+    let at-if3 = c .before .before .before in
+    let at-if2 = at-if3 .before in
+    let at-if1 = at-if2 .before in
+    rw (
+      ne-eqb _ _ (at-if1 .if1 .left),
+      ne-eqb _ _ (at-if2 .if2 .left),
+      ne-eqb _ _ (at-if3 .if3 .left),
+      ne-eqb _ _ (c .before .before .if4 .left),
+      ne-eqb _ _
+          (c .before .if5 .left),
+      ne-eqb _ _ (c .if6 .left),
+    )
 
 pub binary-op-of-spec : {M : Type 1} → statement M
 binary-op-of-spec =

@@ -36,7 +36,9 @@ join-values-requires c κs = search needs
 
 -- src/lib.rt:147:13
 element-copy-out-m : tie.Need-element-copy-out-m Inv-loop μ-loop
-element-copy-out-m c = goes-on-unsettled (c .before .before .before .before .loop .left) (c .before .before .before .before .loop .m) (c .before .before .before .before .loop .q .settled) (c .before .before .if1 .taken) .1
+element-copy-out-m c =
+    let at-loop = c .before .before .before .before in
+    goes-on-unsettled (at-loop .loop .left) (at-loop .loop .m) (at-loop .loop .q .settled) (c .before .before .if1 .taken) .1
 
 -- src/lib.rt:147:13
 cast-m : tie.Need-cast-m Inv-loop μ-loop
@@ -44,15 +46,29 @@ cast-m c = fits (c .before .before .before .before .before .before) (c .before .
 
 -- src/lib.rt:148:9
 sub-left : tie.Need-sub-left Inv-loop μ-loop
-sub-left c = omega (arith, goes-on-unsettled (c .before .before .before .before .before .loop .left) (c .before .before .before .before .before .loop .m) (c .before .before .before .before .before .loop .q .settled) (c .before .before .before .if1 .taken) .0)
+sub-left c =
+    let at-if1 = c .before .before .before in
+    let at-loop = at-if1 .before .before in
+    omega (arith, goes-on-unsettled (at-loop .loop .left) (at-loop .loop .m) (at-loop .loop .q .settled) (at-if1 .if1 .taken) .0)
 
 -- src/lib.rt:144:5
 loop-less : tie.Need-loop-less Inv-loop μ-loop
-loop-less c = omega (arith, goes-on-unsettled (c .before .before .before .before .before .loop .left) (c .before .before .before .before .before .loop .m) (c .before .before .before .before .before .loop .q .settled) (c .before .before .before .if1 .taken) .0)
+loop-less c =
+    let at-if1 = c .before .before .before in
+    let at-loop = at-if1 .before .before in
+    omega (arith, goes-on-unsettled (at-loop .loop .left) (at-loop .loop .m) (at-loop .loop .q .settled) (at-if1 .if1 .taken) .0)
 
 -- src/lib.rt:144:5
 loop-again : tie.Need-loop-again Inv-loop μ-loop
-loop-again c = (let on = goes-on-unsettled (c .before .before .before .before .before .loop .left) (c .before .before .before .before .before .loop .m) (c .before .before .before .before .before .loop .q .settled) (c .before .before .before .if1 .taken) in chained-step (c .before .before .before .before .before .before .args .t4) (c .before .before .before .before .before .before .args .r) (c .before .before .before .before .before .loop .left) (c .before .before .before .before .before .loop .m) (c .before .before .before .before .before .loop .q .constraints) _ (on .0) (on .1) (c .before .join-values .ensures .whole) ∙ c .before .before .before .before .before .loop .inv .0, c .before .join-values .ensures .good)
+loop-again c =
+    let at-if1 = c .before .before .before in
+    let at-loop = at-if1 .before .before in
+    let start = at-loop .before in (
+      let on = goes-on-unsettled (at-loop .loop .left) (at-loop .loop .m) (at-loop .loop .q .settled) (at-if1 .if1 .taken) in chained-step (start .args .t4)
+          (start .args .r) (at-loop .loop .left) (at-loop .loop .m) (at-loop .loop .q .constraints) _ (on .0) (on .1) (c .before .join-values .ensures .whole)
+          ∙ at-loop .loop .inv .0,
+      c .before .join-values .ensures .good,
+    )
 
 -- src/lib.rt:152:13
 join-settled-requires : tie.Need-join-settled-requires Inv-loop μ-loop
@@ -64,7 +80,14 @@ returns c = record { whole = c .join-settled .ensures .whole ∙ c .before .befo
 
 -- src/lib.rt:136:1
 returns-2 : tie.Need-returns-2 Inv-loop μ-loop
-returns-2 c = record { whole = chain-ended (c .before .before .before .before .args .t4) (c .before .before .before .before .args .r) (c .before .before .before .loop .left) (c .before .before .before .loop .m) (c .before .before .before .loop .q .constraints) (unsettled-ended (c .before .before .before .loop .left) (c .before .before .before .loop .m) (c .before .before .before .loop .q .settled) (c .before .if1 .left) (c .if2 .left)) ∙ c .before .before .before .loop .inv .0; good = c .before .before .before .loop .inv .1 }
+returns-2 c =
+    let at-loop = c .before .before .before in
+    let start = at-loop .before in
+    record {
+      whole = chain-ended (start .args .t4) (start .args .r) (at-loop .loop .left) (at-loop .loop .m) (at-loop .loop .q .constraints)
+          (unsettled-ended (at-loop .loop .left) (at-loop .loop .m) (at-loop .loop .q .settled) (c .before .if1 .left) (c .if2 .left)) ∙ at-loop .loop .inv .0;
+      good = at-loop .loop .inv .1;
+    }
 
 pub join-class-spec : {M : Type 1} → statement M
 join-class-spec =

@@ -27,7 +27,11 @@ abbrev μ-loop : tie.MeasureT-loop
 
 -- the higher representative is an identity
 small : (c : tie.After-root-pair Inv-loop μ-loop) → c .root-pair .result .high < 128
-small c = high-below (c .before .before .before .loop .q) (c .before .before .before .loop .inv .1) (c .before .before .before .before .before .before .args .r) (c .before .before .before .loop .m) (c .before .before .before .before .before .before .pre .1) (goes-on (c .before .before .before .loop .left) (c .before .before .before .loop .m) (c .before .before .loop-test .taken) .1) (c .root-pair .result) (c .root-pair .ensures)
+small c =
+    let at-loop = c .before .before .before in
+    let start = at-loop .before .before .before in
+    high-below (at-loop .loop .q) (at-loop .loop .inv .1) (start .args .r) (at-loop .loop .m) (start .pre .1)
+    (goes-on (at-loop .loop .left) (at-loop .loop .m) (c .before .before .loop-test .taken) .1) (c .root-pair .result) (c .root-pair .ensures)
 
 -- the next member is a byte
 fits : (c : tie.Start Inv-loop μ-loop) (i : ℕ) → Fits w64 (getD (c .args .t5 .next) i 0)
@@ -47,7 +51,9 @@ loop-holds c = (refl, c .before .before .pre .0)
 
 -- src/lib.rt:90:13
 root-pair-requires : tie.Need-root-pair-requires Inv-loop μ-loop
-root-pair-requires c κs = (c .before .before .before .before .before .pre .1, goes-on (c .before .before .loop .left) (c .before .before .loop .m) (c .before .loop-test .taken) .1)
+root-pair-requires c κs =
+    let start = c .before .before .before .before .before in
+    (start .pre .1, goes-on (c .before .before .loop .left) (c .before .before .loop .m) (c .before .loop-test .taken) .1)
 
 -- src/lib.rt:95:22
 element-copy-out-n1 : tie.Need-element-copy-out-n1 Inv-loop μ-loop
@@ -95,7 +101,10 @@ place-of-requires c κs = search needs
 
 -- src/lib.rt:106:13
 element-write-q : tie.Need-element-write-q Inv-loop μ-loop
-element-write-q c = omega (arith, c .before .before .before .before .before .before .before .before .before .before .if1 .taken, small (c .before .before .before .before .before .before .before .before .before .before .before))
+element-write-q c =
+    let at-if1 = c .before .before .before .before .before .before .before .before .before .before in
+    let earlier = at-if1 .before in
+    omega (arith, at-if1 .if1 .taken, small (earlier))
 
 -- src/lib.rt:107:13
 element-write-q-2 : tie.Need-element-write-q-2 Inv-loop μ-loop
@@ -103,11 +112,17 @@ element-write-q-2 c = omega (arith, small (c .before .before .before .before .be
 
 -- src/lib.rt:108:13
 mul-h : tie.Need-mul-h Inv-loop μ-loop
-mul-h c = omega (arith, c .before .before .before .before .before .before .before .before .before .before .if1 .taken, small (c .before .before .before .before .before .before .before .before .before .before .before))
+mul-h c =
+    let at-if1 = c .before .before .before .before .before .before .before .before .before .before in
+    let earlier = at-if1 .before in
+    omega (arith, at-if1 .if1 .taken, small (earlier))
 
 -- src/lib.rt:108:13
 element-set-from-h : tie.Need-element-set-from-h Inv-loop μ-loop
-element-set-from-h c = omega (arith, c .before .before .before .before .before .before .before .before .before .before .if1 .taken, small (c .before .before .before .before .before .before .before .before .before .before .before))
+element-set-from-h c =
+    let at-if1 = c .before .before .before .before .before .before .before .before .before .before in
+    let earlier = at-if1 .before in
+    omega (arith, at-if1 .if1 .taken, small (earlier))
 
 -- src/lib.rt:109:13
 mul-no-literal : tie.Need-mul-no-literal Inv-loop μ-loop
@@ -119,11 +134,17 @@ element-set-from-no-literal c = omega (arith, small (c .before .before .before .
 
 -- src/lib.rt:110:13
 mul-e : tie.Need-mul-e Inv-loop μ-loop
-mul-e c = omega (arith, c .before .before .before .before .before .before .before .before .before .before .if1 .taken, small (c .before .before .before .before .before .before .before .before .before .before .before))
+mul-e c =
+    let at-if1 = c .before .before .before .before .before .before .before .before .before .before in
+    let earlier = at-if1 .before in
+    omega (arith, at-if1 .if1 .taken, small (earlier))
 
 -- src/lib.rt:110:13
 element-set-from-e : tie.Need-element-set-from-e Inv-loop μ-loop
-element-set-from-e c = omega (arith, c .before .before .before .before .before .before .before .before .before .before .if1 .taken, small (c .before .before .before .before .before .before .before .before .before .before .before))
+element-set-from-e c =
+    let at-if1 = c .before .before .before .before .before .before .before .before .before .before in
+    let earlier = at-if1 .before in
+    omega (arith, at-if1 .if1 .taken, small (earlier))
 
 -- src/lib.rt:111:13
 mul-no-entry : tie.Need-mul-no-entry Inv-loop μ-loop
@@ -135,7 +156,10 @@ element-set-from-no-entry c = omega (arith, small (c .before .before .before .be
 
 -- src/lib.rt:114:13
 element-copy-out-m : tie.Need-element-copy-out-m Inv-loop μ-loop
-element-copy-out-m c = goes-on (c .before .before .before .before .loop .left) (c .before .before .before .before .loop .m) (c .before .before .before .loop-test .taken) .1
+element-copy-out-m c =
+    let at-loop-test = c .before .before .before in
+    let at-loop = at-loop-test .before in
+    goes-on (at-loop .loop .left) (at-loop .loop .m) (at-loop-test .loop-test .taken) .1
 
 -- src/lib.rt:114:13
 cast-m : tie.Need-cast-m Inv-loop μ-loop
@@ -143,27 +167,47 @@ cast-m c = fits (c .before .before .before .before .before .before .before .befo
 
 -- src/lib.rt:115:9
 sub-left : tie.Need-sub-left Inv-loop μ-loop
-sub-left c = omega (arith, goes-on (c .before .before .before .before .before .loop .left) (c .before .before .before .before .before .loop .m) (c .before .before .before .before .loop-test .taken) .0)
+sub-left c =
+    let at-loop-test = c .before .before .before .before in
+    let at-loop = at-loop-test .before in
+    omega (arith, goes-on (at-loop .loop .left) (at-loop .loop .m) (at-loop-test .loop-test .taken) .0)
 
 -- src/lib.rt:88:5
 loop-less : tie.Need-loop-less Inv-loop μ-loop
-loop-less c = omega (arith, goes-on (c .before .before .before .before .before .loop .left) (c .before .before .before .before .before .loop .m) (c .before .before .before .before .loop-test .taken) .0)
+loop-less c =
+    let at-loop-test = c .before .before .before .before in
+    let at-loop = at-loop-test .before in
+    omega (arith, goes-on (at-loop .loop .left) (at-loop .loop .m) (at-loop-test .loop-test .taken) .0)
 
 -- src/lib.rt:88:5
 loop-again : tie.Need-loop-again Inv-loop μ-loop
 loop-again c =
-    let g = c .before .before .before .before .before .loop .inv in
-    let on = goes-on (c .before .before .before .before .before .loop .left) (c .before .before .before .before .before .loop .m) (c .before .before .before .before .loop-test .taken) in
-    let q = c .before .before .before .before .before .loop .q in
-    let next = settled-on (c .before .before .before .before .before .before .before .before .args .t5) (c .before .before .before .before .before .before .before .before .args .r) (c .before .before .before .before .before .loop .left) (c .before .before .before .before .before .loop .m) q (c .before .if1 .q) _ (g .1) (c .before .before .before .before .before .before .before .before .pre .1) on in
-    ⊎-elim
-    (λ w. next (w .12 ∙ turned q (g .1) (c .before .before .before .before .before .before .before .before .args .r) (c .before .before .before .before .before .loop .m) (c .before .before .before .before .before .before .before .before .pre .1) (on .1) (c .before .before .root-pair .result) (c .before .before .root-pair .ensures) (w .8 .result) (c .before .before .before .before .before .before .before .empty .result) (c .before .before .before .before .before .before .empty2 .result) (w .0 .taken) (w .8 .ensures) (c .before .before .before .before .before .before .before .empty .ensures) (c .before .before .before .before .before .before .empty2 .ensures)) (g .0))
-    (λ w. next (w .1 ∙ unturned q (g .1) (c .before .before .before .before .before .before .before .before .args .r) (c .before .before .before .before .before .loop .m) (c .before .before .before .before .before .before .before .before .pre .1) (on .1) (c .before .before .root-pair .result) (c .before .before .root-pair .ensures) (λ h. omega arith)) (g .0))
-    (c .before .if1 .came)
+    let at-root-pair = c .before .before in
+    let at-loop-test = at-root-pair .before .before in
+    let at-loop = at-loop-test .before in
+    let at-empty2 = at-loop .before in
+    let at-empty = at-empty2 .before in
+    let start = at-empty .before in
+    let args = start .args in
+    let g = at-loop .loop .inv in
+    let on = goes-on (at-loop .loop .left) (at-loop .loop .m) (at-loop-test .loop-test .taken) in
+    let q = at-loop .loop .q in
+    let next = settled-on (args .t5) (args .r) (at-loop .loop .left) (at-loop .loop .m) q (c .before .if1 .q) _ (g .1) (start .pre .1) on in
+    ⊎-elim (λ w. next (w .12 ∙ turned q (g .1) (args .r) (at-loop .loop .m) (start .pre .1) (on .1) (at-root-pair .root-pair .result)
+    (at-root-pair .root-pair .ensures) (w .8 .result) (at-empty .empty .result) (at-empty2 .empty2 .result) (w .0 .taken) (w .8 .ensures)
+    (at-empty .empty .ensures) (at-empty2 .empty2 .ensures)) (g .0))
+    (λ w. next (w .1 ∙ unturned q (g .1) (args .r) (at-loop .loop .m) (start .pre .1) (on .1) (at-root-pair .root-pair .result)
+    (at-root-pair .root-pair .ensures) (λ h. omega arith)) (g .0)) (c .before .if1 .came)
 
 -- src/lib.rt:78:1
 returns : tie.Need-returns Inv-loop μ-loop
-returns c = record { whole = chain-ended (c .before .before .before .before .args .t5) (c .before .before .before .before .args .r) (c .before .loop .left) (c .before .loop .m) (c .before .loop .q) (c .loop-test .left) ∙ c .before .loop .inv .0; good = λ e. c .before .loop .inv .1 }
+returns c =
+    let start = c .before .before .before .before in
+    record {
+      whole = chain-ended (start .args .t5) (start .args .r) (c .before .loop .left) (c .before .loop .m) (c .before .loop .q) (c .loop-test .left)
+          ∙ c .before .loop .inv .0;
+      good = λ e. c .before .loop .inv .1;
+    }
 
 pub join-settled-spec : {M : Type 1} → statement M
 join-settled-spec =

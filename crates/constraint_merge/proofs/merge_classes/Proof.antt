@@ -70,22 +70,36 @@ loop-less c = search needs
 -- src/lib.rt:170:5
 loop-again : tie.Need-loop-again Inv-loop μ-loop
 loop-again c =
-    let v = c .before .before .before .before .before .loop .inv in
-    let ms = c .before .before .before .before .before .before .members .result in
-    let q = c .before .before .before .before .before .loop .q .constraints in
-    let r = c .before .before .before .before .before .loop .r in
+    let at-loop = c .before .before .before .before .before in
+    let at-members = at-loop .before in
+    let v = at-loop .loop .inv in
+    let ms = at-members .members .result in
+    let q = at-loop .loop .q .constraints in
+    let r = at-loop .loop .r in
     let start = ap (λ (m : ℕ). chained ms r 128 m q) (c .before .second-member .ensures) in
-    ⊎-elim
-    (λ w. (omega arith, ap (λ (j : Joining). j .constraints) (w .2) ∙ steps-next (joinChain ms) _ r q _ (v .1) (w .1 .ensures .whole ∙ start), subst SettledIf (sym (w .2)) (w .1 .ensures .good)))
-    (λ w. (omega arith, ap (λ (j : Joining). j .constraints) (w .1) ∙ steps-next (joinChain ms) _ r q _ (v .1) (chained-past ms r 128 _ q (w .0 .left) ∙ start), subst SettledIf (sym (w .1)) (v .2)))
-    (c .if1 .came)
+    ⊎-elim (λ w. (
+      omega arith,
+      ap (λ (j : Joining). j .constraints) (w .2) ∙ steps-next (joinChain ms) _ r q _ (v .1) (w .1 .ensures .whole ∙ start),
+      subst
+          SettledIf (sym (w .2)) (w .1 .ensures .good),
+    ))
+    (λ w. (
+      omega arith,
+      ap (λ (j : Joining). j .constraints) (w .1) ∙ steps-next (joinChain ms) _ r q _ (v .1)
+          (chained-past ms r 128 _ q (w .0 .left) ∙ start),
+      subst SettledIf (sym (w .1)) (v .2),
+    )) (c .if1 .came)
 
 -- src/lib.rt:161:1
 returns : tie.Need-returns Inv-loop μ-loop
 unfolding mergeClasses
 returns c =
+    let at-members = c .before .before .before in
+    let start = at-members .before in
+    let args = start .args in
     let e : c .before .before .loop .r ≡ 128 = omega arith in
-    (rw e at (c .before .before .loop .inv .1)) ∙ ap (λ (ms : Members). stepsTo (joinChain ms) 128 (c .before .before .before .before .args .t)) (c .before .before .before .members .ensures) ∙ classes-joined (c .before .before .before .before .args .classes) (c .before .before .before .before .args .t) 128 (omega arith)
+    (rw e at (c .before .before .loop .inv .1)) ∙ ap (λ (ms : Members). stepsTo (joinChain ms) 128 (args .t)) (at-members .members .ensures) ∙ classes-joined
+    (args .classes) (args .t) 128 (omega arith)
 
 pub merge-classes-spec : {M : Type 1} → statement M
 merge-classes-spec =

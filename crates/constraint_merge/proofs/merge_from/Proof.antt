@@ -19,13 +19,30 @@ merge-residuals-requires : tie.Need-merge-residuals-requires
 merge-residuals-requires c κs = search needs
 
 returns : tie.Need-returns
-returns c = told-refused (c .before .before .before .before .before .before .before .before .before .before .before .args .a) (c .before .before .before .before .before .before .before .before .before .before .before .args .b) _ _ _ _ (c .before .merge-residuals .result) (c .before .before .before .before .before .before .before .before .before .merge-classes .ensures) (c .before .before .before .before .before .before .before .merge-literals .ensures) (c .before .before .before .before .before .merge-ranges .ensures) (c .before .before .before .merge-non-nulls .ensures) (c .before .merge-residuals .ensures) (c .if1 .taken)
+returns c =
+    let at-merge-non-nulls = c .before .before .before in
+    let at-merge-ranges = at-merge-non-nulls .before .before in
+    let at-merge-literals = at-merge-ranges .before .before in
+    let at-merge-classes = at-merge-literals .before .before in
+    let start = at-merge-classes .before .before in
+    told-refused (start .args .a) (start .args .b) _ _ _ _ (c .before .merge-residuals .result) (at-merge-classes .merge-classes .ensures)
+    (at-merge-literals .merge-literals .ensures) (at-merge-ranges .merge-ranges .ensures) (at-merge-non-nulls .merge-non-nulls .ensures)
+    (c .before .merge-residuals .ensures) (c .if1 .taken)
 
 normalize-requires : tie.Need-normalize-requires
 normalize-requires c κs = search needs
 
 returns-2 : tie.Need-returns-2
-returns-2 c = told-done (c .before .before .before .before .before .before .before .before .before .before .before .before .before .args .a) (c .before .before .before .before .before .before .before .before .before .before .before .before .before .args .b) _ _ _ _ (c .before .before .before .merge-residuals .result) (c .before .before .before .before .before .before .before .before .before .before .before .merge-classes .ensures) (c .before .before .before .before .before .before .before .before .before .merge-literals .ensures) (c .before .before .before .before .before .before .before .merge-ranges .ensures) (c .before .before .before .before .before .merge-non-nulls .ensures) (c .before .before .before .merge-residuals .ensures) (c .before .before .if1 .left) _ (c .normalize .ensures)
+returns-2 c =
+    let at-merge-residuals = c .before .before .before in
+    let at-merge-non-nulls = at-merge-residuals .before .before in
+    let at-merge-ranges = at-merge-non-nulls .before .before in
+    let at-merge-literals = at-merge-ranges .before .before in
+    let at-merge-classes = at-merge-literals .before .before in
+    let start = at-merge-classes .before .before in
+    told-done (start .args .a) (start .args .b) _ _ _ _ (at-merge-residuals .merge-residuals .result) (at-merge-classes .merge-classes .ensures)
+    (at-merge-literals .merge-literals .ensures) (at-merge-ranges .merge-ranges .ensures) (at-merge-non-nulls .merge-non-nulls .ensures)
+    (at-merge-residuals .merge-residuals .ensures) (c .before .before .if1 .left) _ (c .normalize .ensures)
 
 pub merge-from-spec : {M : Type 1} → statement M
 merge-from-spec =

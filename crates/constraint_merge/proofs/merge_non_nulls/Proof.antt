@@ -33,11 +33,20 @@ loop-less c = search needs
 
 loop-again : tie.Need-loop-again Inv-loop μ-loop
 loop-again c =
-    let v = c .before .before .loop .inv in
-    ⊎-elim
-    (λ w. (omega arith, rw (w .1) (steps-next (mergeNonNull (c .before .before .before .args .t2)) _ (c .before .before .loop .i) (c .before .before .loop .q) _ (v .1) (null-laid (c .before .before .loop .i) (c .before .before .loop .q) (c .before .before .before .args .t2) (w .0 .taken)))))
-    (λ w. (omega arith, rw (w .1) (steps-next (mergeNonNull (c .before .before .before .args .t2)) _ (c .before .before .loop .i) (c .before .before .loop .q) _ (v .1) (null-left (c .before .before .loop .i) (c .before .before .loop .q) (c .before .before .before .args .t2) (w .0 .left)))))
-    (c .if1 .came)
+    let at-loop = c .before .before in
+    let start = at-loop .before in
+    let args = start .args in
+    let v = at-loop .loop .inv in
+    ⊎-elim (λ w. (
+      omega arith,
+      rw (w .1) (steps-next (mergeNonNull (args .t2)) _ (at-loop .loop .i) (at-loop .loop .q) _ (v .1)
+          (null-laid (at-loop .loop .i) (at-loop .loop .q) (args .t2) (w .0 .taken))),
+    ))
+    (λ w. (
+      omega arith,
+      rw (w .1) (steps-next (mergeNonNull (args .t2)) _ (at-loop .loop .i) (at-loop .loop .q) _ (v .1)
+          (null-left (at-loop .loop .i) (at-loop .loop .q) (args .t2) (w .0 .left))),
+    )) (c .if1 .came)
 
 returns : tie.Need-returns Inv-loop μ-loop
 unfolding mergeNonNulls

@@ -64,16 +64,24 @@ loop-less c = search needs
 
 loop-again : tie.Need-loop-again Inv-loop μ-loop
 loop-again c =
-    let v = c .before .before .before .loop .inv in
-    let at = ap (λ (k : ValueEquivalenceClasses). rootOf (k .parents) (c .before .before .before .loop .i)) (sym (v .2)) in
-    ⊎-elim
+    let at-loop = c .before .before .before in
+    let start = at-loop .before .before in
+    let args = start .args in
+    let v = at-loop .loop .inv in
+    let at = ap (λ (k : ValueEquivalenceClasses). rootOf (k .parents) (at-loop .loop .i)) (sym (v .2)) in
+    ⊎-elim (λ w. (
+      omega arith,
+      rw (w .6) (steps-next (mergeRange (args .t2)) _ (at-loop .loop .i) (at-loop .loop .q) _ (v .1)
+          (range-laid (at-loop .loop .i) (at-loop .loop .q) (args .t2) _ _ _ (w .0 .taken) (w .2 .ensures ∙ at) (w .4 .ensures) (w .5 .ensures))),
+      rw (w .6)
+          (v .2),
+    ))
     (λ w. (
       omega arith,
-      rw (w .6) (steps-next (mergeRange (c .before .before .before .before .before .args .t2)) _ (c .before .before .before .loop .i) (c .before .before .before .loop .q) _ (v .1) (range-laid (c .before .before .before .loop .i) (c .before .before .before .loop .q) (c .before .before .before .before .before .args .t2) _ _ _ (w .0 .taken) (w .2 .ensures ∙ at) (w .4 .ensures) (w .5 .ensures))),
-      rw (w .6) (v .2),
-    ))
-    (λ w. (omega arith, rw (w .1) (steps-next (mergeRange (c .before .before .before .before .before .args .t2)) _ (c .before .before .before .loop .i) (c .before .before .before .loop .q) _ (v .1) (range-left (c .before .before .before .loop .i) (c .before .before .before .loop .q) (c .before .before .before .before .before .args .t2) (w .0 .left))), rw (w .1) (v .2)))
-    (c .if1 .came)
+      rw (w .1) (steps-next (mergeRange (args .t2)) _ (at-loop .loop .i) (at-loop .loop .q) _ (v .1)
+          (range-left (at-loop .loop .i) (at-loop .loop .q) (args .t2) (w .0 .left))),
+      rw (w .1) (v .2),
+    )) (c .if1 .came)
 
 returns : tie.Need-returns Inv-loop μ-loop
 unfolding mergeRanges

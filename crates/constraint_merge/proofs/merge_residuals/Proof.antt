@@ -11,7 +11,8 @@ use Rattle.constraint_merge.proofs.merge_residuals.Statement.{statement
 use Rattle.constraint_merge.proofs.merge_residuals.Tie as tie
 
 abbrev Inv-loop : tie.InvT-loop
-Inv-loop t many others n list₀ count₀ refused₀ i₀ list count refused i = (i ≤ n) × (n ≡ min many 64) × (withResiduals t list count ≡ stepsTo (mergeResidual others) i t) × (refused ≡ not (roomTo t others i))
+Inv-loop t many others n list₀ count₀ refused₀ i₀ list count refused i = (i ≤ n) × (n ≡ min many 64)
+    × (withResiduals t list count ≡ stepsTo (mergeResidual others) i t) × (refused ≡ not (roomTo t others i))
 
 abbrev μ-loop : tie.MeasureT-loop
 μ-loop t many others n list₀ count₀ refused₀ i₀ list count refused i = n - i
@@ -37,11 +38,16 @@ loop-less c = search needs
 
 loop-again : tie.Need-loop-again Inv-loop μ-loop
 loop-again c =
-    let v = c .before .before .before .loop .inv in (
+    let at-loop = c .before .before .before in
+    let start = at-loop .before .before .before in
+    let args = start .args in
+    let v = at-loop .loop .inv in (
       omega arith,
       v .1,
-      handle-pushed (c .before .before .before .before .before .before .args .t) (c .before .before .before .before .before .before .args .t2) (c .before .before .before .loop .i) (c .before .before .before .loop .list) (c .before .before .before .loop .count) (c .before .before .before .loop .refused) (c .before .push-handle .result) (v .2) (v .3) (c .before .push-handle .ensures),
-      handle-refused (c .before .before .before .before .before .before .args .t) (c .before .before .before .before .before .before .args .t2) (c .before .before .before .loop .i) (c .before .before .before .loop .list) (c .before .before .before .loop .count) (c .before .before .before .loop .refused) (c .before .push-handle .result) (v .2) (v .3) (c .before .push-handle .ensures),
+      handle-pushed (args .t) (args .t2) (at-loop .loop .i) (at-loop .loop .list) (at-loop .loop .count) (at-loop .loop .refused)
+          (c .before .push-handle .result) (v .2) (v .3) (c .before .push-handle .ensures),
+      handle-refused (args .t) (args .t2) (at-loop .loop .i) (at-loop .loop .list) (at-loop .loop .count) (at-loop .loop .refused)
+          (c .before .push-handle .result) (v .2) (v .3) (c .before .push-handle .ensures),
     )
 
 returns : tie.Need-returns Inv-loop μ-loop

@@ -18,27 +18,53 @@ canonical-requires-2 c κs = search needs
 
 -- src/lib.rt:37:24
 cast-k : tie.Need-cast-k
-cast-k c = omega (arith, root-below (c .before .before .before .args .classes .parents) 128 (c .before .before .before .args .left) (c .before .before .canonical .result) (search needs) (c .before .before .canonical .ensures) (c .before .before .before .pre .0))
+cast-k c =
+    let start = c .before .before .before in
+    omega (
+      arith,
+      root-below (start .args .classes .parents) 128 (start .args .left) (c .before .before .canonical .result) (search needs)
+          (c .before .before .canonical .ensures) (start .pre .0),
+    )
 
 -- src/lib.rt:37:9
 element-write-k : tie.Need-element-write-k
-element-write-k c = root-below (c .before .before .before .args .classes .parents) 128 (c .before .before .before .args .right) (c .before .canonical2 .result) (search needs) (c .before .canonical2 .ensures) (c .before .before .before .pre .1)
+element-write-k c =
+    let start = c .before .before .before in
+    root-below (start .args .classes .parents) 128 (start .args .right) (c .before .canonical2 .result) (search needs) (c .before .canonical2 .ensures)
+    (start .pre .1)
 
 -- src/lib.rt:38:9
 returns : tie.Need-returns
-returns c = left-lower (c .before .before .before .args .classes) (c .before .before .before .args .left) (c .before .before .before .args .right) (c .before .before .canonical .result) (c .before .canonical2 .result) (c .before .before .canonical .ensures) (c .before .canonical2 .ensures) (c .if1 .taken)
+returns c =
+    let start = c .before .before .before in
+    let args = start .args in
+    left-lower (args .classes) (args .left) (args .right) (c .before .before .canonical .result) (c .before .canonical2 .result)
+    (c .before .before .canonical .ensures) (c .before .canonical2 .ensures) (c .if1 .taken)
 
 -- src/lib.rt:44:20
 cast-k-2 : tie.Need-cast-k-2
-cast-k-2 c = omega (arith, root-below (c .before .before .before .args .classes .parents) 128 (c .before .before .before .args .right) (c .before .canonical2 .result) (search needs) (c .before .canonical2 .ensures) (c .before .before .before .pre .1))
+cast-k-2 c =
+    let start = c .before .before .before in
+    omega (
+      arith,
+      root-below (start .args .classes .parents) 128 (start .args .right) (c .before .canonical2 .result) (search needs)
+          (c .before .canonical2 .ensures) (start .pre .1),
+    )
 
 -- src/lib.rt:44:5
 element-write-k-2 : tie.Need-element-write-k-2
-element-write-k-2 c = root-below (c .before .before .before .args .classes .parents) 128 (c .before .before .before .args .left) (c .before .before .canonical .result) (search needs) (c .before .before .canonical .ensures) (c .before .before .before .pre .0)
+element-write-k-2 c =
+    let start = c .before .before .before in
+    root-below (start .args .classes .parents) 128 (start .args .left) (c .before .before .canonical .result) (search needs)
+    (c .before .before .canonical .ensures) (start .pre .0)
 
 -- src/lib.rt:28:1
 returns-2 : tie.Need-returns-2
-returns-2 c = right-lower (c .before .before .before .args .classes) (c .before .before .before .args .left) (c .before .before .before .args .right) (c .before .before .canonical .result) (c .before .canonical2 .result) (c .before .before .canonical .ensures) (c .before .canonical2 .ensures) (c .if1 .left)
+returns-2 c =
+    let start = c .before .before .before in
+    let args = start .args in
+    right-lower (args .classes) (args .left) (args .right) (c .before .before .canonical .result) (c .before .canonical2 .result)
+    (c .before .before .canonical .ensures) (c .before .canonical2 .ensures) (c .if1 .left)
 
 pub root-pair-spec : {M : Type 1} → statement M
 root-pair-spec =

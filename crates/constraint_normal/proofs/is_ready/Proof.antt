@@ -57,11 +57,17 @@ is-ready-place-requires c κs = search needs
 
 returns-2 : tie.Need-returns-2 Inv-loop μ-loop
 returns-2 c =
-    let s = c .before .before .before .before .before .before .before .before .before .before .before .before .args .t1 in
-    let i = c .before .before .before .before .before .before .before .loop .i in
-    let told = place-here s i _ _ (c .before .before .before .before .before .before .loop-test .taken) (c .before .before .before .before .before .before .before .before .roots .ensures) (c .before .is-ready-place .ensures) in
-    let bad = c .before .before .before .before .before .before .before .loop .inv .1 ∙ all-fails (readyAt s) i 128 (c .before .before .before .before .before .before .loop-test .taken) (sym told ∙ not-true _ (c .if2 .taken)) in
-    (all-places s _ _ (c .before .before .before .before .before .before .before .before .before .before .parents-ok .ensures) (c .before .before .before .before .before .before .before .before .before .if1 .left) bad, λ e. absurd (false≢true e))
+    let at-loop-test = c .before .before .before .before .before .before in
+    let at-loop = at-loop-test .before in
+    let at-roots = at-loop .before in
+    let at-if1 = at-roots .before in
+    let at-parents-ok = at-if1 .before in
+    let start = at-parents-ok .before .before in
+    let s = start .args .t1 in
+    let i = at-loop .loop .i in
+    let told = place-here s i _ _ (at-loop-test .loop-test .taken) (at-roots .roots .ensures) (c .before .is-ready-place .ensures) in
+    let bad = at-loop .loop .inv .1 ∙ all-fails (readyAt s) i 128 (at-loop-test .loop-test .taken) (sym told ∙ not-true _ (c .if2 .taken)) in
+    (all-places s _ _ (at-parents-ok .parents-ok .ensures) (at-if1 .if1 .left) bad, λ e. absurd (false≢true e))
 
 add-i : tie.Need-add-i Inv-loop μ-loop
 add-i c = search needs
@@ -71,10 +77,14 @@ loop-less c = search needs
 
 loop-again : tie.Need-loop-again Inv-loop μ-loop
 loop-again c =
-    let s = c .before .before .before .before .before .before .before .before .before .before .before .before .args .t1 in
-    let i = c .before .before .before .before .before .before .before .loop .i in
-    let told = place-here s i _ _ (c .before .before .before .before .before .before .loop-test .taken) (c .before .before .before .before .before .before .before .before .roots .ensures) (c .before .is-ready-place .ensures) in
-    (omega arith, c .before .before .before .before .before .before .before .loop .inv .1 ∙ all-passes (readyAt s) i 128 (c .before .before .before .before .before .before .loop-test .taken) (sym told ∙ not-false _ (c .if2 .left)))
+    let at-loop-test = c .before .before .before .before .before .before in
+    let at-loop = at-loop-test .before in
+    let at-roots = at-loop .before in
+    let start = at-roots .before .before .before .before in
+    let s = start .args .t1 in
+    let i = at-loop .loop .i in
+    let told = place-here s i _ _ (at-loop-test .loop-test .taken) (at-roots .roots .ensures) (c .before .is-ready-place .ensures) in
+    (omega arith, at-loop .loop .inv .1 ∙ all-passes (readyAt s) i 128 (at-loop-test .loop-test .taken) (sym told ∙ not-false _ (c .if2 .left)))
 
 returns-3 : tie.Need-returns-3 Inv-loop μ-loop
 returns-3 c =

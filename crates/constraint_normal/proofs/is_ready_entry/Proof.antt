@@ -10,7 +10,9 @@ is-ready-bound-requires-2 : tie.Need-is-ready-bound-requires-2
 is-ready-bound-requires-2 c κs = search needs
 
 returns : tie.Need-returns
-returns c = rw (c .before .is-ready-bound .ensures, c .is-ready-bound2 .ensures) (entry-there (c .before .before .before .before .before .before .args .root) (c .before .before .before .before .before .before .args .e) (c .before .before .if1 .taken))
+returns c =
+    let start = c .before .before .before .before .before .before in
+    rw (c .before .is-ready-bound .ensures, c .is-ready-bound2 .ensures) (entry-there (start .args .root) (start .args .e) (c .before .before .if1 .taken))
 
 is-blank-bound-requires : tie.Need-is-blank-bound-requires
 is-blank-bound-requires c κs = search needs
@@ -19,7 +21,9 @@ is-blank-bound-requires-2 : tie.Need-is-blank-bound-requires-2
 is-blank-bound-requires-2 c κs = search needs
 
 returns-2 : tie.Need-returns-2
-returns-2 c = rw (c .before .is-blank-bound .ensures, c .is-blank-bound2 .ensures) (entry-not (c .before .before .before .before .before .before .args .root) (c .before .before .before .before .before .before .args .e) (c .before .before .if1 .left))
+returns-2 c =
+    let start = c .before .before .before .before .before .before in
+    rw (c .before .is-blank-bound .ensures, c .is-blank-bound2 .ensures) (entry-not (start .args .root) (start .args .e) (c .before .before .if1 .left))
 
 pub is-ready-entry-spec : {M : Type 1} → statement M
 is-ready-entry-spec =

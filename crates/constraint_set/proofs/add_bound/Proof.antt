@@ -57,10 +57,30 @@ cross-check-literals-and-ranges-requires : tie.Need-cross-check-literals-and-ran
 cross-check-literals-and-ranges-requires c κs = search needs
 
 returns-2 : tie.Need-returns-2
-returns-2 c = bound-added (c .before .before .before .before .before .before .before .before .before .before .before .args .s) (c .before .before .before .before .before .before .before .before .before .before .before .args .value) (c .before .before .before .before .before .before .before .before .before .before .if1 .left) _ (c .before .before .before .before .before .before .before .before .canonical .ensures) (c .before .before .before .before .before .before .before .before .before .before .before .args .op) (c .before .before .before .before .before .before .before .before .before .before .before .args .x) _ _ _ _ _ (sym (c .before .before .before .is-bounding .ensures) ∙ c .before .before .if2 .taken) (c .before .before .before .before .before .before .bounds-by .ensures) (c .before .before .before .before .before .tightened .ensures) (c .before .before .before .before .entry-of .ensures) (c .before .is-empty .ensures) (c .cross-check-literals-and-ranges .ensures)
+returns-2 c =
+    let at-is-bounding = c .before .before .before in
+    let at-entry-of = at-is-bounding .before in
+    let at-tightened = at-entry-of .before in
+    let at-bounds-by = at-tightened .before in
+    let at-canonical = at-bounds-by .before .before in
+    let at-if1 = at-canonical .before .before in
+    let start = at-if1 .before in
+    let args = start .args in
+    bound-added (args .s) (args .value) (at-if1 .if1 .left) _ (at-canonical .canonical .ensures) (args .op) (args .x) _ _ _ _ _
+    (sym (at-is-bounding .is-bounding .ensures) ∙ c .before .before .if2 .taken) (at-bounds-by .bounds-by .ensures) (at-tightened .tightened .ensures)
+    (at-entry-of .entry-of .ensures) (c .before .is-empty .ensures) (c .cross-check-literals-and-ranges .ensures)
 
 returns-3 : tie.Need-returns-3
-returns-3 c = entry-added (c .before .before .before .before .before .before .before .before .before .args .s) (c .before .before .before .before .before .before .before .before .before .args .value) (c .before .before .before .before .before .before .before .before .if1 .left) _ (c .before .before .before .before .before .before .canonical .ensures) (c .before .before .before .before .before .before .before .before .before .args .op) (c .before .before .before .before .before .before .before .before .before .args .x) _ _ _ (sym (c .before .is-bounding .ensures) ∙ c .if2 .left) (c .before .before .before .before .bounds-by .ensures) (c .before .before .before .tightened .ensures) (c .before .before .entry-of .ensures)
+returns-3 c =
+    let at-tightened = c .before .before .before in
+    let at-bounds-by = at-tightened .before in
+    let at-canonical = at-bounds-by .before .before in
+    let at-if1 = at-canonical .before .before in
+    let start = at-if1 .before in
+    let args = start .args in
+    entry-added (args .s) (args .value) (at-if1 .if1 .left) _ (at-canonical .canonical .ensures) (args .op) (args .x) _ _ _
+    (sym (c .before .is-bounding .ensures) ∙ c .if2 .left) (at-bounds-by .bounds-by .ensures) (at-tightened .tightened .ensures)
+    (c .before .before .entry-of .ensures)
 
 pub add-bound-spec : {M : Type 1} → statement M
 add-bound-spec =

@@ -34,7 +34,9 @@ canonical-requires c κs = search needs
 
 -- src/lib.rt:341:9
 put-literal-requires : tie.Need-put-literal-requires
-put-literal-requires c κs = root-below (c .before .before .before .before .before .args .s .«equivalence_classes» .parents) 128 _ _ (search needs) (c .canonical .ensures) (omega arith)
+put-literal-requires c κs =
+    let start = c .before .before .before .before .before in
+    root-below (start .args .s .«equivalence_classes» .parents) 128 _ _ (search needs) (c .canonical .ensures) (omega arith)
 
 -- src/lib.rt:342:5
 cross-check-literals-and-ranges-requires : tie.Need-cross-check-literals-and-ranges-requires
@@ -42,7 +44,14 @@ cross-check-literals-and-ranges-requires c κs = search needs
 
 -- src/lib.rt:328:1
 returns-3 : tie.Need-returns-3
-returns-3 c = literal-added (c .before .before .before .before .before .before .before .args .s) (c .before .before .before .before .before .before .before .args .value) (c .before .before .before .before .before .before .if1 .left) _ (c .before .before .canonical .ensures) (c .before .before .before .before .before .before .before .args .literal) _ _ (sym (c .before .before .before .before .before .is-null .ensures) ∙ c .before .before .before .before .if2 .left) (c .before .put-literal .ensures) (c .cross-check-literals-and-ranges .ensures)
+returns-3 c =
+    let at-if2 = c .before .before .before .before in
+    let at-is-null = at-if2 .before in
+    let at-if1 = at-is-null .before in
+    let start = at-if1 .before in
+    let args = start .args in
+    literal-added (args .s) (args .value) (at-if1 .if1 .left) _ (c .before .before .canonical .ensures) (args .literal) _ _
+    (sym (at-is-null .is-null .ensures) ∙ at-if2 .if2 .left) (c .before .put-literal .ensures) (c .cross-check-literals-and-ranges .ensures)
 
 pub add-literal-spec : {M : Type 1} → statement M
 add-literal-spec =

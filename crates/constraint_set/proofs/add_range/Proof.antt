@@ -21,11 +21,18 @@ enum-told c = search needs
 
 returns : tie.Need-returns
 returns c =
+    let at-number = c .before .before .before in
+    let at-scalar-to-f64 = at-number .before .before in
+    let start = at-scalar-to-f64 .before in
+    let args = start .args in
     (λ j. record { constraints = c .before .add-bound .ensures j; recorded = c .is-bounding .ensures j })
-    ∙ sym (range-some (c .before .before .before .before .before .before .args .s) (c .before .before .before .before .before .before .args .value) (c .before .before .before .before .before .before .args .op) (c .before .before .before .before .before .before .args .literal) _ (sym (c .before .before .before .before .before .scalar-to-f64 .ensures) ∙ c .before .before .before .number .given .1))
+    ∙ sym (range-some (args .s) (args .value) (args .op) (args .literal) _ (sym (at-scalar-to-f64 .scalar-to-f64 .ensures) ∙ at-number .number .given .1))
 
 returns-2 : tie.Need-returns-2
-returns-2 c = sym (range-none (c .before .before .before .args .s) (c .before .before .before .args .value) (c .before .before .before .args .op) (c .before .before .before .args .literal) (sym (c .before .before .scalar-to-f64 .ensures) ∙ c .enum-told .given .1))
+returns-2 c =
+    let start = c .before .before .before in
+    let args = start .args in
+    sym (range-none (args .s) (args .value) (args .op) (args .literal) (sym (c .before .before .scalar-to-f64 .ensures) ∙ c .enum-told .given .1))
 
 pub add-range-spec : {M : Type 1} → statement M
 add-range-spec =

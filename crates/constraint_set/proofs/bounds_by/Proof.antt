@@ -49,16 +49,32 @@ returns-2 : tie.Need-returns-2
 returns-2 c = search needs
 
 returns-3 : tie.Need-returns-3
-returns-3 c = rw (c .before .enum-told3 .given .1) (c .tighten-upper .ensures ∙ ap (λ (t : ValueRange). tightenUpper t (c .before .before .before .before .args .x) false) (c .before .before .before .unbounded .ensures))
+returns-3 c =
+    let at-unbounded = c .before .before .before in
+    let start = at-unbounded .before in
+    rw (c .before .enum-told3 .given .1) (c .tighten-upper .ensures ∙ ap (λ (t : ValueRange). tightenUpper t (start .args .x) false)
+    (at-unbounded .unbounded .ensures))
 
 returns-4 : tie.Need-returns-4
-returns-4 c = rw (c .before .enum-told4 .given .1) (c .tighten-upper2 .ensures ∙ ap (λ (t : ValueRange). tightenUpper t (c .before .before .before .before .args .x) true) (c .before .before .before .unbounded .ensures))
+returns-4 c =
+    let at-unbounded = c .before .before .before in
+    let start = at-unbounded .before in
+    rw (c .before .enum-told4 .given .1) (c .tighten-upper2 .ensures ∙ ap (λ (t : ValueRange). tightenUpper t (start .args .x) true)
+    (at-unbounded .unbounded .ensures))
 
 returns-5 : tie.Need-returns-5
-returns-5 c = rw (c .before .enum-told5 .given .1) (c .tighten-lower .ensures ∙ ap (λ (t : ValueRange). tightenLower t (c .before .before .before .before .args .x) false) (c .before .before .before .unbounded .ensures))
+returns-5 c =
+    let at-unbounded = c .before .before .before in
+    let start = at-unbounded .before in
+    rw (c .before .enum-told5 .given .1) (c .tighten-lower .ensures ∙ ap (λ (t : ValueRange). tightenLower t (start .args .x) false)
+    (at-unbounded .unbounded .ensures))
 
 returns-6 : tie.Need-returns-6
-returns-6 c = rw (c .before .enum-told6 .given .1) (c .tighten-lower2 .ensures ∙ ap (λ (t : ValueRange). tightenLower t (c .before .before .before .before .args .x) true) (c .before .before .before .unbounded .ensures))
+returns-6 c =
+    let at-unbounded = c .before .before .before in
+    let start = at-unbounded .before in
+    rw (c .before .enum-told6 .given .1) (c .tighten-lower2 .ensures ∙ ap (λ (t : ValueRange). tightenLower t (start .args .x) true)
+    (at-unbounded .unbounded .ensures))
 
 returns-7 : tie.Need-returns-7
 returns-7 c = search needs

@@ -40,7 +40,14 @@ loop-less : tie.Need-loop-less Inv-loop μ-loop
 loop-less c = search needs
 
 loop-again : tie.Need-loop-again Inv-loop μ-loop
-loop-again c = (omega arith, rw (c .is-crossed .ensures) (any-again (crossedAt (c .before .before .before .before .before .args .t1)) (c .before .before .before .before .loop .i) 128 (c .before .before .before .before .loop .bad) _ (c .before .before .before .loop-test .taken) (c .before .before .before .before .loop .inv .1)))
+loop-again c =
+    let at-loop-test = c .before .before .before in
+    let at-loop = at-loop-test .before in
+    let start = at-loop .before in (
+      omega arith,
+      rw (c .is-crossed .ensures) (any-again (crossedAt (start .args .t1)) (at-loop .loop .i) 128 (at-loop .loop .bad) _
+          (at-loop-test .loop-test .taken) (at-loop .loop .inv .1)),
+    )
 
 returns : tie.Need-returns Inv-loop μ-loop
 unfolding crossCheck

@@ -30,7 +30,10 @@ array-read-if2 : tie.Need-array-read-if2 Inv-loop μ-loop
 array-read-if2 c = search needs
 
 returns : tie.Need-returns Inv-loop μ-loop
-returns c = sym (c .before .before .loop .inv .2 ∙ any-found (λ (k : ℕ). eqb (getD (c .before .before .before .before .args .t1) k 0) (c .before .before .before .before .args .h)) (c .before .before .loop .i) _ (c .before .loop-test .taken) (eq-eqb _ _ (c .if2 .taken)))
+returns c =
+    let start = c .before .before .before .before in
+    sym (c .before .before .loop .inv .2 ∙ any-found (λ (k : ℕ). eqb (getD (start .args .t1) k 0) (start .args .h)) (c .before .before .loop .i) _
+    (c .before .loop-test .taken) (eq-eqb _ _ (c .if2 .taken)))
 
 add-i : tie.Need-add-i Inv-loop μ-loop
 add-i c = search needs
@@ -39,10 +42,19 @@ loop-less : tie.Need-loop-less Inv-loop μ-loop
 loop-less c = search needs
 
 loop-again : tie.Need-loop-again Inv-loop μ-loop
-loop-again c = (omega arith, c .before .before .loop .inv .1, c .before .before .loop .inv .2 ∙ any-missed (λ (k : ℕ). eqb (getD (c .before .before .before .before .args .t1) k 0) (c .before .before .before .before .args .h)) (c .before .before .loop .i) _ (c .before .loop-test .taken) (ne-eqb _ _ (c .if2 .left)))
+loop-again c =
+    let at-loop = c .before .before in
+    let start = at-loop .before .before in (
+      omega arith,
+      at-loop .loop .inv .1,
+      at-loop .loop .inv .2 ∙ any-missed (λ (k : ℕ). eqb (getD (start .args .t1) k 0) (start .args .h)) (at-loop .loop .i)
+          _ (c .before .loop-test .taken) (ne-eqb _ _ (c .if2 .left)),
+    )
 
 returns-2 : tie.Need-returns-2 Inv-loop μ-loop
-returns-2 c = sym (c .before .loop .inv .2 ∙ any-done (λ (k : ℕ). eqb (getD (c .before .before .before .args .t1) k 0) (c .before .before .before .args .h)) (c .before .loop .i) _ (omega arith))
+returns-2 c =
+    let start = c .before .before .before in
+    sym (c .before .loop .inv .2 ∙ any-done (λ (k : ℕ). eqb (getD (start .args .t1) k 0) (start .args .h)) (c .before .loop .i) _ (omega arith))
 
 pub has-handle-spec : {M : Type 1} → statement M
 has-handle-spec =

@@ -12,7 +12,10 @@ enum-told : tie.Need-enum-told
 enum-told c = search needs
 
 returns : tie.Need-returns
-returns c = sym (ap (λ (m : Number). outside m (c .before .before .before .before .before .before .before .before .before .before .before .before .before .args .r)) (c .before .before .before .before .before .before .before .before .before .before .before .n .given .1))
+returns c =
+    let at-n = c .before .before .before .before .before .before .before .before .before .before .before in
+    let start = at-n .before .before in
+    sym (ap (λ (m : Number). outside m (start .args .r)) (at-n .n .given .1))
 
 returns-2 : tie.Need-returns-2
 returns-2 c = search needs

@@ -31,23 +31,33 @@ canonical-requires c κs = search needs
 
 -- src/lib.rt:356:17
 put-literal-requires : tie.Need-put-literal-requires
-put-literal-requires c κs = root-below (c .before .before .before .before .args .s .«equivalence_classes» .parents) 128 _ _ (search needs) (c .canonical .ensures) (omega arith)
+put-literal-requires c κs =
+    let start = c .before .before .before .before in
+    root-below (start .args .s .«equivalence_classes» .parents) 128 _ _ (search needs) (c .canonical .ensures) (omega arith)
 
 -- src/lib.rt:357:13
 mul-h : tie.Need-mul-h
-mul-h c = omega (arith, root-below (c .before .before .before .before .before .args .s .«equivalence_classes» .parents) 128 _ _ (search needs) (c .before .canonical .ensures) (omega arith))
+mul-h c =
+    let start = c .before .before .before .before .before in
+    omega (arith, root-below (start .args .s .«equivalence_classes» .parents) 128 _ _ (search needs) (c .before .canonical .ensures) (omega arith))
 
 -- src/lib.rt:357:13
 element-copy-out-h : tie.Need-element-copy-out-h
-element-copy-out-h c = root-below (c .before .before .before .before .before .args .s .«equivalence_classes» .parents) 128 _ _ (search needs) (c .before .canonical .ensures) (omega arith)
+element-copy-out-h c =
+    let start = c .before .before .before .before .before in
+    root-below (start .args .s .«equivalence_classes» .parents) 128 _ _ (search needs) (c .before .canonical .ensures) (omega arith)
 
 -- src/lib.rt:358:13
 mul-e : tie.Need-mul-e
-mul-e c = omega (arith, root-below (c .before .before .before .before .before .before .args .s .«equivalence_classes» .parents) 128 _ _ (search needs) (c .before .before .canonical .ensures) (omega arith))
+mul-e c =
+    let start = c .before .before .before .before .before .before in
+    omega (arith, root-below (start .args .s .«equivalence_classes» .parents) 128 _ _ (search needs) (c .before .before .canonical .ensures) (omega arith))
 
 -- src/lib.rt:358:13
 element-copy-out-e : tie.Need-element-copy-out-e
-element-copy-out-e c = root-below (c .before .before .before .before .before .before .args .s .«equivalence_classes» .parents) 128 _ _ (search needs) (c .before .before .canonical .ensures) (omega arith)
+element-copy-out-e c =
+    let start = c .before .before .before .before .before .before in
+    root-below (start .args .s .«equivalence_classes» .parents) 128 _ _ (search needs) (c .before .before .canonical .ensures) (omega arith)
 
 -- src/lib.rt:359:9
 is-crossed-requires : tie.Need-is-crossed-requires
@@ -55,7 +65,19 @@ is-crossed-requires c κs = search needs
 
 -- src/lib.rt:346:1
 returns-2 : tie.Need-returns-2
-returns-2 c = literal-checked (c .before .before .before .before .before .before .before .before .args .s) (c .before .before .before .before .before .before .before .before .pre .1 (both-told (c .before .before .before .before .before .before .before .before .args .checked) (c .before .before .before .before .before .before .before .is-null .result) (c .before .before .before .before .before .before .if1 .left) .0)) (c .before .before .before .before .canonical .result) (root-below (c .before .before .before .before .before .before .before .before .args .s .«equivalence_classes» .parents) 128 _ _ (search needs) (c .before .before .before .before .canonical .ensures) (omega arith)) (c .before .before .before .before .before .before .before .before .args .literal) (c .before .before .before .before .before .before .before .before .args .value) (c .before .before .before .before .before .before .before .before .pre .0) (c .before .before .before .before .canonical .ensures) (sym (c .before .before .before .before .before .before .before .is-null .ensures) ∙ both-told (c .before .before .before .before .before .before .before .before .args .checked) (c .before .before .before .before .before .before .before .is-null .result) (c .before .before .before .before .before .before .if1 .left) .1) (c .before .before .before .put-literal .result) _ (c .before .before .before .put-literal .ensures) (c .is-crossed .ensures)
+returns-2 c = literal-checked (c .before .before .before .before .before .before .before .before .args .s)
+    (c .before .before .before .before .before .before .before .before .pre .1
+    (both-told (c .before .before .before .before .before .before .before .before .args .checked)
+    (c .before .before .before .before .before .before .before .is-null .result) (c .before .before .before .before .before .before .if1 .left) .0))
+    (c .before .before .before .before .canonical .result)
+    (root-below (c .before .before .before .before .before .before .before .before .args .s .«equivalence_classes» .parents) 128 _ _ (search needs)
+    (c .before .before .before .before .canonical .ensures) (omega arith)) (c .before .before .before .before .before .before .before .before .args .literal)
+    (c .before .before .before .before .before .before .before .before .args .value)
+    (c .before .before .before .before .before .before .before .before .pre .0) (c .before .before .before .before .canonical .ensures)
+    (sym (c .before .before .before .before .before .before .before .is-null .ensures) ∙ both-told
+    (c .before .before .before .before .before .before .before .before .args .checked)
+    (c .before .before .before .before .before .before .before .is-null .result) (c .before .before .before .before .before .before .if1 .left) .1)
+    (c .before .before .before .put-literal .result) _ (c .before .before .before .put-literal .ensures) (c .is-crossed .ensures)
 
 pub lay-literal-spec : {M : Type 1} → statement M
 lay-literal-spec =

@@ -48,11 +48,23 @@ loop-less c = search needs
 -- src/lib.rt:372:5
 loop-again : tie.Need-loop-again Inv-loop μ-loop
 loop-again c =
-    let v = c .before .before .before .loop .inv in
-    ⊎-elim
-    (λ w. (omega arith, rw (w .2) (steps-next (mergeLiteral (c .before .before .before .before .args .t2)) _ (c .before .before .before .loop .i) (c .before .before .before .loop .q) _ (v .1) (literal-laid (c .before .before .before .loop .i) (c .before .before .before .loop .q) (c .before .before .before .before .args .t2) _ (w .0 .taken) (w .1 .ensures))), λ e. subst Checked (sym (w .2)) (added-checked (c .before .before .before .loop .q) (c .before .before .before .loop .i) _ _ (c .before .before .loop-test .taken) (w .1 .ensures))))
-    (λ w. (omega arith, rw (w .1) (steps-next (mergeLiteral (c .before .before .before .before .args .t2)) _ (c .before .before .before .loop .i) (c .before .before .before .loop .q) _ (v .1) (literal-left (c .before .before .before .loop .i) (c .before .before .before .loop .q) (c .before .before .before .before .args .t2) (w .0 .left))), λ e. subst Checked (sym (w .1)) (v .2 (sym (w .2) ∙ e))))
-    (c .if1 .came)
+    let at-loop = c .before .before .before in
+    let start = at-loop .before in
+    let args = start .args in
+    let v = at-loop .loop .inv in
+    ⊎-elim (λ w. (
+      omega arith,
+      rw (w .2) (steps-next (mergeLiteral (args .t2)) _ (at-loop .loop .i) (at-loop .loop .q) _ (v .1)
+          (literal-laid (at-loop .loop .i) (at-loop .loop .q) (args .t2) _ (w .0 .taken) (w .1 .ensures))),
+      λ e. subst Checked (sym (w .2))
+          (added-checked (at-loop .loop .q) (at-loop .loop .i) _ _ (c .before .before .loop-test .taken) (w .1 .ensures)),
+    ))
+    (λ w. (
+      omega arith,
+      rw (w .1) (steps-next (mergeLiteral (args .t2)) _ (at-loop .loop .i) (at-loop .loop .q) _ (v .1)
+          (literal-left (at-loop .loop .i) (at-loop .loop .q) (args .t2) (w .0 .left))),
+      λ e. subst Checked (sym (w .1)) (v .2 (sym (w .2) ∙ e)),
+    )) (c .if1 .came)
 
 -- src/lib.rt:366:1
 returns : tie.Need-returns Inv-loop μ-loop

@@ -43,10 +43,12 @@ loop-less c = search needs
 
 loop-again : tie.Need-loop-again Inv-loop μ-loop
 loop-again c =
-    let v = c .before .before .loop .inv in
+    let at-loop = c .before .before in
+    let start = at-loop .before .before .before in
+    let v = at-loop .loop .inv in
     ⊎-elim
-    (λ w. (omega arith, rw (w .2) (null-moved (c .before .before .before .before .before .args .s) (c .before .before .loop .i) (c .before .before .loop .t) _ (v .1) (w .0 .taken) (w .1 .ensures))))
-    (λ w. (omega arith, rw (w .1) (null-idle (c .before .before .before .before .before .args .s) (c .before .before .loop .i) (c .before .before .loop .t) (v .1) (w .0 .left))))
+    (λ w. (omega arith, rw (w .2) (null-moved (start .args .s) (at-loop .loop .i) (at-loop .loop .t) _ (v .1) (w .0 .taken) (w .1 .ensures))))
+    (λ w. (omega arith, rw (w .1) (null-idle (start .args .s) (at-loop .loop .i) (at-loop .loop .t) (v .1) (w .0 .left))))
     (c .if1 .came)
 
 returns : tie.Need-returns Inv-loop μ-loop

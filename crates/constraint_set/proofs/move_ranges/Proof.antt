@@ -67,11 +67,15 @@ loop-less c = search needs
 
 loop-again : tie.Need-loop-again Inv-loop μ-loop
 loop-again c =
-    let v = c .before .before .before .loop .inv in
-    ⊎-elim
-    (λ w. (omega arith, rw (w .7) (range-moved (c .before .before .before .before .before .before .before .args .s) (c .before .before .before .loop .i) (c .before .before .before .loop .t) _ _ _ _ (v .1) (w .0 .taken) (w .2 .ensures) (w .4 .ensures) (w .5 .ensures) (w .6 .ensures))))
-    (λ w. (omega arith, rw (w .1) (range-idle (c .before .before .before .before .before .before .before .args .s) (c .before .before .before .loop .i) (c .before .before .before .loop .t) (v .1) (w .0 .left))))
-    (c .if1 .came)
+    let at-loop = c .before .before .before in
+    let start = at-loop .before .before .before .before in
+    let v = at-loop .loop .inv in
+    ⊎-elim (λ w. (
+      omega arith,
+      rw (w .7) (range-moved (start .args .s) (at-loop .loop .i) (at-loop .loop .t) _ _ _ _ (v .1) (w .0 .taken) (w .2 .ensures)
+          (w .4 .ensures) (w .5 .ensures) (w .6 .ensures)),
+    ))
+    (λ w. (omega arith, rw (w .1) (range-idle (start .args .s) (at-loop .loop .i) (at-loop .loop .t) (v .1) (w .0 .left)))) (c .if1 .came)
 
 returns : tie.Need-returns Inv-loop μ-loop
 returns c = c .before .loop .inv .1 ∙ ranges-done (c .before .before .before .before .before .args .s) (c .before .loop .i) (omega arith)

@@ -17,7 +17,14 @@ cross-check-literals-and-ranges-requires c κs = search needs
 
 returns : tie.Need-returns
 unfolding normalized
-returns c = rw (c .cross-check-literals-and-ranges .ensures, c .before .move-ranges .ensures, c .before .before .move-literals .ensures, c .before .before .before .move-non-nulls .ensures)
+returns c =
+    let at-move-non-nulls = c .before .before .before in
+    rw (
+      c .cross-check-literals-and-ranges .ensures,
+      c .before .move-ranges .ensures,
+      c .before .before .move-literals .ensures,
+      at-move-non-nulls .move-non-nulls .ensures,
+    )
 
 pub normalize-spec : {M : Type 1} → statement M
 normalize-spec =

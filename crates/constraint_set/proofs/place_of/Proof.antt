@@ -32,7 +32,14 @@ is-crossed-requires c κs = search needs
 
 -- src/lib.rt:547:1
 returns : tie.Need-returns
-returns c = place-made (c .before .before .before .before .before .args .h1) (c .before .before .before .before .before .args .h2) (c .before .before .before .before .literal-on .result) (c .before .before .before .before .before .args .e1) (c .before .before .before .before .before .args .e2) (c .before .before .before .range-on .result) (c .before .before .literal-bad .result) (c .before .range-bad .result) (c .is-crossed .result) (c .before .before .before .before .literal-on .ensures) (c .before .before .before .range-on .ensures) (c .before .before .literal-bad .ensures) (c .before .range-bad .ensures) (c .is-crossed .ensures)
+returns c =
+    let at-range-on = c .before .before .before in
+    let at-literal-on = at-range-on .before in
+    let start = at-literal-on .before in
+    let args = start .args in
+    place-made (args .h1) (args .h2) (at-literal-on .literal-on .result) (args .e1) (args .e2) (at-range-on .range-on .result)
+    (c .before .before .literal-bad .result) (c .before .range-bad .result) (c .is-crossed .result) (at-literal-on .literal-on .ensures)
+    (at-range-on .range-on .ensures) (c .before .before .literal-bad .ensures) (c .before .range-bad .ensures) (c .is-crossed .ensures)
 
 pub place-of-spec : {M : Type 1} → statement M
 place-of-spec =

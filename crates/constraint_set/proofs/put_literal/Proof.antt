@@ -39,7 +39,10 @@ element-set-from-h c = search needs
 -- src/lib.rt:313:1
 returns : tie.Need-returns
 unfolding putNonNull
-returns c = literal-put (nullWritten (c .before .before .before .args .s) (c .before .before .before .args .r)) (c .before .before .before .args .r) (c .before .before .before .args .literal) _ _ (c .before .literal-clashes .ensures) (c .literal-kept .ensures)
+returns c =
+    let start = c .before .before .before in
+    let args = start .args in
+    literal-put (nullWritten (args .s) (args .r)) (args .r) (args .literal) _ _ (c .before .literal-clashes .ensures) (c .literal-kept .ensures)
 
 pub put-literal-spec : {M : Type 1} → statement M
 put-literal-spec =

@@ -18,7 +18,9 @@ insert-definition-requires : tie.Need-insert-definition-requires
 insert-definition-requires c κs = search needs
 
 returns : tie.Need-returns
-returns c = carry-put _ _ _ _ _ _ _ _ (c .before .before .before .before .before .before .at8 .ensures) (c .before .before .at16 .ensures) (c .before .insert-lineage .ensures) (c .insert-definition .ensures)
+returns c =
+    let at-at8 = c .before .before .before .before .before .before in
+    carry-put _ _ _ _ _ _ _ _ (at-at8 .at8 .ensures) (c .before .before .at16 .ensures) (c .before .insert-lineage .ensures) (c .insert-definition .ensures)
 
 pub carry-spec : {M : Type 1} → statement M
 carry-spec =

@@ -18,7 +18,16 @@ define-requires c κs = search needs
 
 returns : tie.Need-returns
 unfolding computed
-returns c = rw (← c .before .before .before .before .value-for-expr .ensures, eq-eqb _ _ (c .before .before .before .if1 .taken), ← c .before .before .derived-column .ensures, ← c .before .definition-entry .ensures) (c .define .ensures)
+returns c =
+    let at-if1 = c .before .before .before in
+    let at-value-for-expr = at-if1 .before in
+    rw (
+      ← at-value-for-expr .value-for-expr .ensures,
+      eq-eqb _ _ (at-if1 .if1 .taken),
+      ← c .before .before .derived-column .ensures,
+      ←
+          c .before .definition-entry .ensures,
+    ) (c .define .ensures)
 
 assign-requires : tie.Need-assign-requires
 assign-requires c κs = search needs

@@ -12,7 +12,8 @@ use Rattle.derive_columns.proofs.keys_ok.Statement.{statement}
 use Rattle.derive_columns.proofs.keys_ok.Tie as tie
 
 abbrev Inv-loop : tie.InvT-loop
-Inv-loop kind code a b bits start items r n k₀ k = (k ≤ n) × (allFrom (keyOk (nodeOf kind code a b bits start) items r) 0 n ≡ allFrom (keyOk (nodeOf kind code a b bits start) items r) k (n - k))
+Inv-loop kind code a b bits start items r n k₀ k = (k ≤ n) × (allFrom (keyOk (nodeOf kind code a b bits start) items r) 0 n ≡ allFrom
+    (keyOk (nodeOf kind code a b bits start) items r) k (n - k))
 
 abbrev μ-loop : tie.MeasureT-loop
 μ-loop kind code a b bits start items r n k₀ k = n - k
@@ -25,7 +26,9 @@ key-ok-requires c κs = search needs
 
 returns : tie.Need-returns Inv-loop μ-loop
 unfolding keysOk
-returns c = sym (c .before .before .before .loop .inv .1 ∙ all-fails _ _ _ (c .before .before .loop-test .taken) (sym (c .before .key-ok .ensures) ∙ not-true _ (c .if1 .taken)))
+returns c =
+    let at-loop = c .before .before .before in
+    sym (at-loop .loop .inv .1 ∙ all-fails _ _ _ (c .before .before .loop-test .taken) (sym (c .before .key-ok .ensures) ∙ not-true _ (c .if1 .taken)))
 
 add-k : tie.Need-add-k Inv-loop μ-loop
 add-k c = search needs
@@ -34,7 +37,12 @@ loop-less : tie.Need-loop-less Inv-loop μ-loop
 loop-less c = search needs
 
 loop-again : tie.Need-loop-again Inv-loop μ-loop
-loop-again c = (omega arith, c .before .before .before .loop .inv .1 ∙ all-passes _ _ _ (c .before .before .loop-test .taken) (sym (c .before .key-ok .ensures) ∙ not-false _ (c .if1 .left)))
+loop-again c =
+    let at-loop = c .before .before .before in (
+      omega arith,
+      at-loop .loop .inv .1 ∙ all-passes _ _ _ (c .before .before .loop-test .taken)
+          (sym (c .before .key-ok .ensures) ∙ not-false _ (c .if1 .left)),
+    )
 
 returns-2 : tie.Need-returns-2 Inv-loop μ-loop
 unfolding keysOk

@@ -20,13 +20,22 @@ refuse-requires-2 : tie.Need-refuse-requires-2
 refuse-requires-2 c κs = search needs
 
 returns-2 : tie.Need-returns-2
-returns-2 c = derive-past _ _ _ (c .before .before .before .before .plan-ok .ensures) _ (not-false _ (c .before .before .before .if1 .left)) (c .before .if2 .taken) (c .refuse2 .ensures)
+returns-2 c =
+    let at-if1 = c .before .before .before in
+    let at-plan-ok = at-if1 .before in
+    derive-past _ _ _ (at-plan-ok .plan-ok .ensures) _ (not-false _ (at-if1 .if1 .left)) (c .before .if2 .taken) (c .refuse2 .ensures)
 
 derive-to-requires : tie.Need-derive-to-requires
-derive-to-requires c κs = omega (arith, few-operators (c .before .before .before .before .before .args .p) (sym (c .before .before .before .plan-ok .ensures) ∙ not-false _ (c .before .before .if1 .left)), c .if2 .left)
+derive-to-requires c κs =
+    let at-plan-ok = c .before .before .before in
+    let start = at-plan-ok .before .before in
+    omega (arith, few-operators (start .args .p) (sym (at-plan-ok .plan-ok .ensures) ∙ not-false _ (c .before .before .if1 .left)), c .if2 .left)
 
 returns-3 : tie.Need-returns-3
-returns-3 c = derive-done _ _ _ (c .before .before .before .before .plan-ok .ensures) _ (not-false _ (c .before .before .before .if1 .left)) (c .before .if2 .left) (c .derive-to .ensures)
+returns-3 c =
+    let at-if1 = c .before .before .before in
+    let at-plan-ok = at-if1 .before in
+    derive-done _ _ _ (at-plan-ok .plan-ok .ensures) _ (not-false _ (at-if1 .if1 .left)) (c .before .if2 .left) (c .derive-to .ensures)
 
 pub derive-logical-facts-spec : {M : Type 1} → statement M
 derive-logical-facts-spec =

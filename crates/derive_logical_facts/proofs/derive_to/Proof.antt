@@ -36,16 +36,28 @@ earlier-requires-2 : tie.Need-earlier-requires-2 Inv-loop μ-loop
 earlier-requires-2 c κs = search needs
 
 mul-l : tie.Need-mul-l Inv-loop μ-loop
-mul-l c = omega (arith, c .before .before .earlier .ensures, c .before .before .before .before .before .loop-test .taken, c .before .before .before .before .before .before .before .before .before .before .pre)
+mul-l c =
+    let at-loop-test = c .before .before .before .before .before in
+    let start = at-loop-test .before .before .before .before .before in
+    omega (arith, c .before .before .earlier .ensures, at-loop-test .loop-test .taken, start .pre)
 
 array-copy-out-l : tie.Need-array-copy-out-l Inv-loop μ-loop
-array-copy-out-l c = omega (arith, c .before .before .earlier .ensures, c .before .before .before .before .before .loop-test .taken, c .before .before .before .before .before .before .before .before .before .before .pre)
+array-copy-out-l c =
+    let at-loop-test = c .before .before .before .before .before in
+    let start = at-loop-test .before .before .before .before .before in
+    omega (arith, c .before .before .earlier .ensures, at-loop-test .loop-test .taken, start .pre)
 
 mul-r : tie.Need-mul-r Inv-loop μ-loop
-mul-r c = omega (arith, c .before .earlier2 .ensures, c .before .before .before .before .before .before .loop-test .taken, c .before .before .before .before .before .before .before .before .before .before .before .pre)
+mul-r c =
+    let at-loop-test = c .before .before .before .before .before .before in
+    let start = at-loop-test .before .before .before .before .before in
+    omega (arith, c .before .earlier2 .ensures, at-loop-test .loop-test .taken, start .pre)
 
 array-copy-out-r : tie.Need-array-copy-out-r Inv-loop μ-loop
-array-copy-out-r c = omega (arith, c .before .earlier2 .ensures, c .before .before .before .before .before .before .loop-test .taken, c .before .before .before .before .before .before .before .before .before .before .before .pre)
+array-copy-out-r c =
+    let at-loop-test = c .before .before .before .before .before .before in
+    let start = at-loop-test .before .before .before .before .before in
+    omega (arith, c .before .earlier2 .ensures, at-loop-test .loop-test .taken, start .pre)
 
 step-requires : tie.Need-step-requires Inv-loop μ-loop
 step-requires c κs = search needs
@@ -54,19 +66,46 @@ cast-i : tie.Need-cast-i Inv-loop μ-loop
 cast-i c = search needs
 
 mul-table : tie.Need-mul-table Inv-loop μ-loop
-mul-table c = omega (arith, c .before .before .before .before .before .before .before .before .loop-test .taken, c .before .before .before .before .before .before .before .before .before .before .before .before .before .pre)
+mul-table c =
+    let at-loop-test = c .before .before .before .before .before .before .before .before in
+    let start = at-loop-test .before .before .before .before .before in
+    omega (arith, at-loop-test .loop-test .taken, start .pre)
 
 array-set-from-table : tie.Need-array-set-from-table Inv-loop μ-loop
-array-set-from-table c = omega (arith, c .before .before .before .before .before .before .before .before .loop-test .taken, c .before .before .before .before .before .before .before .before .before .before .before .before .before .pre)
+array-set-from-table c =
+    let at-loop-test = c .before .before .before .before .before .before .before .before in
+    let start = at-loop-test .before .before .before .before .before in
+    omega (arith, at-loop-test .loop-test .taken, start .pre)
 
 add-k : tie.Need-add-k Inv-loop μ-loop
-add-k c = omega (arith, c .before .before .before .before .before .before .before .before .loop-test .taken, c .before .before .before .before .before .before .before .before .before .before .before .before .before .pre)
+add-k c =
+    let at-loop-test = c .before .before .before .before .before .before .before .before in
+    let start = at-loop-test .before .before .before .before .before in
+    omega (arith, at-loop-test .loop-test .taken, start .pre)
 
 loop-less : tie.Need-loop-less Inv-loop μ-loop
-loop-less c = omega (arith, c .before .before .before .before .before .before .before .before .loop-test .taken, c .before .before .before .before .before .before .before .before .before .before .before .before .before .pre)
+loop-less c =
+    let at-loop-test = c .before .before .before .before .before .before .before .before in
+    let start = at-loop-test .before .before .before .before .before in
+    omega (arith, at-loop-test .loop-test .taken, start .pre)
 
 loop-again : tie.Need-loop-again Inv-loop μ-loop
-loop-again c = (omega (arith, c .before .before .before .before .before .before .before .before .loop-test .taken), holds-turn (c .before .before .before .before .before .before .before .before .before .before .before .before .before .args .p) (c .before .before .before .before .before .before .before .before .before .loop .k) (c .before .before .before .before .before .before .before .before .before .loop .table) (omega (arith, c .before .before .before .before .before .before .before .before .loop-test .taken, c .before .before .before .before .before .before .before .before .before .before .before .before .before .pre)) (c .before .before .before .before .before .before .before .before .before .loop .inv .1) _ _ _ _ _ _ _ (c .before .before .before .before .before .before .before .before .before .before .before .identities-of .ensures) (c .before .before .before .before .before .before .before .operator-at .ensures) (c .before .before .before .before .before .before .outer-of .ensures) (c .before .before .before .before .inner-of .ensures) (c .before .before .before .before .before .earlier .ensures) (c .before .before .before .earlier2 .ensures) (c .step .ensures))
+loop-again c =
+    let at-earlier2 = c .before .before .before in
+    let at-inner-of = at-earlier2 .before in
+    let at-earlier = at-inner-of .before in
+    let at-outer-of = at-earlier .before in
+    let at-operator-at = at-outer-of .before in
+    let at-loop-test = at-operator-at .before in
+    let at-loop = at-loop-test .before in
+    let at-identities-of = at-loop .before .before in
+    let start = at-identities-of .before .before in (
+      omega (arith, at-loop-test .loop-test .taken),
+      holds-turn (start .args .p) (at-loop .loop .k) (at-loop .loop .table)
+          (omega (arith, at-loop-test .loop-test .taken, start .pre)) (at-loop .loop .inv .1) _ _ _ _ _ _ _ (at-identities-of .identities-of .ensures)
+          (at-operator-at .operator-at .ensures) (at-outer-of .outer-of .ensures) (at-inner-of .inner-of .ensures) (at-earlier .earlier .ensures)
+          (at-earlier2 .earlier2 .ensures) (c .step .ensures),
+    )
 
 mul-d : tie.Need-mul-d Inv-loop μ-loop
 mul-d c = omega (arith, c .before .before .before .before .before .pre)
@@ -75,7 +114,9 @@ array-copy-out-d : tie.Need-array-copy-out-d Inv-loop μ-loop
 array-copy-out-d c = omega (arith, c .before .before .before .before .before .pre)
 
 returns : tie.Need-returns Inv-loop μ-loop
-returns c = holds-end (c .before .before .before .before .before .before .args .p) _ _ _ (c .before .before .before .before .before .before .pre) (omega (arith, c .before .loop-test .left)) (c .before .before .loop .inv .1)
+returns c =
+    let start = c .before .before .before .before .before .before in
+    holds-end (start .args .p) _ _ _ (start .pre) (omega (arith, c .before .loop-test .left)) (c .before .before .loop .inv .1)
 
 pub derive-to-spec : {M : Type 1} → statement M
 derive-to-spec =

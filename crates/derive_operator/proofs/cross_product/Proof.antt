@@ -16,7 +16,10 @@ is-accepted-requires-2 : tie.Need-is-accepted-requires-2
 is-accepted-requires-2 c κs = search needs
 
 returns-2 : tie.Need-returns-2
-returns-2 c = given-does _ _ _ (c .before .before .before .is-accepted .ensures) _ (not-false _ (c .before .before .if1 .left)) (given-stays _ _ _ (c .before .is-accepted2 .ensures) (not-true _ (c .if2 .taken)))
+returns-2 c =
+    let at-is-accepted = c .before .before .before in
+    given-does _ _ _ (at-is-accepted .is-accepted .ensures) _ (not-false _ (c .before .before .if1 .left))
+    (given-stays _ _ _ (c .before .is-accepted2 .ensures) (not-true _ (c .if2 .taken)))
 
 inputs-merged-requires : tie.Need-inputs-merged-requires
 inputs-merged-requires c κs = search needs
@@ -25,7 +28,15 @@ fit-requires : tie.Need-fit-requires
 fit-requires c κs = search needs
 
 returns-3 : tie.Need-returns-3
-returns-3 c = given-does _ _ _ (c .before .before .before .before .before .before .before .is-accepted .ensures) _ (not-false _ (c .before .before .before .before .before .before .if1 .left)) (given-does _ _ _ (c .before .before .before .before .before .is-accepted2 .ensures) _ (not-false _ (c .before .before .before .before .if2 .left)) (c .fit .ensures ∙ ap (fitted (c .before .before .before .before .before .before .before .before .args .h)) (c .before .inputs-merged .ensures)))
+returns-3 c =
+    let at-if2 = c .before .before .before .before in
+    let at-is-accepted2 = at-if2 .before in
+    let at-if1 = at-is-accepted2 .before in
+    let at-is-accepted = at-if1 .before in
+    let start = at-is-accepted .before in
+    given-does _ _ _ (at-is-accepted .is-accepted .ensures) _ (not-false _ (at-if1 .if1 .left))
+    (given-does _ _ _ (at-is-accepted2 .is-accepted2 .ensures) _ (not-false _ (at-if2 .if2 .left))
+    (c .fit .ensures ∙ ap (fitted (start .args .h)) (c .before .inputs-merged .ensures)))
 
 pub cross-product-spec : {M : Type 1} → statement M
 cross-product-spec =

@@ -18,7 +18,10 @@ accept-with-requires : tie.Need-accept-with-requires
 accept-with-requires c κs = search needs
 
 returns : tie.Need-returns
-returns c = accept-same _ _ _ _ _ (c .accept-with .ensures) (c .before .before .derived-columns .ensures ∙ ap (derivedColumns _ _ _) (c .before .before .before .before .before .before .no-columns .ensures)) (c .before .empty .ensures)
+returns c =
+    let at-no-columns = c .before .before .before .before .before .before in
+    accept-same _ _ _ _ _ (c .accept-with .ensures) (c .before .before .derived-columns .ensures ∙ ap (derivedColumns _ _ _)
+    (at-no-columns .no-columns .ensures)) (c .before .empty .ensures)
 
 pub derived-columns-spec : {M : Type 1} → statement M
 derived-columns-spec =

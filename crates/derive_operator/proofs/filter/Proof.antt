@@ -15,7 +15,11 @@ fit-applied-requires c κs = search needs
 
 returns : tie.Need-returns
 unfolding filtered predicateApplied
-returns c = c .fit-applied .ensures ∙ ap (λ (a : Applied). fitted (c .before .before .before .before .before .before .before .before .before .before .before .before .before .before .before .before .args .h) (answered (c .before .before .before .before .before .before .before .before .before .before .before .before .before .before .before .before .args .t4) (c .before .before .before .before .before .before .before .before .before .before .before .before .before .before .before .before .args .t4) a)) (c .before .apply-to .ensures) ∙ ap (fitted (c .before .before .before .before .before .before .before .before .before .before .before .before .before .before .before .before .args .h)) (answered-given (c .before .before .before .before .before .before .before .before .before .before .before .before .before .before .before .before .args .t4) (c .before .before .before .before .before .before .before .before .before .before .before .before .before .before .before .before .args .t4) (c .before .before .before .before .before .before .before .before .before .before .before .before .before .before .before .before .args .t4 .constraints) (predicateApplied (c .before .before .before .before .before .before .before .before .before .before .before .before .before .before .before .before .args .p) (c .before .before .before .before .before .before .before .before .before .before .before .before .before .before .before .before .args .t4 .lineage) (c .before .before .before .before .before .before .before .before .before .before .before .before .before .before .before .before .args .t4 .constraints) (c .before .before .before .before .before .before .before .before .before .before .before .before .before .before .before .before .args .e .0)))
+returns c =
+    let start = c .before .before .before .before .before .before .before .before .before .before .before .before .before .before .before .before in
+    let args = start .args in
+    c .fit-applied .ensures ∙ ap (λ (a : Applied). fitted (args .h) (answered (args .t4) (args .t4) a)) (c .before .apply-to .ensures) ∙ ap (fitted (args .h))
+    (answered-given (args .t4) (args .t4) (args .t4 .constraints) (predicateApplied (args .p) (args .t4 .lineage) (args .t4 .constraints) (args .e .0)))
 
 pub filter-spec : {M : Type 1} → statement M
 filter-spec = tie.close (tie.spec apply-to-requires fit-applied-requires returns)

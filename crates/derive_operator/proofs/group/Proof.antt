@@ -33,7 +33,20 @@ accept-with-requires : tie.Need-accept-with-requires
 accept-with-requires c κs = search needs
 
 returns-2 : tie.Need-returns-2
-returns-2 c = group-done _ _ _ _ _ _ _ (c .before .before .before .before .before .before .before .before .before .before .before .before .before .before .before .before .before .before .before .before .before .before .before .before .before .keys-ok .ensures) _ (not-false _ (c .before .before .before .before .before .before .before .before .before .before .before .before .before .before .before .before .before .before .before .before .before .before .before .before .if1 .left)) (accept-same _ _ _ _ _ (c .accept-with .ensures) (c .before .before .derived-columns .ensures ∙ ap (derivedColumns (c .before .before .before .before .before .before .before .before .before .before .before .before .before .before .before .before .before .before .before .before .before .before .before .before .before .before .before .before .before .before .before .before .before .before .before .before .before .before .before .before .before .before .before .before .args .ids) (c .before .before .before .before .before .before .before .before .before .before .before .before .before .before .before .before .before .before .before .before .before .before .before .before .before .before .before .before .before .before .before .before .before .before .before .before .before .before .before .before .before .before .before .before .args .p .items .a) (c .before .before .before .before .before .before .before .before .before .before .before .before .before .before .before .before .before .before .before .before .before .before .before .before .before .before .before .before .before .before .before .before .before .before .before .before .before .before .before .before .before .before .before .before .args .aggregates)) (c .before .before .before .before .before .before .key-columns .ensures ∙ ap (λ (g : ColumnFacts). keysOf (nodeAt (c .before .before .before .before .before .before .before .before .before .before .before .before .before .before .before .before .before .before .before .before .before .before .before .before .before .before .before .before .before .before .before .before .before .before .before .before .before .before .before .before .before .before .before .before .args .p)) g (c .before .before .before .before .before .before .before .before .before .before .before .before .before .before .before .before .before .before .before .before .before .before .before .before .before .before .before .before .before .before .before .before .before .before .before .before .before .before .before .before .before .before .before .before .args .p .items .a) (c .before .before .before .before .before .before .before .before .before .before .before .before .before .before .before .before .before .before .before .before .before .before .before .before .before .before .before .before .before .before .before .before .before .before .before .before .before .before .before .before .before .before .before .before .args .keys)) (c .before .before .before .before .before .before .before .before .before .before .before .before .before .before .before .before .before .before .before .before .before .before .before .columns-in .ensures))) (c .before .empty .ensures))
+returns-2 c =
+    let at-key-columns = c .before .before .before .before .before .before in
+    let at-columns-in = at-key-columns .before .before .before .before .before .before .before .before .before .before .before .before .before .before .before
+    .before .before in
+    let at-if1 = at-columns-in .before in
+    let at-keys-ok = at-if1 .before in
+    let start = at-keys-ok .before .before .before .before .before .before .before .before .before .before .before .before .before .before .before .before
+    .before .before .before in
+    let args = start .args in
+    group-done _ _ _ _ _ _ _ (at-keys-ok .keys-ok .ensures) _ (not-false _ (at-if1 .if1 .left))
+    (accept-same _ _ _ _ _ (c .accept-with .ensures)
+    (c .before .before .derived-columns .ensures ∙ ap (derivedColumns (args .ids) (args .p .items .a) (args .aggregates))
+    (at-key-columns .key-columns .ensures ∙ ap (λ (g : ColumnFacts). keysOf (nodeAt (args .p)) g (args .p .items .a) (args .keys))
+    (at-columns-in .columns-in .ensures))) (c .before .empty .ensures))
 
 pub group-spec : {M : Type 1} → statement M
 group-spec =

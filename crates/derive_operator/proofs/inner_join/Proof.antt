@@ -15,7 +15,11 @@ selection-requires : tie.Need-selection-requires
 selection-requires c κs = search needs
 
 returns : tie.Need-returns
-returns c = c .selection .ensures ∙ ap (λ (l : DeriveAnswer). given l (λ m. fitted (c .before .before .before .args .h) (filtered (c .before .before .before .args .p) (c .before .before .before .args .on) m))) (c .before .fit .ensures ∙ ap (fitted (c .before .before .before .args .h)) (c .before .before .inputs-merged .ensures))
+returns c =
+    let start = c .before .before .before in
+    let args = start .args in
+    c .selection .ensures ∙ ap (λ (l : DeriveAnswer). given l (λ m. fitted (args .h) (filtered (args .p) (args .on) m)))
+    (c .before .fit .ensures ∙ ap (fitted (args .h)) (c .before .before .inputs-merged .ensures))
 
 pub inner-join-spec : {M : Type 1} → statement M
 inner-join-spec =

@@ -78,7 +78,11 @@ returns-6 : tie.Need-returns-6
 returns-6 c = rw (c .before .before .enum-told6 .given .1) (c .outer-join .ensures)
 
 returns-7 : tie.Need-returns-7
-returns-7 c = rw (c .before .before .enum-told7 .given .1) (c .outer-join2 .ensures ∙ ap (λ (s : ConstraintSet). accepted (withConstraints (inputsMerged (c .before .before .before .before .args .f) (c .before .before .before .before .args .g) false .facts) s)) (c .before .empty .ensures))
+returns-7 c =
+    let start = c .before .before .before .before in
+    rw (c .before .before .enum-told7 .given .1)
+    (c .outer-join2 .ensures ∙ ap (λ (s : ConstraintSet). accepted (withConstraints (inputsMerged (start .args .f) (start .args .g) false .facts) s))
+    (c .before .empty .ensures))
 
 returns-8 : tie.Need-returns-8
 returns-8 c = rw (c .before .before .how .given .1) (c .left-mark .ensures)

@@ -16,7 +16,12 @@ accept-with-requires : tie.Need-accept-with-requires
 accept-with-requires c κs = search needs
 
 returns : tie.Need-returns
-returns c = accept-same _ _ _ _ _ (c .accept-with .ensures) (c .before .before .derived-column .ensures ∙ ap (λ (g : ColumnFacts). derivedColumn (c .before .before .before .before .args .ids) g (c .before .before .before .before .args .marker .0)) (c .before .before .before .columns-in .ensures)) refl
+returns c =
+    let at-columns-in = c .before .before .before in
+    let start = at-columns-in .before in
+    accept-same _ _ _ _ _ (c .accept-with .ensures)
+    (c .before .before .derived-column .ensures ∙ ap (λ (g : ColumnFacts). derivedColumn (start .args .ids) g (start .args .marker .0))
+    (at-columns-in .columns-in .ensures)) refl
 
 pub left-mark-spec : {M : Type 1} → statement M
 left-mark-spec =

@@ -16,7 +16,10 @@ accept-requires : tie.Need-accept-requires
 accept-requires c κs = search needs
 
 returns : tie.Need-returns
-returns c = c .accept .ensures ∙ ap accepted (c .before .with-constraints .ensures ∙ ap (λ (f : LogicalFacts). withConstraints f (c .before .before .before .args .s)) (c .before .before .both-columns .ensures))
+returns c =
+    let start = c .before .before .before in
+    c .accept .ensures ∙ ap accepted (c .before .with-constraints .ensures ∙ ap (λ (f : LogicalFacts). withConstraints f (start .args .s))
+    (c .before .before .both-columns .ensures))
 
 pub outer-join-spec : {M : Type 1} → statement M
 outer-join-spec =

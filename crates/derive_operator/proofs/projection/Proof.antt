@@ -19,7 +19,15 @@ accept-with-requires : tie.Need-accept-with-requires
 accept-with-requires c κs = search needs
 
 returns : tie.Need-returns
-returns c = given-does _ _ _ (c .before .before .before .before .before .before .before .before .before .before .is-accepted .ensures) _ (c .before .before .before .before .before .before .before .before .before .if1 .taken) (accept-same _ _ _ _ _ (c .accept-with .ensures) (c .before .before .project-columns .ensures ∙ ap (λ (g : ColumnFacts). projected g (c .before .before .before .before .before .before .before .before .before .before .before .args .p .items .a) (c .before .before .before .before .before .before .before .before .before .before .before .args .columns)) (c .before .before .before .before .before .before .columns-in .ensures)) refl)
+returns c =
+    let at-columns-in = c .before .before .before .before .before .before in
+    let at-if1 = at-columns-in .before .before .before in
+    let at-is-accepted = at-if1 .before in
+    let start = at-is-accepted .before in
+    given-does _ _ _ (at-is-accepted .is-accepted .ensures) _ (at-if1 .if1 .taken)
+    (accept-same _ _ _ _ _ (c .accept-with .ensures)
+    (c .before .before .project-columns .ensures ∙ ap (λ (g : ColumnFacts). projected g (start .args .p .items .a) (start .args .columns))
+    (at-columns-in .columns-in .ensures)) refl)
 
 returns-2 : tie.Need-returns-2
 returns-2 c = given-stays _ _ _ (c .before .is-accepted .ensures) (c .if1 .left)

@@ -1,4 +1,5 @@
-use Rattle.expr_simplify.proofs.Runs.{run-none, run-some, enter-off, enter-past, enter-boolean, enter-other, enter-not, enter-compare, enter-and, enter-or, next-small}
+use Rattle.expr_simplify.proofs.Runs.{run-none, run-some, enter-off, enter-past, enter-boolean, enter-other, enter-not, enter-compare}
+use Rattle.expr_simplify.proofs.Runs.{enter-and, enter-or, next-small}
 use Rattle.expr_simplify.proofs.ShapeAnswers.{off, stay}
 use Rattle.expr_simplify.specs.declared.Tally.{Tally}
 use Rattle.expr_simplify.specs.Passage.{itemsOf, tablesOf, resultOf, outOf, placed}
@@ -63,10 +64,44 @@ simplify-run-below t =
     simplify-run.Pre
 
 abbrev simplify-expr-calls : ℕ → simplify-expr-lts.Claims
-simplify-expr-calls t = (refused-reads.Asked, refused-reads.Learnt, same-reads.Asked, same-reads.Learnt, shape-at-reads.Asked, shape-at-reads.Learnt, simplify-expr-below t, simplify-expr.Post, not-step-reads.Asked, not-step-reads.Learnt, compare-step-reads.Asked, compare-step-reads.Learnt, no-tally-reads.Asked, no-tally-reads.Learnt, simplify-run-below t, simplify-run.Post)
+simplify-expr-calls t = (
+  refused-reads.Asked,
+  refused-reads.Learnt,
+  same-reads.Asked,
+  same-reads.Learnt,
+  shape-at-reads.Asked,
+  shape-at-reads.Learnt,
+  simplify-expr-below t,
+  simplify-expr.Post,
+  not-step-reads.Asked,
+  not-step-reads.Learnt,
+  compare-step-reads.Asked,
+  compare-step-reads.Learnt,
+  no-tally-reads.Asked,
+  no-tally-reads.Learnt,
+  simplify-run-below t,
+  simplify-run.Post,
+)
 
 abbrev simplify-run-calls : ℕ → simplify-run-lts.Claims
-simplify-run-calls t = (bottom-reads.Asked, bottom-reads.Learnt, at16-reads.Asked, at16-reads.Learnt, simplify-expr-below t, simplify-expr.Post, shape-at-reads.Asked, shape-at-reads.Learnt, is-literal-reads.Asked, is-literal-reads.Learnt, count-reads.Asked, count-reads.Learnt, simplify-run-below t, simplify-run.Post, put-back-reads.Asked, put-back-reads.Learnt)
+simplify-run-calls t = (
+  bottom-reads.Asked,
+  bottom-reads.Learnt,
+  at16-reads.Asked,
+  at16-reads.Learnt,
+  simplify-expr-below t,
+  simplify-expr.Post,
+  shape-at-reads.Asked,
+  shape-at-reads.Learnt,
+  is-literal-reads.Asked,
+  is-literal-reads.Learnt,
+  count-reads.Asked,
+  count-reads.Learnt,
+  simplify-run-below t,
+  simplify-run.Post,
+  put-back-reads.Asked,
+  put-back-reads.Learnt,
+)
 
 simplify-expr-refused-requires : (t : ℕ) → simplify-expr-lts.Need-refused-requires (simplify-expr-calls t) (simplify-expr-at t) simplify-expr.Post
 simplify-expr-refused-requires t c κs =
@@ -74,7 +109,11 @@ simplify-expr-refused-requires t c κs =
 
 simplify-expr-returns : (t : ℕ) → simplify-expr-lts.Need-returns (simplify-expr-calls t) (simplify-expr-at t) simplify-expr.Post
 simplify-expr-returns t c =
-    let a = c .before .before .before .args in off (now (a .kind)) (now (a .code)) (now (a .a)) (now (a .b)) (now (a .start)) (now (a .bits)) (now (a .ia)) (now (a .ib)) (c .refused .result) (a .s) (c .refused .ensures) ∙ enter-off (a .h) (a .s .ok) (tablesOf (now (a .kind)) (now (a .code)) (now (a .a)) (now (a .b)) (now (a .start)) (now (a .bits)) (now (a .ia)) (now (a .ib)) (a .s)) (a .e) (not-true _ (c .before .if1 .taken))
+    let start = c .before .before .before in
+    let a = start .args in off (now (a .kind)) (now (a .code)) (now (a .a)) (now (a .b)) (now (a .start)) (now (a .bits)) (now (a .ia)) (now (a .ib))
+    (c .refused .result) (a .s) (c .refused .ensures) ∙ enter-off (a .h) (a .s .ok)
+    (tablesOf (now (a .kind)) (now (a .code)) (now (a .a)) (now (a .b)) (now (a .start)) (now (a .bits)) (now (a .ia)) (now (a .ib)) (a .s)) (a .e)
+    (not-true _ (c .before .if1 .taken))
 
 simplify-expr-same-requires : (t : ℕ) → simplify-expr-lts.Need-same-requires (simplify-expr-calls t) (simplify-expr-at t) simplify-expr.Post
 simplify-expr-same-requires t c κs =
@@ -82,7 +121,11 @@ simplify-expr-same-requires t c κs =
 
 simplify-expr-returns-2 : (t : ℕ) → simplify-expr-lts.Need-returns-2 (simplify-expr-calls t) (simplify-expr-at t) simplify-expr.Post
 simplify-expr-returns-2 t c =
-    let a = c .before .before .before .before .args in stay (now (a .kind)) (now (a .code)) (now (a .a)) (now (a .b)) (now (a .start)) (now (a .bits)) (now (a .ia)) (now (a .ib)) (c .same .result) (a .s) (a .e) (c .same .ensures) ∙ enter-past (a .h) (a .s .ok) (tablesOf (now (a .kind)) (now (a .code)) (now (a .a)) (now (a .b)) (now (a .start)) (now (a .bits)) (now (a .ia)) (now (a .ib)) (a .s)) (a .e) (not-false _ (c .before .before .if1 .left)) (c .before .if2 .taken)
+    let start = c .before .before .before .before in
+    let a = start .args in stay (now (a .kind)) (now (a .code)) (now (a .a)) (now (a .b)) (now (a .start)) (now (a .bits)) (now (a .ia)) (now (a .ib))
+    (c .same .result) (a .s) (a .e) (c .same .ensures) ∙ enter-past (a .h) (a .s .ok)
+    (tablesOf (now (a .kind)) (now (a .code)) (now (a .a)) (now (a .b)) (now (a .start)) (now (a .bits)) (now (a .ia)) (now (a .ib)) (a .s)) (a .e)
+    (not-false _ (c .before .before .if1 .left)) (c .before .if2 .taken)
 
 simplify-expr-shape-at-requires : (t : ℕ) → simplify-expr-lts.Need-shape-at-requires (simplify-expr-calls t) (simplify-expr-at t) simplify-expr.Post
 simplify-expr-shape-at-requires t c κs =
@@ -102,7 +145,10 @@ simplify-expr-enum-known-shape t c =
 
 simplify-expr-simplify-expr-requires : (t : ℕ) → simplify-expr-lts.Need-simplify-expr-requires (simplify-expr-calls t) (simplify-expr-at t) simplify-expr.Post
 simplify-expr-simplify-expr-requires t c κs =
-    (omega (arith, c .before .before .before .before .before .before .before .before .before .before .before .before .before .before .before .before .before .before .before .before .before .before .before .before .if2 .left, c .before .before .before .before .before .before .before .before .before .before .before .before .before .before .before .before .before .before .before .before .before .before .before .before .before .before .before .pre .0), tt)
+    let at-if2 = c .before .before .before .before .before .before .before .before .before .before .before .before .before .before .before .before .before
+    .before .before .before .before .before .before .before in
+    let start = at-if2 .before .before .before in
+    (omega (arith, at-if2 .if2 .left, start .pre .0), tt)
 
 simplify-expr-not-step-requires : (t : ℕ) → simplify-expr-lts.Need-not-step-requires (simplify-expr-calls t) (simplify-expr-at t) simplify-expr.Post
 simplify-expr-not-step-requires t c κs =
@@ -112,13 +158,21 @@ simplify-expr-enum-known-shape-2 : (t : ℕ) → simplify-expr-lts.Need-enum-kno
 simplify-expr-enum-known-shape-2 t c =
     search needs
 
-simplify-expr-simplify-expr-requires-2 : (t : ℕ) → simplify-expr-lts.Need-simplify-expr-requires-2 (simplify-expr-calls t) (simplify-expr-at t) simplify-expr.Post
+simplify-expr-simplify-expr-requires-2 : (t : ℕ) → simplify-expr-lts.Need-simplify-expr-requires-2 (simplify-expr-calls t) (simplify-expr-at t)
+    simplify-expr.Post
 simplify-expr-simplify-expr-requires-2 t c κs =
-    (omega (arith, c .before .before .before .before .before .before .before .before .before .before .before .before .before .before .before .before .before .before .before .before .before .before .before .before .if2 .left, c .before .before .before .before .before .before .before .before .before .before .before .before .before .before .before .before .before .before .before .before .before .before .before .before .before .before .before .pre .0), tt)
+    let at-if2 = c .before .before .before .before .before .before .before .before .before .before .before .before .before .before .before .before .before
+    .before .before .before .before .before .before .before in
+    let start = at-if2 .before .before .before in
+    (omega (arith, at-if2 .if2 .left, start .pre .0), tt)
 
-simplify-expr-simplify-expr-requires-3 : (t : ℕ) → simplify-expr-lts.Need-simplify-expr-requires-3 (simplify-expr-calls t) (simplify-expr-at t) simplify-expr.Post
+simplify-expr-simplify-expr-requires-3 : (t : ℕ) → simplify-expr-lts.Need-simplify-expr-requires-3 (simplify-expr-calls t) (simplify-expr-at t)
+    simplify-expr.Post
 simplify-expr-simplify-expr-requires-3 t c κs =
-    (omega (arith, c .before .before .before .before .before .before .before .before .before .before .before .before .before .before .before .before .before .before .before .before .before .before .before .before .before .before .before .before .before .before .before .before .before .if2 .left, c .before .before .before .before .before .before .before .before .before .before .before .before .before .before .before .before .before .before .before .before .before .before .before .before .before .before .before .before .before .before .before .before .before .before .before .before .pre .0), tt)
+    let at-if2 = c .before .before .before .before .before .before .before .before .before .before .before .before .before .before .before .before .before
+    .before .before .before .before .before .before .before .before .before .before .before .before .before .before .before .before in
+    let start = at-if2 .before .before .before in
+    (omega (arith, at-if2 .if2 .left, start .pre .0), tt)
 
 simplify-expr-compare-step-requires : (t : ℕ) → simplify-expr-lts.Need-compare-step-requires (simplify-expr-calls t) (simplify-expr-at t) simplify-expr.Post
 simplify-expr-compare-step-requires t c κs =
@@ -142,7 +196,16 @@ simplify-expr-cast-simplify-run-2 t c =
 
 simplify-expr-simplify-run-requires : (t : ℕ) → simplify-expr-lts.Need-simplify-run-requires (simplify-expr-calls t) (simplify-expr-at t) simplify-expr.Post
 simplify-expr-simplify-run-requires t c κs =
-    let z : c .before .before .before .before .before .before .before .before .no-tally .result .kept ≡ 0 = ap (λ (x : Tally). x .kept) (c .before .before .before .before .before .before .before .before .no-tally .ensures) in (omega (arith, c .before .before .before .before .before .before .before .before .before .before .before .before .before .before .before .before .before .before .before .before .before .before .before .before .before .if2 .left, c .before .before .before .before .before .before .before .before .before .before .before .before .before .before .before .before .before .before .before .before .before .before .before .before .before .before .before .before .pre .0, c .before .before .before .before .before .before .before .before .before .known-told3 .given), (omega (arith, c .before .before .before .before .before .before .before .before .before .known-told3 .given), omega (arith, z, c .before .before .before .before .before .before .before .before .before .known-told3 .given)))
+    let at-no-tally = c .before .before .before .before .before .before .before .before in
+    let at-known-told3 = at-no-tally .before in
+    let at-if2 = at-known-told3 .before .before .before .before .before .before .before .before .before .before .before .before .before .before .before
+    .before in
+    let start = at-if2 .before .before .before in
+    let z : at-no-tally .no-tally .result .kept ≡ 0 = ap (λ (x : Tally). x .kept) (at-no-tally .no-tally .ensures)
+    in (
+      omega (arith, at-if2 .if2 .left, start .pre .0, at-known-told3 .known-told3 .given),
+      (omega (arith, at-known-told3 .known-told3 .given), omega (arith, z, at-known-told3 .known-told3 .given)),
+    )
 
 simplify-expr-enum-known-shape-4 : (t : ℕ) → simplify-expr-lts.Need-enum-known-shape-4 (simplify-expr-calls t) (simplify-expr-at t) simplify-expr.Post
 simplify-expr-enum-known-shape-4 t c =
@@ -162,7 +225,16 @@ simplify-expr-cast-simplify-run-4 t c =
 
 simplify-expr-simplify-run-requires-2 : (t : ℕ) → simplify-expr-lts.Need-simplify-run-requires-2 (simplify-expr-calls t) (simplify-expr-at t) simplify-expr.Post
 simplify-expr-simplify-run-requires-2 t c κs =
-    let z : c .before .before .before .before .before .before .before .before .no-tally2 .result .kept ≡ 0 = ap (λ (x : Tally). x .kept) (c .before .before .before .before .before .before .before .before .no-tally2 .ensures) in (omega (arith, c .before .before .before .before .before .before .before .before .before .before .before .before .before .before .before .before .before .before .before .before .before .before .before .before .before .if2 .left, c .before .before .before .before .before .before .before .before .before .before .before .before .before .before .before .before .before .before .before .before .before .before .before .before .before .before .before .before .pre .0, c .before .before .before .before .before .before .before .before .before .known-told4 .given), (omega (arith, c .before .before .before .before .before .before .before .before .before .known-told4 .given), omega (arith, z, c .before .before .before .before .before .before .before .before .before .known-told4 .given)))
+    let at-no-tally2 = c .before .before .before .before .before .before .before .before in
+    let at-known-told4 = at-no-tally2 .before in
+    let at-if2 = at-known-told4 .before .before .before .before .before .before .before .before .before .before .before .before .before .before .before
+    .before in
+    let start = at-if2 .before .before .before in
+    let z : at-no-tally2 .no-tally2 .result .kept ≡ 0 = ap (λ (x : Tally). x .kept) (at-no-tally2 .no-tally2 .ensures)
+    in (
+      omega (arith, at-if2 .if2 .left, start .pre .0, at-known-told4 .known-told4 .given),
+      (omega (arith, at-known-told4 .known-told4 .given), omega (arith, z, at-known-told4 .known-told4 .given)),
+    )
 
 simplify-expr-enum-told-2 : (t : ℕ) → simplify-expr-lts.Need-enum-told-2 (simplify-expr-calls t) (simplify-expr-at t) simplify-expr.Post
 simplify-expr-enum-told-2 t c =
@@ -174,27 +246,106 @@ simplify-expr-same-requires-3 t c κs =
 
 simplify-expr-returns-3 : (t : ℕ) → simplify-expr-lts.Need-returns-3 (simplify-expr-calls t) (simplify-expr-at t) simplify-expr.Post
 simplify-expr-returns-3 t c =
-    let a = c .before .before .before .before .before .before .before .before .before .before .before .before .before .before .before .before .before .before .before .args in stay (now (a .kind)) (now (a .code)) (now (a .a)) (now (a .b)) (now (a .start)) (now (a .bits)) (now (a .ia)) (now (a .ib)) (c .same2 .result) (a .s) (a .e) (c .same2 .ensures) ∙ enter-boolean (a .h) (a .s .ok) (tablesOf (now (a .kind)) (now (a .code)) (now (a .a)) (now (a .b)) (now (a .start)) (now (a .bits)) (now (a .ia)) (now (a .ib)) (a .s)) (a .e) (not-false _ (c .before .before .before .before .before .before .before .before .before .before .before .before .before .before .before .before .before .if1 .left)) (c .before .before .before .before .before .before .before .before .before .before .before .before .before .before .before .before .if2 .left) (c .before .before .before .shape-at .result) (c .before .before .before .shape-at .ensures) _ (c .before .enum-told .given .1)
+    let at-shape-at = c .before .before .before in
+    let at-if2 = at-shape-at .before .before .before .before .before .before .before .before .before .before .before .before .before in
+    let at-if1 = at-if2 .before in
+    let start = at-if1 .before .before in
+    let a = start .args in stay (now (a .kind)) (now (a .code)) (now (a .a)) (now (a .b)) (now (a .start)) (now (a .bits)) (now (a .ia)) (now (a .ib))
+    (c .same2 .result) (a .s) (a .e) (c .same2 .ensures) ∙ enter-boolean (a .h) (a .s .ok)
+    (tablesOf (now (a .kind)) (now (a .code)) (now (a .a)) (now (a .b)) (now (a .start)) (now (a .bits)) (now (a .ia)) (now (a .ib)) (a .s)) (a .e)
+    (not-false _ (at-if1 .if1 .left)) (at-if2 .if2 .left) (at-shape-at .shape-at .result) (at-shape-at .shape-at .ensures) _
+    (c .before .enum-told .given .1)
 
 simplify-expr-returns-4 : (t : ℕ) → simplify-expr-lts.Need-returns-4 (simplify-expr-calls t) (simplify-expr-at t) simplify-expr.Post
 simplify-expr-returns-4 t c =
-    let a = c .before .before .before .before .before .before .before .before .before .before .before .before .before .before .before .before .before .before .before .before .before .before .before .before .before .before .before .before .before .before .before .before .before .before .before .args in c .not-step .ensures (c .before .before .before .before .before .before .before .simplify-expr .last .1 .1 .1 .1 .1 .1 .0) (c .before .before .before .before .before .before .before .simplify-expr .last .1 .1 .1 .1 .1 .1 .1 .0) ∙ enter-not (a .h) (a .s .ok) (tablesOf (now (a .kind)) (now (a .code)) (now (a .a)) (now (a .b)) (now (a .start)) (now (a .bits)) (now (a .ia)) (now (a .ib)) (a .s)) (a .e) (not-false _ (c .before .before .before .before .before .before .before .before .before .before .before .before .before .before .before .before .before .before .before .before .before .before .before .before .before .before .before .before .before .before .before .before .before .if1 .left)) (c .before .before .before .before .before .before .before .before .before .before .before .before .before .before .before .before .before .before .before .before .before .before .before .before .before .before .before .before .before .before .before .before .if2 .left) (c .before .before .before .before .before .before .before .before .before .before .before .before .before .before .before .before .before .before .before .shape-at .result) (c .before .before .before .before .before .before .before .before .before .before .before .before .before .before .before .before .before .before .before .shape-at .ensures) (c .before .before .before .before .before .before .before .before .before .before .before .before .before .before .before .before .before .shape .given .0 .0) (c .before .before .before .before .before .before .before .before .before .before .before .before .before .before .before .before .before .shape .given .1) (resultOf (c .before .before .before .before .before .before .before .simplify-expr .last .0) (c .before .before .before .before .before .before .before .simplify-expr .last .1 .0) (c .before .before .before .before .before .before .before .simplify-expr .last .1 .1 .0) (c .before .before .before .before .before .before .before .simplify-expr .last .1 .1 .1 .0) (c .before .before .before .before .before .before .before .simplify-expr .last .1 .1 .1 .1 .0) (c .before .before .before .before .before .before .before .simplify-expr .last .1 .1 .1 .1 .1 .0) (c .before .before .before .before .before .before .before .simplify-expr .last .1 .1 .1 .1 .1 .1 .0) (c .before .before .before .before .before .before .before .simplify-expr .last .1 .1 .1 .1 .1 .1 .1 .0) (c .before .before .before .before .before .before .before .simplify-expr .result)) (c .before .before .before .before .before .before .before .simplify-expr .ensures)
+    let at-simplify-expr = c .before .before .before .before .before .before .before in
+    let at-shape = at-simplify-expr .before .before .before .before .before .before .before .before .before .before in
+    let at-shape-at = at-shape .before .before in
+    let at-if2 = at-shape-at .before .before .before .before .before .before .before .before .before .before .before .before .before in
+    let at-if1 = at-if2 .before in
+    let start = at-if1 .before .before in
+    let a = start .args in c .not-step .ensures (at-simplify-expr .simplify-expr .last .1 .1 .1 .1 .1 .1 .0)
+    (at-simplify-expr .simplify-expr .last .1 .1 .1 .1 .1 .1 .1 .0) ∙ enter-not (a .h) (a .s .ok)
+    (tablesOf (now (a .kind)) (now (a .code)) (now (a .a)) (now (a .b)) (now (a .start)) (now (a .bits)) (now (a .ia)) (now (a .ib)) (a .s)) (a .e)
+    (not-false _ (at-if1 .if1 .left)) (at-if2 .if2 .left) (at-shape-at .shape-at .result) (at-shape-at .shape-at .ensures) (at-shape .shape .given .0 .0)
+    (at-shape .shape .given .1) (resultOf (at-simplify-expr .simplify-expr .last .0) (at-simplify-expr .simplify-expr .last .1 .0)
+    (at-simplify-expr .simplify-expr .last .1 .1 .0) (at-simplify-expr .simplify-expr .last .1 .1 .1 .0)
+    (at-simplify-expr .simplify-expr .last .1 .1 .1 .1 .0) (at-simplify-expr .simplify-expr .last .1 .1 .1 .1 .1 .0)
+    (at-simplify-expr .simplify-expr .last .1 .1 .1 .1 .1 .1 .0) (at-simplify-expr .simplify-expr .last .1 .1 .1 .1 .1 .1 .1 .0)
+    (at-simplify-expr .simplify-expr .result)) (at-simplify-expr .simplify-expr .ensures)
 
 simplify-expr-returns-5 : (t : ℕ) → simplify-expr-lts.Need-returns-5 (simplify-expr-calls t) (simplify-expr-at t) simplify-expr.Post
 simplify-expr-returns-5 t c =
-    let a = c .before .before .before .before .before .before .before .before .before .before .before .before .before .before .before .before .before .before .before .before .before .before .before .before .before .before .before .before .before .before .before .before .before .before .before .before .before .before .before .before .before .before .before .before .args in c .compare-step .ensures (c .before .before .before .before .before .before .before .simplify-expr3 .last .1 .1 .1 .1 .1 .1 .0) (c .before .before .before .before .before .before .before .simplify-expr3 .last .1 .1 .1 .1 .1 .1 .1 .0) ∙ enter-compare (a .h) (a .s .ok) (tablesOf (now (a .kind)) (now (a .code)) (now (a .a)) (now (a .b)) (now (a .start)) (now (a .bits)) (now (a .ia)) (now (a .ib)) (a .s)) (a .e) (not-false _ (c .before .before .before .before .before .before .before .before .before .before .before .before .before .before .before .before .before .before .before .before .before .before .before .before .before .before .before .before .before .before .before .before .before .before .before .before .before .before .before .before .before .before .if1 .left)) (c .before .before .before .before .before .before .before .before .before .before .before .before .before .before .before .before .before .before .before .before .before .before .before .before .before .before .before .before .before .before .before .before .before .before .before .before .before .before .before .before .before .if2 .left) (c .before .before .before .before .before .before .before .before .before .before .before .before .before .before .before .before .before .before .before .before .before .before .before .before .before .before .before .before .shape-at .result) (c .before .before .before .before .before .before .before .before .before .before .before .before .before .before .before .before .before .before .before .before .before .before .before .before .before .before .before .before .shape-at .ensures) (c .before .before .before .before .before .before .before .before .before .before .before .before .before .before .before .before .before .before .before .before .before .before .before .before .before .before .shape2 .given .0 .0) (c .before .before .before .before .before .before .before .before .before .before .before .before .before .before .before .before .before .before .before .before .before .before .before .before .before .before .shape2 .given .0 .1 .0) (c .before .before .before .before .before .before .before .before .before .before .before .before .before .before .before .before .before .before .before .before .before .before .before .before .before .before .shape2 .given .0 .1 .1 .0) (c .before .before .before .before .before .before .before .before .before .before .before .before .before .before .before .before .before .before .before .before .before .before .before .before .before .before .shape2 .given .1) (resultOf (c .before .before .before .before .before .before .before .before .before .before .before .before .before .before .before .before .simplify-expr2 .last .0) (c .before .before .before .before .before .before .before .before .before .before .before .before .before .before .before .before .simplify-expr2 .last .1 .0) (c .before .before .before .before .before .before .before .before .before .before .before .before .before .before .before .before .simplify-expr2 .last .1 .1 .0) (c .before .before .before .before .before .before .before .before .before .before .before .before .before .before .before .before .simplify-expr2 .last .1 .1 .1 .0) (c .before .before .before .before .before .before .before .before .before .before .before .before .before .before .before .before .simplify-expr2 .last .1 .1 .1 .1 .0) (c .before .before .before .before .before .before .before .before .before .before .before .before .before .before .before .before .simplify-expr2 .last .1 .1 .1 .1 .1 .0) (c .before .before .before .before .before .before .before .before .before .before .before .before .before .before .before .before .simplify-expr2 .last .1 .1 .1 .1 .1 .1 .0) (c .before .before .before .before .before .before .before .before .before .before .before .before .before .before .before .before .simplify-expr2 .last .1 .1 .1 .1 .1 .1 .1 .0) (c .before .before .before .before .before .before .before .before .before .before .before .before .before .before .before .before .simplify-expr2 .result)) (resultOf (c .before .before .before .before .before .before .before .simplify-expr3 .last .0) (c .before .before .before .before .before .before .before .simplify-expr3 .last .1 .0) (c .before .before .before .before .before .before .before .simplify-expr3 .last .1 .1 .0) (c .before .before .before .before .before .before .before .simplify-expr3 .last .1 .1 .1 .0) (c .before .before .before .before .before .before .before .simplify-expr3 .last .1 .1 .1 .1 .0) (c .before .before .before .before .before .before .before .simplify-expr3 .last .1 .1 .1 .1 .1 .0) (c .before .before .before .before .before .before .before .simplify-expr3 .last .1 .1 .1 .1 .1 .1 .0) (c .before .before .before .before .before .before .before .simplify-expr3 .last .1 .1 .1 .1 .1 .1 .1 .0) (c .before .before .before .before .before .before .before .simplify-expr3 .result)) (c .before .before .before .before .before .before .before .before .before .before .before .before .before .before .before .before .simplify-expr2 .ensures) (c .before .before .before .before .before .before .before .simplify-expr3 .ensures)
+    let at-simplify-expr3 = c .before .before .before .before .before .before .before in
+    let at-simplify-expr2 = at-simplify-expr3 .before .before .before .before .before .before .before .before .before in
+    let at-shape2 = at-simplify-expr2 .before .before .before .before .before .before .before .before .before .before in
+    let at-shape-at = at-shape2 .before .before in
+    let at-if2 = at-shape-at .before .before .before .before .before .before .before .before .before .before .before .before .before in
+    let at-if1 = at-if2 .before in
+    let start = at-if1 .before .before in
+    let a = start .args in c .compare-step .ensures (at-simplify-expr3 .simplify-expr3 .last .1 .1 .1 .1 .1 .1 .0)
+    (at-simplify-expr3 .simplify-expr3 .last .1 .1 .1 .1 .1 .1 .1 .0) ∙ enter-compare (a .h) (a .s .ok)
+    (tablesOf (now (a .kind)) (now (a .code)) (now (a .a)) (now (a .b)) (now (a .start)) (now (a .bits)) (now (a .ia)) (now (a .ib)) (a .s)) (a .e)
+    (not-false _ (at-if1 .if1 .left)) (at-if2 .if2 .left) (at-shape-at .shape-at .result) (at-shape-at .shape-at .ensures)
+    (at-shape2 .shape2 .given .0 .0) (at-shape2 .shape2 .given .0 .1 .0) (at-shape2 .shape2 .given .0 .1 .1 .0) (at-shape2 .shape2 .given .1)
+    (resultOf (at-simplify-expr2 .simplify-expr2 .last .0) (at-simplify-expr2 .simplify-expr2 .last .1 .0)
+    (at-simplify-expr2 .simplify-expr2 .last .1 .1 .0) (at-simplify-expr2 .simplify-expr2 .last .1 .1 .1 .0)
+    (at-simplify-expr2 .simplify-expr2 .last .1 .1 .1 .1 .0) (at-simplify-expr2 .simplify-expr2 .last .1 .1 .1 .1 .1 .0)
+    (at-simplify-expr2 .simplify-expr2 .last .1 .1 .1 .1 .1 .1 .0) (at-simplify-expr2 .simplify-expr2 .last .1 .1 .1 .1 .1 .1 .1 .0)
+    (at-simplify-expr2 .simplify-expr2 .result)) (resultOf (at-simplify-expr3 .simplify-expr3 .last .0) (at-simplify-expr3 .simplify-expr3 .last .1 .0)
+    (at-simplify-expr3 .simplify-expr3 .last .1 .1 .0) (at-simplify-expr3 .simplify-expr3 .last .1 .1 .1 .0)
+    (at-simplify-expr3 .simplify-expr3 .last .1 .1 .1 .1 .0) (at-simplify-expr3 .simplify-expr3 .last .1 .1 .1 .1 .1 .0)
+    (at-simplify-expr3 .simplify-expr3 .last .1 .1 .1 .1 .1 .1 .0) (at-simplify-expr3 .simplify-expr3 .last .1 .1 .1 .1 .1 .1 .1 .0)
+    (at-simplify-expr3 .simplify-expr3 .result)) (at-simplify-expr2 .simplify-expr2 .ensures) (at-simplify-expr3 .simplify-expr3 .ensures)
 
 simplify-expr-returns-6 : (t : ℕ) → simplify-expr-lts.Need-returns-6 (simplify-expr-calls t) (simplify-expr-at t) simplify-expr.Post
 simplify-expr-returns-6 t c =
-    let a = c .before .before .before .before .before .before .before .before .before .before .before .before .before .before .before .before .before .before .before .before .before .before .before .before .before .before .before .before .before .before .args in enter-and (a .h) (a .s .ok) (tablesOf (now (a .kind)) (now (a .code)) (now (a .a)) (now (a .b)) (now (a .start)) (now (a .bits)) (now (a .ia)) (now (a .ib)) (a .s)) (a .e) (not-false _ (c .before .before .before .before .before .before .before .before .before .before .before .before .before .before .before .before .before .before .before .before .before .before .before .before .before .before .before .before .if1 .left)) (c .before .before .before .before .before .before .before .before .before .before .before .before .before .before .before .before .before .before .before .before .before .before .before .before .before .before .before .if2 .left) (c .before .before .before .before .before .before .before .before .before .before .before .before .before .before .shape-at .result) (c .before .before .before .before .before .before .before .before .before .before .before .before .before .before .shape-at .ensures) (c .before .before .before .before .before .before .before .before .before .before .before .before .shape3 .given .0 .0) (c .before .before .before .before .before .before .before .before .before .before .before .before .shape3 .given .0 .1 .0) (c .before .before .before .before .before .before .before .before .before .before .before .before .shape3 .given .1) (outOf (c .before .simplify-run .last .0) (c .before .simplify-run .last .1 .0) (c .before .simplify-run .last .1 .1 .0) (c .before .simplify-run .last .1 .1 .1 .0) (c .before .simplify-run .last .1 .1 .1 .1 .0) (c .before .simplify-run .last .1 .1 .1 .1 .1 .0) (c .before .simplify-run .last .1 .1 .1 .1 .1 .1 .0) (c .before .simplify-run .last .1 .1 .1 .1 .1 .1 .1 .0) (c .before .simplify-run .result)) (c .before .simplify-run .ensures ∙ ap (λ (u : Tally). placed true (a .e) u (operandsFrom simplifyAt true (a .e) (a .s .ok) (tablesOf (now (a .kind)) (now (a .code)) (now (a .a)) (now (a .b)) (now (a .start)) (now (a .bits)) (now (a .ia)) (now (a .ib)) (a .s)) (c .before .before .before .before .before .before .before .before .before .before .before .before .shape3 .given .0 .0) (c .before .before .before .before .before .before .before .before .before .before .before .before .shape3 .given .0 .1 .0))) (c .before .before .before .before .before .before .before .before .before .before .no-tally .ensures))
+    let at-no-tally = c .before .before .before .before .before .before .before .before .before .before in
+    let at-shape3 = at-no-tally .before .before in
+    let at-shape-at = at-shape3 .before .before in
+    let at-if2 = at-shape-at .before .before .before .before .before .before .before .before .before .before .before .before .before in
+    let at-if1 = at-if2 .before in
+    let start = at-if1 .before .before in
+    let a = start .args in enter-and (a .h) (a .s .ok) (tablesOf (now (a .kind)) (now (a .code)) (now (a .a)) (now (a .b)) (now (a .start)) (now (a .bits))
+    (now (a .ia)) (now (a .ib)) (a .s)) (a .e) (not-false _ (at-if1 .if1 .left)) (at-if2 .if2 .left) (at-shape-at .shape-at .result)
+    (at-shape-at .shape-at .ensures) (at-shape3 .shape3 .given .0 .0) (at-shape3 .shape3 .given .0 .1 .0) (at-shape3 .shape3 .given .1)
+    (outOf (c .before .simplify-run .last .0) (c .before .simplify-run .last .1 .0) (c .before .simplify-run .last .1 .1 .0)
+    (c .before .simplify-run .last .1 .1 .1 .0) (c .before .simplify-run .last .1 .1 .1 .1 .0) (c .before .simplify-run .last .1 .1 .1 .1 .1 .0)
+    (c .before .simplify-run .last .1 .1 .1 .1 .1 .1 .0) (c .before .simplify-run .last .1 .1 .1 .1 .1 .1 .1 .0) (c .before .simplify-run .result))
+    (c .before .simplify-run .ensures ∙ ap
+    (λ (u : Tally). placed true (a .e) u
+    (operandsFrom simplifyAt true (a .e) (a .s .ok) (tablesOf (now (a .kind)) (now (a .code)) (now (a .a)) (now (a .b)) (now (a .start)) (now (a .bits))
+    (now (a .ia)) (now (a .ib)) (a .s)) (at-shape3 .shape3 .given .0 .0) (at-shape3 .shape3 .given .0 .1 .0))) (at-no-tally .no-tally .ensures))
 
 simplify-expr-returns-7 : (t : ℕ) → simplify-expr-lts.Need-returns-7 (simplify-expr-calls t) (simplify-expr-at t) simplify-expr.Post
 simplify-expr-returns-7 t c =
-    let a = c .before .before .before .before .before .before .before .before .before .before .before .before .before .before .before .before .before .before .before .before .before .before .before .before .before .before .before .before .before .before .args in enter-or (a .h) (a .s .ok) (tablesOf (now (a .kind)) (now (a .code)) (now (a .a)) (now (a .b)) (now (a .start)) (now (a .bits)) (now (a .ia)) (now (a .ib)) (a .s)) (a .e) (not-false _ (c .before .before .before .before .before .before .before .before .before .before .before .before .before .before .before .before .before .before .before .before .before .before .before .before .before .before .before .before .if1 .left)) (c .before .before .before .before .before .before .before .before .before .before .before .before .before .before .before .before .before .before .before .before .before .before .before .before .before .before .before .if2 .left) (c .before .before .before .before .before .before .before .before .before .before .before .before .before .before .shape-at .result) (c .before .before .before .before .before .before .before .before .before .before .before .before .before .before .shape-at .ensures) (c .before .before .before .before .before .before .before .before .before .before .before .before .shape4 .given .0 .0) (c .before .before .before .before .before .before .before .before .before .before .before .before .shape4 .given .0 .1 .0) (c .before .before .before .before .before .before .before .before .before .before .before .before .shape4 .given .1) (outOf (c .before .simplify-run2 .last .0) (c .before .simplify-run2 .last .1 .0) (c .before .simplify-run2 .last .1 .1 .0) (c .before .simplify-run2 .last .1 .1 .1 .0) (c .before .simplify-run2 .last .1 .1 .1 .1 .0) (c .before .simplify-run2 .last .1 .1 .1 .1 .1 .0) (c .before .simplify-run2 .last .1 .1 .1 .1 .1 .1 .0) (c .before .simplify-run2 .last .1 .1 .1 .1 .1 .1 .1 .0) (c .before .simplify-run2 .result)) (c .before .simplify-run2 .ensures ∙ ap (λ (u : Tally). placed false (a .e) u (operandsFrom simplifyAt false (a .e) (a .s .ok) (tablesOf (now (a .kind)) (now (a .code)) (now (a .a)) (now (a .b)) (now (a .start)) (now (a .bits)) (now (a .ia)) (now (a .ib)) (a .s)) (c .before .before .before .before .before .before .before .before .before .before .before .before .shape4 .given .0 .0) (c .before .before .before .before .before .before .before .before .before .before .before .before .shape4 .given .0 .1 .0))) (c .before .before .before .before .before .before .before .before .before .before .no-tally2 .ensures))
+    let at-no-tally2 = c .before .before .before .before .before .before .before .before .before .before in
+    let at-shape4 = at-no-tally2 .before .before in
+    let at-shape-at = at-shape4 .before .before in
+    let at-if2 = at-shape-at .before .before .before .before .before .before .before .before .before .before .before .before .before in
+    let at-if1 = at-if2 .before in
+    let start = at-if1 .before .before in
+    let a = start .args in enter-or (a .h) (a .s .ok) (tablesOf (now (a .kind)) (now (a .code)) (now (a .a)) (now (a .b)) (now (a .start)) (now (a .bits))
+    (now (a .ia)) (now (a .ib)) (a .s)) (a .e) (not-false _ (at-if1 .if1 .left)) (at-if2 .if2 .left) (at-shape-at .shape-at .result)
+    (at-shape-at .shape-at .ensures) (at-shape4 .shape4 .given .0 .0) (at-shape4 .shape4 .given .0 .1 .0) (at-shape4 .shape4 .given .1)
+    (outOf (c .before .simplify-run2 .last .0) (c .before .simplify-run2 .last .1 .0) (c .before .simplify-run2 .last .1 .1 .0)
+    (c .before .simplify-run2 .last .1 .1 .1 .0) (c .before .simplify-run2 .last .1 .1 .1 .1 .0) (c .before .simplify-run2 .last .1 .1 .1 .1 .1 .0)
+    (c .before .simplify-run2 .last .1 .1 .1 .1 .1 .1 .0) (c .before .simplify-run2 .last .1 .1 .1 .1 .1 .1 .1 .0) (c .before .simplify-run2 .result))
+    (c .before .simplify-run2 .ensures ∙ ap
+    (λ (u : Tally). placed false (a .e) u
+    (operandsFrom simplifyAt false (a .e) (a .s .ok) (tablesOf (now (a .kind)) (now (a .code)) (now (a .a)) (now (a .b)) (now (a .start)) (now (a .bits))
+    (now (a .ia)) (now (a .ib)) (a .s)) (at-shape4 .shape4 .given .0 .0) (at-shape4 .shape4 .given .0 .1 .0))) (at-no-tally2 .no-tally2 .ensures))
 
 simplify-expr-returns-8 : (t : ℕ) → simplify-expr-lts.Need-returns-8 (simplify-expr-calls t) (simplify-expr-at t) simplify-expr.Post
 simplify-expr-returns-8 t c =
-    let a = c .before .before .before .before .before .before .before .before .before .before .before .before .before .before .before .before .before .before .before .args in stay (now (a .kind)) (now (a .code)) (now (a .a)) (now (a .b)) (now (a .start)) (now (a .bits)) (now (a .ia)) (now (a .ib)) (c .same3 .result) (a .s) (a .e) (c .same3 .ensures) ∙ enter-other (a .h) (a .s .ok) (tablesOf (now (a .kind)) (now (a .code)) (now (a .a)) (now (a .b)) (now (a .start)) (now (a .bits)) (now (a .ia)) (now (a .ib)) (a .s)) (a .e) (not-false _ (c .before .before .before .before .before .before .before .before .before .before .before .before .before .before .before .before .before .if1 .left)) (c .before .before .before .before .before .before .before .before .before .before .before .before .before .before .before .before .if2 .left) (c .before .before .before .shape-at .result) (c .before .before .before .shape-at .ensures) (c .before .enum-told2 .given .1)
+    let at-shape-at = c .before .before .before in
+    let at-if2 = at-shape-at .before .before .before .before .before .before .before .before .before .before .before .before .before in
+    let at-if1 = at-if2 .before in
+    let start = at-if1 .before .before in
+    let a = start .args in stay (now (a .kind)) (now (a .code)) (now (a .a)) (now (a .b)) (now (a .start)) (now (a .bits)) (now (a .ia)) (now (a .ib))
+    (c .same3 .result) (a .s) (a .e) (c .same3 .ensures) ∙ enter-other (a .h) (a .s .ok)
+    (tablesOf (now (a .kind)) (now (a .code)) (now (a .a)) (now (a .b)) (now (a .start)) (now (a .bits)) (now (a .ia)) (now (a .ib)) (a .s)) (a .e)
+    (not-false _ (at-if1 .if1 .left)) (at-if2 .if2 .left) (at-shape-at .shape-at .result) (at-shape-at .shape-at .ensures) (c .before .enum-told2 .given .1)
 
 simplify-run-bottom-requires : (t : ℕ) → simplify-run-lts.Need-bottom-requires (simplify-run-calls t) (simplify-run-at t) simplify-run.Post
 simplify-run-bottom-requires t c κs =
@@ -202,7 +353,10 @@ simplify-run-bottom-requires t c κs =
 
 simplify-run-returns : (t : ℕ) → simplify-run-lts.Need-returns (simplify-run-calls t) (simplify-run-at t) simplify-run.Post
 simplify-run-returns t c =
-    let a = c .before .before .before .before .before .before .before .before .args in run-none (a .all) (a .h) (a .s .ok) (tablesOf (now (a .kind)) (now (a .code)) (now (a .a)) (now (a .b)) (now (a .start)) (now (a .bits)) (now (a .ia)) (now (a .ib)) (a .s)) (a .p) (a .m) (a .t) (c .before .before .before .before .before .before .before .if1 .taken) _ (c .bottom .ensures (now (a .ia)) (now (a .ib)))
+    let at-if1 = c .before .before .before .before .before .before .before in
+    let start = at-if1 .before in
+    let a = start .args in run-none (a .all) (a .h) (a .s .ok) (tablesOf (now (a .kind)) (now (a .code)) (now (a .a)) (now (a .b)) (now (a .start))
+    (now (a .bits)) (now (a .ia)) (now (a .ib)) (a .s)) (a .p) (a .m) (a .t) (at-if1 .if1 .taken) _ (c .bottom .ensures (now (a .ia)) (now (a .ib)))
 
 simplify-run-at16-requires : (t : ℕ) → simplify-run-lts.Need-at16-requires (simplify-run-calls t) (simplify-run-at t) simplify-run.Post
 simplify-run-at16-requires t c κs =
@@ -210,7 +364,9 @@ simplify-run-at16-requires t c κs =
 
 simplify-run-simplify-expr-requires : (t : ℕ) → simplify-run-lts.Need-simplify-expr-requires (simplify-run-calls t) (simplify-run-at t) simplify-run.Post
 simplify-run-simplify-expr-requires t c κs =
-    (omega (arith, c .before .before .before .before .before .before .before .before .before .before .before .if1 .left, c .before .before .before .before .before .before .before .before .before .before .before .before .pre .0), tt)
+    let at-if1 = c .before .before .before .before .before .before .before .before .before .before .before in
+    let start = at-if1 .before in
+    (omega (arith, at-if1 .if1 .left, start .pre .0), tt)
 
 simplify-run-cast-shape-at : (t : ℕ) → simplify-run-lts.Need-cast-shape-at (simplify-run-calls t) (simplify-run-at t) simplify-run.Post
 simplify-run-cast-shape-at t c =
@@ -230,19 +386,44 @@ simplify-run-is-literal-requires-2 t c κs =
 
 simplify-run-count-requires : (t : ℕ) → simplify-run-lts.Need-count-requires (simplify-run-calls t) (simplify-run-at t) simplify-run.Post
 simplify-run-count-requires t c κs =
-    omega (arith, c .before .before .before .before .before .before .before .before .before .before .before .before .before .before .before .before .before .before .before .before .before .before .before .before .before .before .before .if1 .left, c .before .before .before .before .before .before .before .before .before .before .before .before .before .before .before .before .before .before .before .before .before .before .before .before .before .before .before .before .pre .1 .1)
+    let at-if1 = c .before .before .before .before .before .before .before .before .before .before .before .before .before .before .before .before .before
+    .before .before .before .before .before .before .before .before .before .before in
+    let start = at-if1 .before in
+    omega (arith, at-if1 .if1 .left, start .pre .1 .1)
 
 simplify-run-add-simplify-run : (t : ℕ) → simplify-run-lts.Need-add-simplify-run (simplify-run-calls t) (simplify-run-at t) simplify-run.Post
 simplify-run-add-simplify-run t c =
-    omega (arith, c .before .before .before .before .before .before .before .before .before .before .before .before .before .before .before .before .before .before .before .before .before .before .before .before .before .before .before .before .before .before .before .before .before .before .before .before .before .pre .1 .0)
+    let start = c .before .before .before .before .before .before .before .before .before .before .before .before .before .before .before .before .before
+    .before .before .before .before .before .before .before .before .before .before .before .before .before .before .before .before .before .before
+    .before .before in
+    omega (arith, start .pre .1 .0)
 
 simplify-run-sub-simplify-run : (t : ℕ) → simplify-run-lts.Need-sub-simplify-run (simplify-run-calls t) (simplify-run-at t) simplify-run.Post
 simplify-run-sub-simplify-run t c =
-    omega (arith, c .before .before .before .before .before .before .before .before .before .before .before .before .before .before .before .before .before .before .before .before .before .before .before .before .before .before .before .before .before .before .before .before .before .before .before .before .if1 .left)
+    let at-if1 = c .before .before .before .before .before .before .before .before .before .before .before .before .before .before .before .before .before
+    .before .before .before .before .before .before .before .before .before .before .before .before .before .before .before .before .before .before
+    .before in
+    omega (arith, at-if1 .if1 .left)
 
 simplify-run-simplify-run-requires : (t : ℕ) → simplify-run-lts.Need-simplify-run-requires (simplify-run-calls t) (simplify-run-at t) simplify-run.Post
 simplify-run-simplify-run-requires t c κs =
-    let a = c .before .before .before .before .before .before .before .before .before .before .before .before .before .before .before .before .before .before .before .before .before .before .before .before .before .before .before .before .before .before .before .before .before .before .before .before .before .args in (omega (arith, c .before .before .before .before .before .before .before .before .before .before .before .before .before .before .before .before .before .before .before .before .before .before .before .before .before .before .before .before .before .before .before .before .before .before .before .before .if1 .left, c .before .before .before .before .before .before .before .before .before .before .before .before .before .before .before .before .before .before .before .before .before .before .before .before .before .before .before .before .before .before .before .before .before .before .before .before .before .pre .0), (omega (arith, c .before .before .before .before .before .before .before .before .before .before .before .before .before .before .before .before .before .before .before .before .before .before .before .before .before .before .before .before .before .before .before .before .before .before .before .before .if1 .left, c .before .before .before .before .before .before .before .before .before .before .before .before .before .before .before .before .before .before .before .before .before .before .before .before .before .before .before .before .before .before .before .before .before .before .before .before .before .pre .1 .0), next-small (c .before .before .before .before .before .before .before .before .count .result) (a .t) (c .before .before .before .before .before .before .before .before .before .before .before .before .before .before .before .before .before .before .before .before .before .before .before .before .before .before .before .before .before .before .before .before .before .at16 .result) (c .before .before .before .before .before .before .before .before .before .before .before .before .before .before .before .before .before .before .before .before .before .before .before .before .simplify-expr .result .at) (c .before .before .before .before .before .before .before .before .before .before .is-literal .result) (c .before .before .before .before .before .before .before .before .before .is-literal2 .result) (a .m) (c .before .before .before .before .before .before .before .before .count .ensures) (c .before .before .before .before .before .before .before .before .before .before .before .before .before .before .before .before .before .before .before .before .before .before .before .before .before .before .before .before .before .before .before .before .before .before .before .before .if1 .left) (c .before .before .before .before .before .before .before .before .before .before .before .before .before .before .before .before .before .before .before .before .before .before .before .before .before .before .before .before .before .before .before .before .before .before .before .before .before .pre .1 .1)))
+    let at-count = c .before .before .before .before .before .before .before .before in
+    let at-is-literal2 = at-count .before in
+    let at-is-literal = at-is-literal2 .before in
+    let at-simplify-expr = at-is-literal .before .before .before .before .before .before .before .before .before .before .before .before .before .before in
+    let at-at16 = at-simplify-expr .before .before .before .before .before .before .before .before .before in
+    let at-if1 = at-at16 .before .before .before in
+    let start = at-if1 .before in
+    let a = start .args
+    in (
+      omega (arith, at-if1 .if1 .left, start .pre .0),
+      (
+        omega (arith, at-if1 .if1 .left, start .pre .1 .0),
+        next-small (at-count .count .result) (a .t)
+            (at-at16 .at16 .result) (at-simplify-expr .simplify-expr .result .at) (at-is-literal .is-literal .result) (at-is-literal2 .is-literal2 .result) (a .m)
+            (at-count .count .ensures) (at-if1 .if1 .left) (start .pre .1 .1),
+      ),
+    )
 
 simplify-run-put-back-requires : (t : ℕ) → simplify-run-lts.Need-put-back-requires (simplify-run-calls t) (simplify-run-at t) simplify-run.Post
 simplify-run-put-back-requires t c κs =
@@ -250,7 +431,29 @@ simplify-run-put-back-requires t c κs =
 
 simplify-run-returns-2 : (t : ℕ) → simplify-run-lts.Need-returns-2 (simplify-run-calls t) (simplify-run-at t) simplify-run.Post
 simplify-run-returns-2 t c =
-    let a = c .before .before .before .before .before .before .before .before .before .before .before .before .before .before .before .before .before .before .before .before .before .before .before .before .before .before .before .before .before .before .before .before .before .before .before .before .before .before .before .before .before .args in run-some (a .all) (a .h) (a .s .ok) (tablesOf (now (a .kind)) (now (a .code)) (now (a .a)) (now (a .b)) (now (a .start)) (now (a .bits)) (now (a .ia)) (now (a .ib)) (a .s)) (a .p) (a .m) (a .t) (c .before .before .before .before .before .before .before .before .before .before .before .before .before .before .before .before .before .before .before .before .before .before .before .before .before .before .before .before .before .before .before .before .before .before .before .before .before .before .before .before .if1 .left) (c .before .before .before .before .before .before .before .before .before .before .before .before .before .before .before .before .before .before .before .before .before .before .before .before .before .before .before .before .before .before .before .before .before .before .before .before .before .at16 .result) (c .before .before .before .before .before .before .before .before .before .before .before .before .before .before .before .before .before .before .before .before .before .before .before .before .before .before .before .before .before .before .before .before .before .before .before .before .before .at16 .ensures) (resultOf (c .before .before .before .before .before .before .before .before .before .before .before .before .before .before .before .before .before .before .before .before .before .before .before .before .before .before .before .before .simplify-expr .last .0) (c .before .before .before .before .before .before .before .before .before .before .before .before .before .before .before .before .before .before .before .before .before .before .before .before .before .before .before .before .simplify-expr .last .1 .0) (c .before .before .before .before .before .before .before .before .before .before .before .before .before .before .before .before .before .before .before .before .before .before .before .before .before .before .before .before .simplify-expr .last .1 .1 .0) (c .before .before .before .before .before .before .before .before .before .before .before .before .before .before .before .before .before .before .before .before .before .before .before .before .before .before .before .before .simplify-expr .last .1 .1 .1 .0) (c .before .before .before .before .before .before .before .before .before .before .before .before .before .before .before .before .before .before .before .before .before .before .before .before .before .before .before .before .simplify-expr .last .1 .1 .1 .1 .0) (c .before .before .before .before .before .before .before .before .before .before .before .before .before .before .before .before .before .before .before .before .before .before .before .before .before .before .before .before .simplify-expr .last .1 .1 .1 .1 .1 .0) (c .before .before .before .before .before .before .before .before .before .before .before .before .before .before .before .before .before .before .before .before .before .before .before .before .before .before .before .before .simplify-expr .last .1 .1 .1 .1 .1 .1 .0) (c .before .before .before .before .before .before .before .before .before .before .before .before .before .before .before .before .before .before .before .before .before .before .before .before .before .before .before .before .simplify-expr .last .1 .1 .1 .1 .1 .1 .1 .0) (c .before .before .before .before .before .before .before .before .before .before .before .before .before .before .before .before .before .before .before .before .before .before .before .before .before .before .before .before .simplify-expr .result)) (c .before .before .before .before .before .before .before .before .before .before .before .before .before .before .before .before .before .before .before .before .before .before .before .before .before .before .before .before .simplify-expr .ensures) (c .before .before .before .before .before .before .before .before .before .before .before .before .before .before .before .shape-at .result) (c .before .before .before .before .before .before .before .before .before .before .before .before .before .before .before .shape-at .ensures) (c .before .before .before .before .before .before .before .before .before .before .before .before .before .before .is-literal .result) (c .before .before .before .before .before .before .before .before .before .before .before .before .before .is-literal2 .result) (c .before .before .before .before .before .before .before .before .before .before .before .before .before .before .is-literal .ensures) (c .before .before .before .before .before .before .before .before .before .before .before .before .before .is-literal2 .ensures) (c .before .before .before .before .before .before .before .before .before .before .before .before .count .result) (c .before .before .before .before .before .before .before .before .before .before .before .before .count .ensures) (outOf (c .before .before .before .simplify-run .last .0) (c .before .before .before .simplify-run .last .1 .0) (c .before .before .before .simplify-run .last .1 .1 .0) (c .before .before .before .simplify-run .last .1 .1 .1 .0) (c .before .before .before .simplify-run .last .1 .1 .1 .1 .0) (c .before .before .before .simplify-run .last .1 .1 .1 .1 .1 .0) (c .before .before .before .simplify-run .last .1 .1 .1 .1 .1 .1 .0) (c .before .before .before .simplify-run .last .1 .1 .1 .1 .1 .1 .1 .0) (c .before .before .before .simplify-run .result)) (c .before .before .before .simplify-run .ensures) (itemsOf (c .put-back .last .0) (c .put-back .last .1 .0) (c .before .before .before .simplify-run .result .done .used)) (c .put-back .ensures (c .before .before .before .simplify-run .result .done .used))
+    let at-simplify-run = c .before .before .before in
+    let at-count = at-simplify-run .before .before .before .before .before .before .before .before .before in
+    let at-is-literal2 = at-count .before in
+    let at-is-literal = at-is-literal2 .before in
+    let at-shape-at = at-is-literal .before in
+    let at-simplify-expr = at-shape-at .before .before .before .before .before .before .before .before .before .before .before .before .before in
+    let at-at16 = at-simplify-expr .before .before .before .before .before .before .before .before .before in
+    let at-if1 = at-at16 .before .before .before in
+    let start = at-if1 .before in
+    let a = start .args in run-some (a .all) (a .h) (a .s .ok) (tablesOf (now (a .kind)) (now (a .code)) (now (a .a)) (now (a .b)) (now (a .start))
+    (now (a .bits)) (now (a .ia)) (now (a .ib)) (a .s)) (a .p) (a .m) (a .t) (at-if1 .if1 .left) (at-at16 .at16 .result) (at-at16 .at16 .ensures)
+    (resultOf (at-simplify-expr .simplify-expr .last .0) (at-simplify-expr .simplify-expr .last .1 .0) (at-simplify-expr .simplify-expr .last .1 .1 .0)
+    (at-simplify-expr .simplify-expr .last .1 .1 .1 .0) (at-simplify-expr .simplify-expr .last .1 .1 .1 .1 .0)
+    (at-simplify-expr .simplify-expr .last .1 .1 .1 .1 .1 .0) (at-simplify-expr .simplify-expr .last .1 .1 .1 .1 .1 .1 .0)
+    (at-simplify-expr .simplify-expr .last .1 .1 .1 .1 .1 .1 .1 .0) (at-simplify-expr .simplify-expr .result)) (at-simplify-expr .simplify-expr .ensures)
+    (at-shape-at .shape-at .result) (at-shape-at .shape-at .ensures) (at-is-literal .is-literal .result) (at-is-literal2 .is-literal2 .result)
+    (at-is-literal .is-literal .ensures) (at-is-literal2 .is-literal2 .ensures) (at-count .count .result) (at-count .count .ensures)
+    (outOf (at-simplify-run .simplify-run .last .0) (at-simplify-run .simplify-run .last .1 .0) (at-simplify-run .simplify-run .last .1 .1 .0)
+    (at-simplify-run .simplify-run .last .1 .1 .1 .0) (at-simplify-run .simplify-run .last .1 .1 .1 .1 .0)
+    (at-simplify-run .simplify-run .last .1 .1 .1 .1 .1 .0) (at-simplify-run .simplify-run .last .1 .1 .1 .1 .1 .1 .0)
+    (at-simplify-run .simplify-run .last .1 .1 .1 .1 .1 .1 .1 .0) (at-simplify-run .simplify-run .result)) (at-simplify-run .simplify-run .ensures)
+    (itemsOf (c .put-back .last .0) (c .put-back .last .1 .0) (at-simplify-run .simplify-run .result .done .used))
+    (c .put-back .ensures (at-simplify-run .simplify-run .result .done .used))
 
 pub +simplify-expr+simplify-run-spec : {M : Type 1} → statement M
 +simplify-expr+simplify-run-spec =

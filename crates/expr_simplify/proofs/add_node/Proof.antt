@@ -13,7 +13,10 @@ add-record-requires c κs = search needs
 
 returns : tie.Need-returns
 returns c =
-    let a = c .before .before .before .before .before .before .before .before .args in λ ia ib. node-way (tablesOf (now (a .kind)) (now (a .code)) (now (a .a)) (now (a .b)) (now (a .start)) (now (a .bits)) ia ib (a .s)) _ (c .before .before .before .before .before .before .before .expr-record-of .result) (a .d) (c .add-record .ensures ia ib) (c .before .before .before .before .before .before .before .expr-record-of .ensures)
+    let at-expr-record-of = c .before .before .before .before .before .before .before in
+    let start = at-expr-record-of .before in
+    let a = start .args in λ ia ib. node-way (tablesOf (now (a .kind)) (now (a .code)) (now (a .a)) (now (a .b)) (now (a .start)) (now (a .bits)) ia ib
+    (a .s)) _ (at-expr-record-of .expr-record-of .result) (a .d) (c .add-record .ensures ia ib) (at-expr-record-of .expr-record-of .ensures)
 
 pub add-node-spec : {M : Type 1} → statement M
 add-node-spec = tie.close (tie.spec expr-record-of-requires add-record-requires returns)

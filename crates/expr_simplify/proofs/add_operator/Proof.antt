@@ -29,11 +29,17 @@ answered-requires c κs = search needs
 
 returns : tie.Need-returns
 returns c =
-    let a = c .before .before .before .before .before .before .before .before .before .args in operator-off (a .p) (a .st) (operatorData (a .x) (a .start)) (a .held) (λ (j : ℕ). getD (a .t6) j 0) (c .before .before .before .before .before .item-count .result) (c .before .before .before .before .before .item-count .ensures .0) (c .before .if1 .taken) (c .answered .result) (c .answered .ensures)
+    let at-item-count = c .before .before .before .before .before in
+    let start = at-item-count .before .before .before .before in
+    let a = start .args in operator-off (a .p) (a .st) (operatorData (a .x) (a .start)) (a .held) (λ (j : ℕ). getD (a .t6) j 0)
+    (at-item-count .item-count .result) (at-item-count .item-count .ensures .0) (c .before .if1 .taken) (c .answered .result) (c .answered .ensures)
 
 with-list-requires : tie.Need-with-list-requires
 with-list-requires c κs =
-    let a = c .before .before .before .before .before .before .before .before .args in items-fit (a .p) (a .st) (operatorData (a .x) (a .start)) (a .held) (λ (j : ℕ). getD (a .t6) j 0) (c .before .before .before .before .item-count .result) (c .before .before .before .before .item-count .ensures .0) (c .if1 .left)
+    let at-item-count = c .before .before .before .before in
+    let start = at-item-count .before .before .before .before in
+    let a = start .args in items-fit (a .p) (a .st) (operatorData (a .x) (a .start)) (a .held) (λ (j : ℕ). getD (a .t6) j 0)
+    (at-item-count .item-count .result) (at-item-count .item-count .ensures .0) (c .if1 .left)
 
 operator-data-requires : tie.Need-operator-data-requires
 operator-data-requires c κs = search needs
@@ -49,7 +55,18 @@ answered-requires-2 c κs = search needs
 
 returns-2 : tie.Need-returns-2
 returns-2 c =
-    let a = c .before .before .before .before .before .before .before .before .before .before .before .before .before .before .before .args in operator-on (a .p) (a .st) (operatorData (a .x) (a .start)) (a .held) (λ (j : ℕ). getD (a .t6) j 0) (c .before .before .before .before .before .before .before .before .before .before .before .item-count .result) (c .before .before .before .before .before .before .before .before .before .before .before .item-count .ensures .0) (c .before .before .before .before .before .before .before .if1 .left) (c .before .before .before .before .before .before .with-list .result) (c .before .before .before .before .before .before .with-list .ensures) (c .before .before .new-record .result) (c .before .before .new-record .ensures (a .st .items .count) (λ (j : ℕ). getD (a .t6) j 0) (sym (c .before .before .before .before .before .before .before .before .before .before .before .before .before .at16 .ensures)) ∙ ap (λ (d : OperatorData). recordOfOperator (rebuiltOf d (a .st .items .count) (λ (j : ℕ). getD (a .t6) j 0))) (c .before .before .before .operator-data .ensures)) (c .before .append-operator .result) (c .before .append-operator .ensures) (c .answered2 .result) (c .answered2 .ensures)
+    let at-operator-data = c .before .before .before in
+    let at-with-list = at-operator-data .before .before .before in
+    let at-if1 = at-with-list .before in
+    let at-item-count = at-if1 .before .before .before .before in
+    let at-at16 = at-item-count .before .before in
+    let start = at-at16 .before .before in
+    let a = start .args in operator-on (a .p) (a .st) (operatorData (a .x) (a .start)) (a .held) (λ (j : ℕ). getD (a .t6) j 0)
+    (at-item-count .item-count .result) (at-item-count .item-count .ensures .0) (at-if1 .if1 .left) (at-with-list .with-list .result)
+    (at-with-list .with-list .ensures) (c .before .before .new-record .result)
+    (c .before .before .new-record .ensures (a .st .items .count) (λ (j : ℕ). getD (a .t6) j 0) (sym (at-at16 .at16 .ensures)) ∙ ap
+    (λ (d : OperatorData). recordOfOperator (rebuiltOf d (a .st .items .count) (λ (j : ℕ). getD (a .t6) j 0))) (at-operator-data .operator-data .ensures))
+    (c .before .append-operator .result) (c .before .append-operator .ensures) (c .answered2 .result) (c .answered2 .ensures)
 
 pub add-operator-spec : {M : Type 1} → statement M
 add-operator-spec =

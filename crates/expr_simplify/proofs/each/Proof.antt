@@ -49,11 +49,21 @@ loop-less c =
 
 loop-again : tie.Need-loop-again Inv-loop μ-loop
 loop-again c =
-    let a = c .before .before .before .before .before .before .before .before .before .args in (omega (arith, c .before .before .before .before .loop-test .taken), each-more (a .n) (heldAt (itemsOf (a .items .a) (a .items .b) 0) (a .held)) (a .t) (c .before .before .before .before .before .loop .k) (c .before .held-at .result) (c .before .before .before .before .before .loop .r) (c .each-step .result) (c .before .before .before .before .before .loop .inv .1) (c .before .held-at .ensures 0) (c .each-step .ensures))
+    let at-loop-test = c .before .before .before .before in
+    let at-loop = at-loop-test .before in
+    let start = at-loop .before .before .before .before in
+    let a = start .args in (
+      omega (arith, at-loop-test .loop-test .taken),
+      each-more (a .n) (heldAt (itemsOf (a .items .a) (a .items .b) 0) (a .held)) (a .t)
+          (at-loop .loop .k) (c .before .held-at .result) (at-loop .loop .r) (c .each-step .result) (at-loop .loop .inv .1) (c .before .held-at .ensures 0)
+          (c .each-step .ensures),
+    )
 
 returns : tie.Need-returns Inv-loop μ-loop
 returns c =
-    let a = c .before .before .before .before .before .args in each-done (a .n) (a .items) (a .held) (a .t) (c .before .loop .k) (c .before .before .held-count .result) (c .before .loop .r) (c .before .loop .inv .1) (c .before .loop .inv .0) (c .loop-test .left) (c .before .before .held-count .ensures)
+    let start = c .before .before .before .before .before in
+    let a = start .args in each-done (a .n) (a .items) (a .held) (a .t) (c .before .loop .k) (c .before .before .held-count .result) (c .before .loop .r)
+    (c .before .loop .inv .1) (c .before .loop .inv .0) (c .loop-test .left) (c .before .before .held-count .ensures)
 
 pub each-spec : {M : Type 1} → statement M
 each-spec =

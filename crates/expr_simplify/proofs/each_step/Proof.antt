@@ -15,7 +15,10 @@ put16-requires c κs = search needs
 
 returns : tie.Need-returns
 returns c =
-    let a = c .before .before .before .before .before .before .args in each-one (a .n) (a .e) (a .r) (a .k) (c .before .before .before .before .before .simplify-in .result) (c .before .before .before .before .before .simplify-in .ensures) (c .before .before .put16 .last .0) (c .before .before .put16 .ensures)
+    let at-simplify-in = c .before .before .before .before .before in
+    let start = at-simplify-in .before in
+    let a = start .args in each-one (a .n) (a .e) (a .r) (a .k) (at-simplify-in .simplify-in .result) (at-simplify-in .simplify-in .ensures)
+    (c .before .before .put16 .last .0) (c .before .before .put16 .ensures)
 
 pub each-step-spec : {M : Type 1} → statement M
 each-step-spec =

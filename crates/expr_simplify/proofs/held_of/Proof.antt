@@ -28,7 +28,12 @@ returns-6 c =
 
 returns-7 : tie.Need-returns-7
 returns-7 c =
-    let a = c .before .before .before .before .before .before .args in held-nothing (a .x) (a .start) (c .before .before .before .before .before .if1 .left) (c .before .before .before .before .if2 .left) (c .before .before .before .if3 .left) (c .before .before .if4 .left) (c .before .if5 .left) (c .if6 .left)
+    let at-if3 = c .before .before .before in
+    let at-if2 = at-if3 .before in
+    let at-if1 = at-if2 .before in
+    let start = at-if1 .before in
+    let a = start .args in held-nothing (a .x) (a .start) (at-if1 .if1 .left) (at-if2 .if2 .left) (at-if3 .if3 .left) (c .before .before .if4 .left)
+    (c .before .if5 .left) (c .if6 .left)
 
 pub held-of-spec : {M : Type 1} → statement M
 held-of-spec =

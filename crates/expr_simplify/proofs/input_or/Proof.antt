@@ -30,14 +30,28 @@ answered-requires c κs = search needs
 
 returns : tie.Need-returns
 returns c =
-    let a = c .before .before .before .before .before .before .before .before .before .before .before .before .before .before .before .before .before .before .before .before .before .before .before .before .args in input-through (a .p) (a .st) (operatorData (a .x) (a .start)) (a .held) (λ (j : ℕ). getD (a .t6) j 0) (a .x) (a .start) (c .before .before .before .before .before .is-literal .result) (c .before .before .before .before .before .is-literal .ensures ∙ ap (isLiteral true) (c .before .before .before .before .before .before .before .shape-at .ensures ∙ ap (shapeIn (a .st)) (c .before .before .before .before .before .before .before .before .before .before .before .before .before .before .before .before .before .before .before .before .before .at16 .ensures))) (c .before .before .before .before .if1 .taken) (c .answered .result) (c .answered .ensures)
+    let at-if1 = c .before .before .before .before in
+    let at-is-literal = at-if1 .before in
+    let at-shape-at = at-is-literal .before .before in
+    let at-at16 = at-shape-at .before .before .before .before .before .before .before .before .before .before .before .before .before .before in
+    let start = at-at16 .before .before .before in
+    let a = start .args in input-through (a .p) (a .st) (operatorData (a .x) (a .start)) (a .held) (λ (j : ℕ). getD (a .t6) j 0) (a .x) (a .start)
+    (at-is-literal .is-literal .result)
+    (at-is-literal .is-literal .ensures ∙ ap (isLiteral true) (at-shape-at .shape-at .ensures ∙ ap (shapeIn (a .st)) (at-at16 .at16 .ensures)))
+    (at-if1 .if1 .taken) (c .answered .result) (c .answered .ensures)
 
 add-operator-requires : tie.Need-add-operator-requires
 add-operator-requires c κs = search needs
 
 returns-2 : tie.Need-returns-2
 returns-2 c =
-    let a = c .before .before .before .before .before .before .before .before .before .before .before .before .before .before .before .before .before .before .before .before .before .args in input-other (a .p) (a .st) (operatorData (a .x) (a .start)) (a .held) (λ (j : ℕ). getD (a .t6) j 0) (a .x) (a .start) (c .before .before .is-literal .result) (c .before .before .is-literal .ensures ∙ ap (isLiteral true) (c .before .before .before .before .shape-at .ensures ∙ ap (shapeIn (a .st)) (c .before .before .before .before .before .before .before .before .before .before .before .before .before .before .before .before .before .before .at16 .ensures))) (c .before .if1 .left) (c .add-operator .result) (c .add-operator .ensures)
+    let at-shape-at = c .before .before .before .before in
+    let at-at16 = at-shape-at .before .before .before .before .before .before .before .before .before .before .before .before .before .before in
+    let start = at-at16 .before .before .before in
+    let a = start .args in input-other (a .p) (a .st) (operatorData (a .x) (a .start)) (a .held) (λ (j : ℕ). getD (a .t6) j 0) (a .x) (a .start)
+    (c .before .before .is-literal .result)
+    (c .before .before .is-literal .ensures ∙ ap (isLiteral true) (at-shape-at .shape-at .ensures ∙ ap (shapeIn (a .st)) (at-at16 .at16 .ensures)))
+    (c .before .if1 .left) (c .add-operator .result) (c .add-operator .ensures)
 
 pub input-or-spec : {M : Type 1} → statement M
 input-or-spec =

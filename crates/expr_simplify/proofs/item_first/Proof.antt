@@ -53,11 +53,16 @@ returns-3 c =
 
 returns-4 : tie.Need-returns-4
 returns-4 c =
-    let a = c .before .before .before .before .before .before .before .args in λ ib used. rw (c .before .before .before .held2 .given .1, lt-ltb (a .k) (c .before .before .before .held2 .given .0 .1 .0) (c .before .if1 .taken)) (c .at162 .ensures)
+    let at-held2 = c .before .before .before in
+    let start = at-held2 .before .before .before .before in
+    let a = start .args in λ ib used. rw (at-held2 .held2 .given .1, lt-ltb (a .k) (at-held2 .held2 .given .0 .1 .0) (c .before .if1 .taken))
+    (c .at162 .ensures)
 
 returns-5 : tie.Need-returns-5
 returns-5 c =
-    let a = c .before .before .before .before .before .before .before .args in λ ib used. rw (c .before .before .before .held2 .given .1, le-ltb (a .k) (c .before .before .before .held2 .given .0 .1 .0) (c .before .if1 .left)) (c .at163 .ensures)
+    let at-held2 = c .before .before .before in
+    let start = at-held2 .before .before .before .before in
+    let a = start .args in λ ib used. rw (at-held2 .held2 .given .1, le-ltb (a .k) (at-held2 .held2 .given .0 .1 .0) (c .before .if1 .left)) (c .at163 .ensures)
 
 pub item-first-spec : {M : Type 1} → statement M
 item-first-spec =

@@ -16,7 +16,9 @@ put16-requires-2 c κs = search needs
 
 returns : tie.Need-returns
 returns c =
-    let a = c .before .before .before .before .before .before .before .before .args in λ j. record { count = a .t .count; a = c .before .before .before .before .put16 .ensures j; b = c .before .put162 .ensures j }
+    let at-put16 = c .before .before .before .before in
+    let start = at-put16 .before .before .before .before in
+    let a = start .args in λ j. record { count = a .t .count; a = at-put16 .put16 .ensures j; b = c .before .put162 .ensures j }
 
 pub item-put-spec : {M : Type 1} → statement M
 item-put-spec =

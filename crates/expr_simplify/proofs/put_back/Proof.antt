@@ -16,7 +16,10 @@ put16-requires-2 c κs = search needs
 
 returns : tie.Need-returns
 returns c =
-    let a = c .before .before .before .before .before .args in λ used. back-on (a .list) (a .neutral) (now (a .ia)) (now (a .ib)) (a .base + a .k) (a .v) used (c .before .before .before .before .if1 .taken) (c .before .before .put16 .last .0) (c .put162 .last .0) (c .before .before .put16 .ensures) (c .put162 .ensures)
+    let at-if1 = c .before .before .before .before in
+    let start = at-if1 .before in
+    let a = start .args in λ used. back-on (a .list) (a .neutral) (now (a .ia)) (now (a .ib)) (a .base + a .k) (a .v) used (at-if1 .if1 .taken)
+    (c .before .before .put16 .last .0) (c .put162 .last .0) (c .before .before .put16 .ensures) (c .put162 .ensures)
 
 returns-2 : tie.Need-returns-2
 returns-2 c =

@@ -16,7 +16,11 @@ refused-requires c κs = search needs
 
 returns : tie.Need-returns
 returns c =
-    let a = c .before .before .before .args in λ ia ib. reserve-off (a .all) (tablesOf (now (a .kind)) (now (a .code)) (now (a .a)) (now (a .b)) (now (a .start)) (now (a .bits)) ia ib (a .s)) (a .k) (c .before .if1 .taken) (resultOf (now (a .kind)) (now (a .code)) (now (a .a)) (now (a .b)) (now (a .start)) (now (a .bits)) ia ib (c .refused .result)) (off (now (a .kind)) (now (a .code)) (now (a .a)) (now (a .b)) (now (a .start)) (now (a .bits)) ia ib (c .refused .result) (a .s) (c .refused .ensures))
+    let start = c .before .before .before in
+    let a = start .args in λ ia ib. reserve-off (a .all) (tablesOf (now (a .kind)) (now (a .code)) (now (a .a)) (now (a .b)) (now (a .start)) (now (a .bits))
+    ia ib (a .s)) (a .k) (c .before .if1 .taken) (resultOf (now (a .kind)) (now (a .code)) (now (a .a)) (now (a .b)) (now (a .start)) (now (a .bits)) ia
+    ib (c .refused .result)) (off (now (a .kind)) (now (a .code)) (now (a .a)) (now (a .b)) (now (a .start)) (now (a .bits)) ia ib (c .refused .result)
+    (a .s) (c .refused .ensures))
 
 add-t19 : tie.Need-add-t19
 add-t19 c = search needs
@@ -32,7 +36,13 @@ add-record-requires c κs = search needs
 
 returns-2 : tie.Need-returns-2
 returns-2 c =
-    let a = c .before .before .before .before .before .before .before .before .before .before .before .before .args in λ ia ib. reserve-on (a .all) (tablesOf (now (a .kind)) (now (a .code)) (now (a .a)) (now (a .b)) (now (a .start)) (now (a .bits)) ia ib (a .s)) (a .k) (c .before .before .before .before .before .before .before .before .before .before .if1 .left) (c .before .before .before .before .before .before .before .before .nary-op-for .result) (c .before .before .before .before .before .before .before .before .nary-op-for .ensures) (c .before .before .before .before .before .before .before .expr-record-of .result) (c .before .before .before .before .before .before .before .expr-record-of .ensures) _ (c .add-record .ensures ia ib)
+    let at-expr-record-of = c .before .before .before .before .before .before .before in
+    let at-nary-op-for = at-expr-record-of .before in
+    let at-if1 = at-nary-op-for .before .before in
+    let start = at-if1 .before .before in
+    let a = start .args in λ ia ib. reserve-on (a .all) (tablesOf (now (a .kind)) (now (a .code)) (now (a .a)) (now (a .b)) (now (a .start)) (now (a .bits))
+    ia ib (a .s)) (a .k) (at-if1 .if1 .left) (at-nary-op-for .nary-op-for .result) (at-nary-op-for .nary-op-for .ensures)
+    (at-expr-record-of .expr-record-of .result) (at-expr-record-of .expr-record-of .ensures) _ (c .add-record .ensures ia ib)
 
 pub reserve-spec : {M : Type 1} → statement M
 reserve-spec =

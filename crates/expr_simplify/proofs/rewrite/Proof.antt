@@ -17,21 +17,39 @@ answered-requires c κs = search needs
 
 returns : tie.Need-returns
 returns c =
-    let a = c .before .before .before .before .before .before .before .before .before .args in rewrite-room (a .p) (operatorData (a .x) (a .start)) (c .before .before .before .before .before .each .result) (each-held (a .p) (operatorData (a .x) (a .start)) (c .before .before .before .before .before .before .held-of .result) (c .before .before .before .before .before .before .held-of .ensures) (c .before .before .before .before .before .each .result) (c .before .before .before .before .before .each .ensures)) (not-true _ (c .before .if1 .taken)) (c .answered .result) (c .answered .ensures)
+    let at-each = c .before .before .before .before .before in
+    let at-held-of = at-each .before in
+    let start = at-held-of .before .before .before in
+    let a = start .args in rewrite-room (a .p) (operatorData (a .x) (a .start)) (at-each .each .result)
+    (each-held (a .p) (operatorData (a .x) (a .start)) (at-held-of .held-of .result) (at-held-of .held-of .ensures) (at-each .each .result)
+    (at-each .each .ensures)) (not-true _ (c .before .if1 .taken)) (c .answered .result) (c .answered .ensures)
 
 answered-requires-2 : tie.Need-answered-requires-2
 answered-requires-2 c κs = search needs
 
 returns-2 : tie.Need-returns-2
 returns-2 c =
-    let a = c .before .before .before .before .before .before .before .before .before .before .before .args in rewrite-keep (a .p) (operatorData (a .x) (a .start)) (c .before .before .before .before .before .before .before .each .result) (each-held (a .p) (operatorData (a .x) (a .start)) (c .before .before .before .before .before .before .before .before .held-of .result) (c .before .before .before .before .before .before .before .before .held-of .ensures) (c .before .before .before .before .before .before .before .each .result) (c .before .before .before .before .before .before .before .each .ensures)) (not-false _ (c .before .before .before .if1 .left)) (not-true _ (c .before .if2 .taken)) (c .answered2 .result) (c .answered2 .ensures)
+    let at-if1 = c .before .before .before in
+    let at-each = at-if1 .before .before .before .before in
+    let at-held-of = at-each .before in
+    let start = at-held-of .before .before .before in
+    let a = start .args in rewrite-keep (a .p) (operatorData (a .x) (a .start)) (at-each .each .result)
+    (each-held (a .p) (operatorData (a .x) (a .start)) (at-held-of .held-of .result) (at-held-of .held-of .ensures) (at-each .each .result)
+    (at-each .each .ensures)) (not-false _ (at-if1 .if1 .left)) (not-true _ (c .before .if2 .taken)) (c .answered2 .result) (c .answered2 .ensures)
 
 input-or-requires : tie.Need-input-or-requires
 input-or-requires c κs = search needs
 
 returns-3 : tie.Need-returns-3
 returns-3 c =
-    let a = c .before .before .before .before .before .before .before .before .before .before .before .args in rewrite-changed (a .p) (operatorData (a .x) (a .start)) (c .before .before .before .before .before .before .before .each .result) (each-held (a .p) (operatorData (a .x) (a .start)) (c .before .before .before .before .before .before .before .before .held-of .result) (c .before .before .before .before .before .before .before .before .held-of .ensures) (c .before .before .before .before .before .before .before .each .result) (c .before .before .before .before .before .before .before .each .ensures)) (not-false _ (c .before .before .before .if1 .left)) (not-false _ (c .before .if2 .left)) (c .before .before .before .before .before .before .before .before .held-of .result) (c .before .before .before .before .before .before .before .before .held-of .ensures) (c .input-or .result) (c .input-or .ensures)
+    let at-if1 = c .before .before .before in
+    let at-each = at-if1 .before .before .before .before in
+    let at-held-of = at-each .before in
+    let start = at-held-of .before .before .before in
+    let a = start .args in rewrite-changed (a .p) (operatorData (a .x) (a .start)) (at-each .each .result)
+    (each-held (a .p) (operatorData (a .x) (a .start)) (at-held-of .held-of .result) (at-held-of .held-of .ensures) (at-each .each .result)
+    (at-each .each .ensures)) (not-false _ (at-if1 .if1 .left)) (not-false _ (c .before .if2 .left)) (at-held-of .held-of .result)
+    (at-held-of .held-of .ensures) (c .input-or .result) (c .input-or .ensures)
 
 pub rewrite-spec : {M : Type 1} → statement M
 rewrite-spec =

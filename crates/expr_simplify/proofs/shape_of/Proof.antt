@@ -22,7 +22,9 @@ binary-op-of-requires c κs = search needs
 
 returns-3 : tie.Need-returns-3
 returns-3 c =
-    let a = c .before .before .before .before .args in ap (λ (o : BinaryOp). Compare o (record { 0 = a .x .a }) (record { 0 = a .x .b })) (c .binary-op-of .ensures) ∙ shape-compare (a .x) (a .start) (c .before .if3 .taken)
+    let start = c .before .before .before .before in
+    let a = start .args in ap (λ (o : BinaryOp). Compare o (record { 0 = a .x .a }) (record { 0 = a .x .b })) (c .binary-op-of .ensures) ∙ shape-compare
+    (a .x) (a .start) (c .before .if3 .taken)
 
 nary-shape-requires : tie.Need-nary-shape-requires
 nary-shape-requires c κs = search needs
@@ -33,7 +35,9 @@ returns-4 c =
 
 returns-5 : tie.Need-returns-5
 returns-5 c =
-    let a = c .before .before .before .before .args in shape-other (a .x) (a .start) (c .before .before .before .if1 .left) (c .before .before .if2 .left) (c .before .if3 .left) (c .if4 .left)
+    let at-if1 = c .before .before .before in
+    let start = at-if1 .before in
+    let a = start .args in shape-other (a .x) (a .start) (at-if1 .if1 .left) (c .before .before .if2 .left) (c .before .if3 .left) (c .if4 .left)
 
 pub shape-of-spec : {M : Type 1} → statement M
 shape-of-spec =

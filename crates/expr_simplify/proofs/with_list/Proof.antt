@@ -10,7 +10,8 @@ use Rattle.expr_simplify.proofs.with_list.Statement.{statement}
 use Rattle.expr_simplify.proofs.with_list.Tie as tie
 
 abbrev Inv-loop : tie.InvT-loop
-Inv-loop held n ats ia at r₀ k₀ r k = (k ≤ n) × (r ≡ listAt r₀ at (itemFirst (itemsOf ia ia 0) held (λ (j : ℕ). getD ats j 0)) (itemSecond held (λ (j : ℕ). getD ats j 0)) k)
+Inv-loop held n ats ia at r₀ k₀ r k = (k ≤ n) × (r ≡ listAt r₀ at (itemFirst (itemsOf ia ia 0) held (λ (j : ℕ). getD ats j 0))
+    (itemSecond held (λ (j : ℕ). getD ats j 0)) k)
 
 abbrev μ-loop : tie.MeasureT-loop
 μ-loop held n ats ia at r₀ k₀ r k = n - k
@@ -53,7 +54,9 @@ item-put-requires c κs =
 
 add-k : tie.Need-add-k Inv-loop μ-loop
 add-k c =
-    omega (arith, c .before .before .before .before .before .before .loop-test .taken, c .before .before .before .before .before .before .before .before .before .before .pre)
+    let at-loop-test = c .before .before .before .before .before .before in
+    let start = at-loop-test .before .before .before .before in
+    omega (arith, at-loop-test .loop-test .taken, start .pre)
 
 loop-less : tie.Need-loop-less Inv-loop μ-loop
 loop-less c =
@@ -61,7 +64,15 @@ loop-less c =
 
 loop-again : tie.Need-loop-again Inv-loop μ-loop
 loop-again c =
-    let a = c .before .before .before .before .before .before .before .before .before .before .args in (omega (arith, c .before .before .before .before .before .before .loop-test .taken), list-more (a .t) (c .before .before .before .before .before .before .before .loop .r) _ (a .t .count) (c .before .before .before .before .before .before .before .loop .k) _ _ _ _ (c .before .before .before .before .before .before .before .loop .inv .1) (c .before .before .before .item-first .ensures (a .old .a) 0) (c .before .item-second .ensures) (c .item-put .ensures))
+    let at-item-first = c .before .before .before in
+    let at-loop-test = at-item-first .before .before .before in
+    let at-loop = at-loop-test .before in
+    let start = at-loop .before .before .before in
+    let a = start .args in (
+      omega (arith, at-loop-test .loop-test .taken),
+      list-more (a .t) (at-loop .loop .r) _ (a .t .count) (at-loop .loop .k) _ _ _ _
+          (at-loop .loop .inv .1) (at-item-first .item-first .ensures (a .old .a) 0) (c .before .item-second .ensures) (c .item-put .ensures),
+    )
 
 add-t23 : tie.Need-add-t23 Inv-loop μ-loop
 add-t23 c =
@@ -73,7 +84,10 @@ cast-t24 c =
 
 returns : tie.Need-returns Inv-loop μ-loop
 returns c =
-    let a = c .before .before .before .before .before .before .args in list-done (a .t) (c .before .before .before .loop .r) (a .old) (a .held) (λ (j : ℕ). getD (a .t4) j 0) (c .before .before .before .loop .k) (a .n) (c .before .before .before .loop .inv .1) (c .before .before .before .loop .inv .0) (c .before .before .loop-test .left)
+    let at-loop = c .before .before .before in
+    let start = at-loop .before .before .before in
+    let a = start .args in list-done (a .t) (at-loop .loop .r) (a .old) (a .held) (λ (j : ℕ). getD (a .t4) j 0) (at-loop .loop .k) (a .n)
+    (at-loop .loop .inv .1) (at-loop .loop .inv .0) (c .before .before .loop-test .left)
 
 pub with-list-spec : {M : Type 1} → statement M
 with-list-spec =

@@ -37,7 +37,13 @@ same-length c = search needs
 
 -- src/main.rt:35:9
 returns : tie.Need-returns
-returns c = wrote-as _ _ _ _ _ _ (c .before .before .refused .ensures) (file-refused _ _ (c .before .before .before .before .before .before .before .read .ensures) _ (c .before .before .before .before .before .before .reading-number .ensures) _ (c .before .before .before .before .reading-place .ensures) (c .before .before .before .before .before .if1 .taken))
+returns c =
+    let at-reading-place = c .before .before .before .before in
+    let at-if1 = at-reading-place .before in
+    let at-reading-number = at-if1 .before in
+    let at-read = at-reading-number .before in
+    wrote-as _ _ _ _ _ _ (c .before .before .refused .ensures) (file-refused _ _ (at-read .read .ensures) _ (at-reading-number .reading-number .ensures) _
+    (at-reading-place .reading-place .ensures) (at-if1 .if1 .taken))
 
 -- src/main.rt:37:5
 plan-text-requires : tie.Need-plan-text-requires
@@ -49,7 +55,12 @@ same-length-2 c = search needs
 
 -- src/main.rt:27:1
 returns-2 : tie.Need-returns-2
-returns-2 c = wrote-as _ _ _ _ _ _ (c .before .before .plan-text .ensures) (file-listed _ _ (c .before .before .before .before .before .before .read .ensures) _ (c .before .before .before .before .before .reading-number .ensures) (c .before .before .before .before .if1 .left))
+returns-2 c =
+    let at-if1 = c .before .before .before .before in
+    let at-reading-number = at-if1 .before in
+    let at-read = at-reading-number .before in
+    wrote-as _ _ _ _ _ _ (c .before .before .plan-text .ensures) (file-listed _ _ (at-read .read .ensures) _ (at-reading-number .reading-number .ensures)
+    (at-if1 .if1 .left))
 
 pub facts-text-spec : {M : Type 1} → statement M
 facts-text-spec =

@@ -47,7 +47,15 @@ same-length c = search needs
 
 -- src/main.rt:19:9
 returns : tie.Need-returns
-returns c = wrote-as _ _ _ _ _ _ (c .before .before .refused .ensures) (text-refused _ _ _ (c .before .before .before .before .before .before .before .before .last-operator .ensures) (c .before .before .before .before .before .before .before .derive-logical-facts .ensures) _ (c .before .before .before .before .before .before .derive-number .ensures) _ (c .before .before .before .before .derive-place .ensures) (c .before .before .before .before .before .if1 .taken))
+returns c =
+    let at-derive-place = c .before .before .before .before in
+    let at-if1 = at-derive-place .before in
+    let at-derive-number = at-if1 .before in
+    let at-derive-logical-facts = at-derive-number .before in
+    let at-last-operator = at-derive-logical-facts .before in
+    wrote-as _ _ _ _ _ _ (c .before .before .refused .ensures)
+    (text-refused _ _ _ (at-last-operator .last-operator .ensures) (at-derive-logical-facts .derive-logical-facts .ensures) _
+    (at-derive-number .derive-number .ensures) _ (at-derive-place .derive-place .ensures) (at-if1 .if1 .taken))
 
 -- src/main.rt:21:9
 identities-of-requires : tie.Need-identities-of-requires
@@ -67,7 +75,15 @@ same-length-2 c = search needs
 
 -- src/main.rt:10:1
 returns-2 : tie.Need-returns-2
-returns-2 c = wrote-as _ _ _ _ _ _ (c .before .before .listing .ensures .0) (text-listed _ _ _ (c .before .before .before .before .before .before .before .before .before .last-operator .ensures) (c .before .before .before .before .before .before .before .before .derive-logical-facts .ensures) _ (c .before .before .before .before .before .before .before .derive-number .ensures) _ (c .before .before .before .before .before .identities-of .ensures) (c .before .before .before .before .before .before .if1 .left))
+returns-2 c =
+    let at-identities-of = c .before .before .before .before .before in
+    let at-if1 = at-identities-of .before in
+    let at-derive-number = at-if1 .before in
+    let at-derive-logical-facts = at-derive-number .before in
+    let at-last-operator = at-derive-logical-facts .before in
+    wrote-as _ _ _ _ _ _ (c .before .before .listing .ensures .0)
+    (text-listed _ _ _ (at-last-operator .last-operator .ensures) (at-derive-logical-facts .derive-logical-facts .ensures) _
+    (at-derive-number .derive-number .ensures) _ (at-identities-of .identities-of .ensures) (at-if1 .if1 .left))
 
 pub plan-text-spec : {M : Type 1} → statement M
 plan-text-spec =

@@ -10,7 +10,10 @@ members-in-requires : tie.Need-members-in-requires
 members-in-requires c κs = search needs
 
 returns : tie.Need-returns
-returns c = class-none (c .before .before .before .args .ids) (λ (i : ℕ). getD (c .before .before .before .args .roots) i 0) (c .before .before .before .args .r) _ _ _ (c .before .members-in .ensures) (c .if1 .taken)
+returns c =
+    let start = c .before .before .before in
+    let args = start .args in
+    class-none (args .ids) (λ (i : ℕ). getD (args .roots) i 0) (args .r) _ _ _ (c .before .members-in .ensures) (c .if1 .taken)
 
 slice-aggregate-text : tie.Need-slice-aggregate-text
 slice-aggregate-text c = search needs
@@ -28,7 +31,16 @@ same-length : tie.Need-same-length
 same-length c = search needs
 
 returns-2 : tie.Need-returns-2
-returns-2 c = class-wrote (c .before .before .before .before .before .before .before .before .before .before .before .before .before .before .before .before .args .ids) (λ (i : ℕ). getD (c .before .before .before .before .before .before .before .before .before .before .before .before .before .before .before .before .args .roots) i 0) (c .before .before .before .before .before .before .before .before .before .before .before .before .before .before .before .before .args .r) _ _ _ _ _ (c .before .before .before .before .before .before .before .before .before .before .before .before .before .before .members-in .ensures) (c .before .before .before .before .before .before .before .before .before .before .before .before .before .if1 .left) (wrote-then _ _ _ _ _ _ _ _ (c .before .before .before .before .before .before .before .before .before .before .text .ensures) (c .before .before .before .before .before .before .before .before .before .before .text .kept .0) (wrote-then _ _ _ _ _ _ _ _ (c .before .before .before .before .before .before .members-text .ensures) (c .before .before .before .before .before .before .members-text .kept .0) (c .before .before .byte .ensures)))
+returns-2 c =
+    let at-members-text = c .before .before .before .before .before .before in
+    let at-text = at-members-text .before .before .before .before in
+    let at-if1 = at-text .before .before .before in
+    let at-members-in = at-if1 .before in
+    let start = at-members-in .before .before in
+    let args = start .args in
+    class-wrote (args .ids) (λ (i : ℕ). getD (args .roots) i 0) (args .r) _ _ _ _ _ (at-members-in .members-in .ensures) (at-if1 .if1 .left)
+    (wrote-then _ _ _ _ _ _ _ _ (at-text .text .ensures) (at-text .text .kept .0)
+    (wrote-then _ _ _ _ _ _ _ _ (at-members-text .members-text .ensures) (at-members-text .members-text .kept .0) (c .before .before .byte .ensures)))
 
 pub class-line-spec : {M : Type 1} → statement M
 class-line-spec =

@@ -39,7 +39,14 @@ loop-less : tie.Need-loop-less Inv-loop μ-loop
 loop-less c = search needs
 
 loop-again : tie.Need-loop-again Inv-loop μ-loop
-loop-again c = (omega arith, c .before .before .define-line .kept .0 ∙ c .before .before .before .before .before .loop .inv .1, line-more _ _ _ _ _ _ (line (c .before .before .before .before .before .before .before .args .t3)) (c .before .before .before .before .before .loop .c) (c .before .before .before .before .before .loop .inv .2) (c .before .before .before .before .before .loop .inv .1) (c .before .before .define-line .ensures))
+loop-again c =
+    let at-loop = c .before .before .before .before .before in
+    let start = at-loop .before .before in (
+      omega arith,
+      c .before .before .define-line .kept .0 ∙ at-loop .loop .inv .1,
+      line-more _ _ _ _ _ _ (line (start .args .t3)) (at-loop .loop .c)
+          (at-loop .loop .inv .2) (at-loop .loop .inv .1) (c .before .before .define-line .ensures),
+    )
 
 same-length : tie.Need-same-length Inv-loop μ-loop
 same-length c = search needs

@@ -23,7 +23,17 @@ same-length c = search needs
 
 returns : tie.Need-returns
 unfolding listingText
-returns c = ((wrote-then _ _ _ _ _ _ _ _ (c .before .before .before .before .before .before .before .before .before .before .before .before .before .before .header .ensures) (c .before .before .before .before .before .before .before .before .before .before .before .before .before .before .header .kept .0) (wrote-then _ _ _ _ _ _ _ _ (c .before .before .before .before .before .before .before .before .before .before .column-lines .ensures) (c .before .before .before .before .before .before .before .before .before .before .column-lines .kept .0) (wrote-then _ _ _ _ _ _ _ _ (c .before .before .before .before .before .before .define-lines .ensures) (c .before .before .before .before .before .before .define-lines .kept .0) (c .before .before .set-text .ensures)))), listing-length _ _ _ (c .before .before .before .before .before .before .before .before .before .before .before .before .before .before .before .before .before .before .before .before .fits .h .fits) (facts-typed (c .before .before .before .before .before .before .before .before .before .before .before .before .before .before .before .before .before .before .before .before .args .f) _ (c .before .before .before .before .before .before .before .before .before .before .before .before .before .before .before .before .before .before .before .before .good .1 .1 .1 .1 .0)))
+returns c =
+    let at-define-lines = c .before .before .before .before .before .before in
+    let at-column-lines = at-define-lines .before .before .before .before in
+    let at-header = at-column-lines .before .before .before .before in
+    let start = at-header .before .before .before .before .before .before in (
+      (wrote-then _ _ _ _ _ _ _ _ (at-header .header .ensures) (at-header .header .kept .0)
+          (wrote-then _ _ _ _ _ _ _ _ (at-column-lines .column-lines .ensures) (at-column-lines .column-lines .kept .0)
+          (wrote-then _ _ _ _ _ _ _ _ (at-define-lines .define-lines .ensures) (at-define-lines .define-lines .kept .0)
+          (c .before .before .set-text .ensures)))),
+      listing-length _ _ _ (start .fits .h .fits) (facts-typed (start .args .f) _ (start .good .1 .1 .1 .1 .0)),
+    )
 
 pub listing-spec : {M : Type 1} → statement M
 listing-spec =

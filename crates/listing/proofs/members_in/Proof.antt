@@ -15,7 +15,8 @@ use Rattle.listing.proofs.members_in.Statement.{statement}
 use Rattle.listing.proofs.members_in.Tie as tie
 
 abbrev Inv-loop : tie.InvT-loop
-Inv-loop r roots found₀ i₀ found i = (i ≤ 128) × (found ≤ i) × (countFrom (λ (j : ℕ). eqb (getD roots j 0) r) 0 128 ≡ found + countFrom (λ (j : ℕ). eqb (getD roots j 0) r) i (128 - i))
+Inv-loop r roots found₀ i₀ found i = (i ≤ 128) × (found ≤ i) × (countFrom (λ (j : ℕ). eqb (getD roots j 0) r) 0 128 ≡ found + countFrom
+    (λ (j : ℕ). eqb (getD roots j 0) r) i (128 - i))
 
 abbrev μ-loop : tie.MeasureT-loop
 μ-loop r roots found₀ i₀ found i = 128 - i
@@ -36,11 +37,17 @@ loop-less : tie.Need-loop-less Inv-loop μ-loop
 loop-less c = search needs
 
 loop-again : tie.Need-loop-again Inv-loop μ-loop
-loop-again c = let a = c .before .before .before .args in let f : ℕ → Bool = λ j. eqb (getD (a .t1) j 0) (a .r) in let lt = c .before .loop-test .taken in let inv = c .before .before .loop .inv in let i = c .before .before .loop .i in ⊎-elim (λ w. (omega arith, omega arith, omega (arith, w .1, count-found f i 128 lt (eq-eqb _ _ (w .0 .taken))))) (λ w. (omega arith, omega arith, omega (arith, w .1, count-missed f i 128 lt (ne-eqb _ _ (w .0 .left))))) (c .if1 .came)
+loop-again c =
+    let start = c .before .before .before in
+    let a = start .args in let f : ℕ → Bool = λ j. eqb (getD (a .t1) j 0) (a .r) in let lt = c .before .loop-test .taken
+    in let inv = c .before .before .loop .inv in let i = c .before .before .loop .i in ⊎-elim
+    (λ w. (omega arith, omega arith, omega (arith, w .1, count-found f i 128 lt (eq-eqb _ _ (w .0 .taken)))))
+    (λ w. (omega arith, omega arith, omega (arith, w .1, count-missed f i 128 lt (ne-eqb _ _ (w .0 .left))))) (c .if1 .came)
 
 returns : tie.Need-returns Inv-loop μ-loop
 unfolding membersIn
-returns c = let a = c .before .before .args in let f : ℕ → Bool = λ j. eqb (getD (a .t1) j 0) (a .r) in let inv = c .before .loop .inv in omega (arith, count-done f (c .before .loop .i) 128 (c .loop-test .left))
+returns c = let a = c .before .before .args in let f : ℕ → Bool = λ j. eqb (getD (a .t1) j 0) (a .r) in let inv = c .before .loop .inv in omega
+    (arith, count-done f (c .before .loop .i) 128 (c .loop-test .left))
 
 pub members-in-spec : {M : Type 1} → statement M
 members-in-spec =

@@ -40,14 +40,25 @@ loop-less : tie.Need-loop-less Inv-loop μ-loop
 loop-less c = search needs
 
 loop-again : tie.Need-loop-again Inv-loop μ-loop
-loop-again c = (omega arith, c .before .before .member .kept .0 ∙ c .before .before .before .before .before .loop .inv .1, line-more _ _ _ _ _ _ (line (c .before .before .before .before .before .before .before .args .ids) (c .before .before .before .before .before .before .before .args .t4) (c .before .before .before .before .before .before .before .args .r)) (c .before .before .before .before .before .loop .i) (c .before .before .before .before .before .loop .inv .2) (c .before .before .before .before .before .loop .inv .1) (c .before .before .member .ensures))
+loop-again c =
+    let at-loop = c .before .before .before .before .before in
+    let start = at-loop .before .before in
+    let args = start .args in (
+      omega arith,
+      c .before .before .member .kept .0 ∙ at-loop .loop .inv .1,
+      line-more _ _ _ _ _ _ (line (args .ids) (args .t4) (args .r)) (at-loop .loop .i)
+          (at-loop .loop .inv .2) (at-loop .loop .inv .1) (c .before .before .member .ensures),
+    )
 
 same-length : tie.Need-same-length Inv-loop μ-loop
 same-length c = search needs
 
 returns : tie.Need-returns Inv-loop μ-loop
 unfolding membersText
-returns c = line-end _ _ _ _ (line (c .before .before .before .args .ids) (c .before .before .before .args .t4) (c .before .before .before .args .r)) (c .before .loop .i) 128 (omega arith) (c .before .loop .inv .2)
+returns c =
+    let start = c .before .before .before in
+    let args = start .args in
+    line-end _ _ _ _ (line (args .ids) (args .t4) (args .r)) (c .before .loop .i) 128 (omega arith) (c .before .loop .inv .2)
 
 pub members-text-spec : {M : Type 1} → statement M
 members-text-spec =

@@ -27,7 +27,15 @@ same-length c = search needs
 
 returns : tie.Need-returns
 unfolding refusedLine
-returns c = (wrote-then _ _ _ _ _ _ _ _ (c .before .before .before .before .before .before .before .before .before .before .before .before .before .before .before .before .before .before .text .ensures) (c .before .before .before .before .before .before .before .before .before .before .before .before .before .before .before .before .before .before .text .kept .0) (wrote-then _ _ _ _ _ _ _ _ (c .before .before .before .before .before .before .before .before .before .before .before .before .before .before .decimal .ensures) (c .before .before .before .before .before .before .before .before .before .before .before .before .before .before .decimal .kept .0) (wrote-then _ _ _ _ _ _ _ _ (c .before .before .before .before .before .before .before .before .before .before .byte .ensures) (c .before .before .before .before .before .before .before .before .before .before .byte .kept .0) (wrote-then _ _ _ _ _ _ _ _ (c .before .before .before .before .before .before .decimal2 .ensures) (c .before .before .before .before .before .before .decimal2 .kept .0) (c .before .before .byte2 .ensures)))))
+returns c =
+    let at-decimal2 = c .before .before .before .before .before .before in
+    let at-byte = at-decimal2 .before .before .before .before in
+    let at-decimal = at-byte .before .before .before .before in
+    let at-text = at-decimal .before .before .before .before in
+    (wrote-then _ _ _ _ _ _ _ _ (at-text .text .ensures) (at-text .text .kept .0)
+    (wrote-then _ _ _ _ _ _ _ _ (at-decimal .decimal .ensures) (at-decimal .decimal .kept .0)
+    (wrote-then _ _ _ _ _ _ _ _ (at-byte .byte .ensures) (at-byte .byte .kept .0)
+    (wrote-then _ _ _ _ _ _ _ _ (at-decimal2 .decimal2 .ensures) (at-decimal2 .decimal2 .kept .0) (c .before .before .byte2 .ensures)))))
 
 pub refused-spec : {M : Type 1} → statement M
 refused-spec =

@@ -22,7 +22,13 @@ abbrev μ-loop : tie.MeasureT-loop
 μ-loop out₀ at n list end p₀ k₀ out p k = end - k
 
 loop-holds : tie.Need-loop-holds Inv-loop μ-loop
-loop-holds c = (omega arith, ⊎-elim (λ w. omega (arith, w .1)) (λ w. omega (arith, w .1)) (c .if1 .came), refl, line-none _ _ (line (c .before .before .args .t3)))
+loop-holds c = (
+  omega arith,
+  ⊎-elim (λ w. omega (arith, w .1)) (λ w. omega (arith, w .1)) (c .if1 .came),
+  refl,
+  line-none _ _
+      (line (c .before .before .args .t3)),
+)
 
 mul-residual-line : tie.Need-mul-residual-line Inv-loop μ-loop
 mul-residual-line c = search needs
@@ -40,14 +46,24 @@ loop-less : tie.Need-loop-less Inv-loop μ-loop
 loop-less c = search needs
 
 loop-again : tie.Need-loop-again Inv-loop μ-loop
-loop-again c = (omega arith, c .before .before .before .before .before .loop .inv .1, c .before .before .residual-line .kept .0 ∙ c .before .before .before .before .before .loop .inv .2, line-more _ _ _ _ _ _ (line (c .before .before .before .before .before .before .before .before .args .t3)) (c .before .before .before .before .before .loop .k) (c .before .before .before .before .before .loop .inv .3) (c .before .before .before .before .before .loop .inv .2) (c .before .before .residual-line .ensures))
+loop-again c =
+    let at-loop = c .before .before .before .before .before in
+    let start = at-loop .before .before .before in (
+      omega arith,
+      at-loop .loop .inv .1,
+      c .before .before .residual-line .kept .0 ∙ at-loop .loop .inv .2,
+      line-more _ _ _ _ _ _ (line (start .args .t3))
+          (at-loop .loop .k) (at-loop .loop .inv .3) (at-loop .loop .inv .2) (c .before .before .residual-line .ensures),
+    )
 
 same-length : tie.Need-same-length Inv-loop μ-loop
 same-length c = search needs
 
 returns : tie.Need-returns Inv-loop μ-loop
 unfolding residualLines
-returns c = line-end _ _ _ _ (line (c .before .before .before .before .args .t3)) (c .before .loop .k) (min (c .before .before .before .before .args .n) 64) (omega arith) (c .before .loop .inv .3)
+returns c =
+    let start = c .before .before .before .before in
+    line-end _ _ _ _ (line (start .args .t3)) (c .before .loop .k) (min (start .args .n) 64) (omega arith) (c .before .loop .inv .3)
 
 pub residual-lines-spec : {M : Type 1} → statement M
 residual-lines-spec =

@@ -34,7 +34,14 @@ loop-less : tie.Need-loop-less Inv-loop μ-loop
 loop-less c = search needs
 
 loop-again : tie.Need-loop-again Inv-loop μ-loop
-loop-again c = let v = c .before .before .loop .inv in (omega arith, simp length-set (v .1), each-more (canonicalOf (c .before .before .before .args .classes)) _ _ _ (omega arith) (c .canonical .ensures) (v .2))
+loop-again c =
+    let start = c .before .before .before in
+    let v = c .before .before .loop .inv in (
+      omega arith,
+      simp length-set (v .1),
+      each-more (canonicalOf (start .args .classes)) _ _ _ (omega arith)
+          (c .canonical .ensures) (v .2),
+    )
 
 returns : tie.Need-returns Inv-loop μ-loop
 returns c = each-done (canonicalOf (c .before .before .args .classes)) 128 _ _ (c .before .loop .inv .1) (omega arith) (c .before .loop .inv .2)

@@ -29,7 +29,19 @@ same-length c = search needs
 
 returns : tie.Need-returns
 unfolding setText
-returns c = wrote-then _ _ _ _ _ _ _ _ (table-wrote (c .before .before .before .before .before .before .before .before .before .before .before .before .before .before .before .before .before .before .before .before .before .before .before .before .before .before .before .args .ids) (canonicalAt (c .before .before .before .before .before .before .before .before .before .before .before .before .before .before .before .before .before .before .before .before .before .before .before .before .before .before .before .args .s)) _ _ _ _ _ (c .before .before .before .before .before .before .before .before .before .before .before .before .before .before .before .before .before .before .before .before .roots-of .ensures) (c .before .before .before .before .before .before .before .before .before .before .before .before .before .before .before .before .before .before .class-lines .ensures)) (c .before .before .before .before .before .before .before .before .before .before .before .before .before .before .before .before .before .before .class-lines .kept .0) (wrote-then _ _ _ _ _ _ _ _ (c .before .before .before .before .before .before .before .before .before .before .before .before .before .before .nonnull-lines .ensures) (c .before .before .before .before .before .before .before .before .before .before .before .before .before .before .nonnull-lines .kept .0) (wrote-then _ _ _ _ _ _ _ _ (c .before .before .before .before .before .before .before .before .before .before .literal-lines .ensures) (c .before .before .before .before .before .before .before .before .before .before .literal-lines .kept .0) (wrote-then _ _ _ _ _ _ _ _ (c .before .before .before .before .before .before .range-lines .ensures) (c .before .before .before .before .before .before .range-lines .kept .0) (c .before .before .residual-lines .ensures))))
+returns c =
+    let at-range-lines = c .before .before .before .before .before .before in
+    let at-literal-lines = at-range-lines .before .before .before .before in
+    let at-nonnull-lines = at-literal-lines .before .before .before .before in
+    let at-class-lines = at-nonnull-lines .before .before .before .before in
+    let at-roots-of = at-class-lines .before .before in
+    let start = at-roots-of .before .before .before .before .before .before .before in
+    wrote-then _ _ _ _ _ _ _ _ (table-wrote (start .args .ids) (canonicalAt (start .args .s)) _ _ _ _ _ (at-roots-of .roots-of .ensures)
+    (at-class-lines .class-lines .ensures)) (at-class-lines .class-lines .kept .0)
+    (wrote-then _ _ _ _ _ _ _ _ (at-nonnull-lines .nonnull-lines .ensures) (at-nonnull-lines .nonnull-lines .kept .0)
+    (wrote-then _ _ _ _ _ _ _ _ (at-literal-lines .literal-lines .ensures) (at-literal-lines .literal-lines .kept .0)
+    (wrote-then _ _ _ _ _ _ _ _ (at-range-lines .range-lines .ensures) (at-range-lines .range-lines .kept .0)
+    (c .before .before .residual-lines .ensures))))
 
 pub set-text-spec : {M : Type 1} → statement M
 set-text-spec =

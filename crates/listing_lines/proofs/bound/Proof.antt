@@ -18,7 +18,12 @@ same-length c = search needs
 
 returns : tie.Need-returns
 unfolding boundText
-returns c = rw (c .before .before .before .before .before .before .before .before .if1 .taken, ← c .before .before .before .before .before .before .before .before .before .bits-of-float .ensures) (wrote-then _ _ _ _ _ _ _ _ (c .before .before .before .before .before .before .hex .ensures) (c .before .before .before .before .before .before .hex .kept .0) (c .before .before .form .ensures))
+returns c =
+    let at-hex = c .before .before .before .before .before .before in
+    let at-if1 = at-hex .before .before in
+    let at-bits-of-float = at-if1 .before in
+    rw (at-if1 .if1 .taken, ← at-bits-of-float .bits-of-float .ensures) (wrote-then _ _ _ _ _ _ _ _ (at-hex .hex .ensures) (at-hex .hex .kept .0)
+    (c .before .before .form .ensures))
 
 byte-requires : tie.Need-byte-requires
 byte-requires c κs = search needs

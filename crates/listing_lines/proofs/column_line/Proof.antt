@@ -35,7 +35,16 @@ same-length c = search needs
 
 returns-2 : tie.Need-returns-2
 unfolding columnLine
-returns-2 c = rw (ne-eqb _ _ (c .before .before .before .before .before .before .before .before .before .before .before .before .before .before .before .before .before .before .before .before .before .if1 .left)) (wrote-then _ _ _ _ _ _ _ _ (c .before .before .before .before .before .before .before .before .before .before .before .before .before .before .before .before .before .before .text .ensures) (c .before .before .before .before .before .before .before .before .before .before .before .before .before .before .before .before .before .before .text .kept .0) (wrote-then _ _ _ _ _ _ _ _ (c .before .before .before .before .before .before .before .before .before .before .before .before .before .before .decimal .ensures) (c .before .before .before .before .before .before .before .before .before .before .before .before .before .before .decimal .kept .0) (wrote-then _ _ _ _ _ _ _ _ (c .before .before .before .before .before .before .before .before .before .before .byte .ensures) (c .before .before .before .before .before .before .before .before .before .before .byte .kept .0) (wrote-then _ _ _ _ _ _ _ _ (c .before .before .before .before .before .before .name .ensures) (c .before .before .before .before .before .before .name .kept .0) (c .before .before .byte2 .ensures)))))
+returns-2 c =
+    let at-name = c .before .before .before .before .before .before in
+    let at-byte = at-name .before .before .before .before in
+    let at-decimal = at-byte .before .before .before .before in
+    let at-text = at-decimal .before .before .before .before in
+    let at-if1 = at-text .before .before .before in
+    rw (ne-eqb _ _ (at-if1 .if1 .left)) (wrote-then _ _ _ _ _ _ _ _ (at-text .text .ensures) (at-text .text .kept .0)
+    (wrote-then _ _ _ _ _ _ _ _ (at-decimal .decimal .ensures) (at-decimal .decimal .kept .0)
+    (wrote-then _ _ _ _ _ _ _ _ (at-byte .byte .ensures) (at-byte .byte .kept .0)
+    (wrote-then _ _ _ _ _ _ _ _ (at-name .name .ensures) (at-name .name .kept .0) (c .before .before .byte2 .ensures)))))
 
 pub column-line-spec : {M : Type 1} → statement M
 column-line-spec =

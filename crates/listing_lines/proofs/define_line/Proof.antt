@@ -41,7 +41,16 @@ same-length c = search needs
 
 returns-2 : tie.Need-returns-2
 unfolding defineLine
-returns-2 c = rw (ne-eqb _ _ (c .before .before .before .before .before .before .before .before .before .before .before .before .before .before .before .before .before .before .before .before .before .before .if1 .left)) (wrote-then _ _ _ _ _ _ _ _ (c .before .before .before .before .before .before .before .before .before .before .before .before .before .before .before .before .before .before .before .text .ensures) (c .before .before .before .before .before .before .before .before .before .before .before .before .before .before .before .before .before .before .before .text .kept .0) (wrote-then _ _ _ _ _ _ _ _ (c .before .before .before .before .before .before .before .before .before .before .before .before .before .before .before .decimal .ensures) (c .before .before .before .before .before .before .before .before .before .before .before .before .before .before .before .decimal .kept .0) (wrote-then _ _ _ _ _ _ _ _ (c .before .before .before .before .before .before .before .before .before .before .text2 .ensures) (c .before .before .before .before .before .before .before .before .before .before .text2 .kept .0) (wrote-then _ _ _ _ _ _ _ _ (c .before .before .before .before .before .before .decimal2 .ensures) (c .before .before .before .before .before .before .decimal2 .kept .0) (c .before .before .byte .ensures)))))
+returns-2 c =
+    let at-decimal2 = c .before .before .before .before .before .before in
+    let at-text2 = at-decimal2 .before .before .before .before in
+    let at-decimal = at-text2 .before .before .before .before .before in
+    let at-text = at-decimal .before .before .before .before in
+    let at-if1 = at-text .before .before .before in
+    rw (ne-eqb _ _ (at-if1 .if1 .left)) (wrote-then _ _ _ _ _ _ _ _ (at-text .text .ensures) (at-text .text .kept .0)
+    (wrote-then _ _ _ _ _ _ _ _ (at-decimal .decimal .ensures) (at-decimal .decimal .kept .0)
+    (wrote-then _ _ _ _ _ _ _ _ (at-text2 .text2 .ensures) (at-text2 .text2 .kept .0)
+    (wrote-then _ _ _ _ _ _ _ _ (at-decimal2 .decimal2 .ensures) (at-decimal2 .decimal2 .kept .0) (c .before .before .byte .ensures)))))
 
 pub define-line-spec : {M : Type 1} → statement M
 define-line-spec =

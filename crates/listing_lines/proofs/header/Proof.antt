@@ -27,7 +27,15 @@ same-length c = search needs
 
 returns : tie.Need-returns
 unfolding headerLine
-returns c = wrote-then _ _ _ _ _ _ _ _ (c .before .before .before .before .before .before .before .before .before .before .before .before .before .before .before .before .before .before .text .ensures) (c .before .before .before .before .before .before .before .before .before .before .before .before .before .before .before .before .before .before .text .kept .0) (wrote-then _ _ _ _ _ _ _ _ (c .before .before .before .before .before .before .before .before .before .before .before .before .before .before .decimal .ensures) (c .before .before .before .before .before .before .before .before .before .before .before .before .before .before .decimal .kept .0) (wrote-then _ _ _ _ _ _ _ _ (c .before .before .before .before .before .before .before .before .before .before .byte .ensures) (c .before .before .before .before .before .before .before .before .before .before .byte .kept .0) (wrote-then _ _ _ _ _ _ _ _ (c .before .before .before .before .before .before .flag .ensures) (c .before .before .before .before .before .before .flag .kept .0) (c .before .before .byte2 .ensures))))
+returns c =
+    let at-flag = c .before .before .before .before .before .before in
+    let at-byte = at-flag .before .before .before .before in
+    let at-decimal = at-byte .before .before .before .before in
+    let at-text = at-decimal .before .before .before .before in
+    wrote-then _ _ _ _ _ _ _ _ (at-text .text .ensures) (at-text .text .kept .0)
+    (wrote-then _ _ _ _ _ _ _ _ (at-decimal .decimal .ensures) (at-decimal .decimal .kept .0)
+    (wrote-then _ _ _ _ _ _ _ _ (at-byte .byte .ensures) (at-byte .byte .kept .0)
+    (wrote-then _ _ _ _ _ _ _ _ (at-flag .flag .ensures) (at-flag .flag .kept .0) (c .before .before .byte2 .ensures))))
 
 pub header-spec : {M : Type 1} → statement M
 header-spec =

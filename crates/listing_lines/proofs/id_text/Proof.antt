@@ -31,13 +31,19 @@ same-length : tie.Need-same-length
 same-length c = search needs
 
 returns : tie.Need-returns
-returns c = rw (c .before .before .before .before .before .before .before .before .before .before .v .given .1) (wrote-then _ _ _ _ _ _ _ _ (c .before .before .before .before .before .before .before .byte .ensures) (c .before .before .before .before .before .before .before .byte .kept .0) (c .before .before .decimal .ensures))
+returns c =
+    let at-byte = c .before .before .before .before .before .before .before in
+    let at-v = at-byte .before .before .before in
+    rw (at-v .v .given .1) (wrote-then _ _ _ _ _ _ _ _ (at-byte .byte .ensures) (at-byte .byte .kept .0) (c .before .before .decimal .ensures))
 
 same-length-2 : tie.Need-same-length-2
 same-length-2 c = search needs
 
 returns-2 : tie.Need-returns-2
-returns-2 c = rw (c .before .before .before .before .before .before .before .before .before .before .v2 .given .1) (wrote-then _ _ _ _ _ _ _ _ (c .before .before .before .before .before .before .before .byte2 .ensures) (c .before .before .before .before .before .before .before .byte2 .kept .0) (c .before .before .decimal2 .ensures))
+returns-2 c =
+    let at-byte2 = c .before .before .before .before .before .before .before in
+    let at-v2 = at-byte2 .before .before .before in
+    rw (at-v2 .v2 .given .1) (wrote-then _ _ _ _ _ _ _ _ (at-byte2 .byte2 .ensures) (at-byte2 .byte2 .kept .0) (c .before .before .decimal2 .ensures))
 
 pub id-text-spec : {M : Type 1} → statement M
 id-text-spec =

@@ -29,7 +29,15 @@ same-length c = search needs
 
 returns-2 : tie.Need-returns-2
 unfolding literalLine
-returns-2 c = rw (not-false (c .before .before .before .before .before .before .before .before .before .before .before .before .before .before .before .before .before .before .before .before .args .h .present) (c .before .before .before .before .before .before .before .before .before .before .before .before .before .before .before .before .before .if1 .left)) (wrote-then _ _ _ _ _ _ _ _ (c .before .before .before .before .before .before .before .before .before .before .before .before .before .before .text .ensures) (c .before .before .before .before .before .before .before .before .before .before .before .before .before .before .text .kept .0) (wrote-then _ _ _ _ _ _ _ _ (c .before .before .before .before .before .before .before .before .before .before .name .ensures) (c .before .before .before .before .before .before .before .before .before .before .name .kept .0) (wrote-then _ _ _ _ _ _ _ _ (c .before .before .before .before .before .before .value-text .ensures) (c .before .before .before .before .before .before .value-text .kept .0) (c .before .before .byte .ensures))))
+returns-2 c =
+    let at-value-text = c .before .before .before .before .before .before in
+    let at-name = at-value-text .before .before .before .before in
+    let at-text = at-name .before .before .before .before in
+    let at-if1 = at-text .before .before .before in
+    let start = at-if1 .before .before .before in
+    rw (not-false (start .args .h .present) (at-if1 .if1 .left)) (wrote-then _ _ _ _ _ _ _ _ (at-text .text .ensures) (at-text .text .kept .0)
+    (wrote-then _ _ _ _ _ _ _ _ (at-name .name .ensures) (at-name .name .kept .0)
+    (wrote-then _ _ _ _ _ _ _ _ (at-value-text .value-text .ensures) (at-value-text .value-text .kept .0) (c .before .before .byte .ensures))))
 
 pub literal-line-spec : {M : Type 1} → statement M
 literal-line-spec =

@@ -16,7 +16,10 @@ same-length c = search needs
 
 returns : tie.Need-returns
 unfolding memberText
-returns c = rw (eq-eqb _ _ (c .before .before .before .before .before .before .before .before .if1 .taken)) (wrote-then _ _ _ _ _ _ _ _ (c .before .before .before .before .before .before .byte .ensures) (c .before .before .before .before .before .before .byte .kept .0) (c .before .before .name .ensures))
+returns c =
+    let at-byte = c .before .before .before .before .before .before in
+    let at-if1 = at-byte .before .before in
+    rw (eq-eqb _ _ (at-if1 .if1 .taken)) (wrote-then _ _ _ _ _ _ _ _ (at-byte .byte .ensures) (at-byte .byte .kept .0) (c .before .before .name .ensures))
 
 returns-2 : tie.Need-returns-2
 unfolding memberText

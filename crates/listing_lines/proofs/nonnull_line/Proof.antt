@@ -26,7 +26,13 @@ same-length c = search needs
 
 returns-2 : tie.Need-returns-2
 unfolding nonnullLine
-returns-2 c = rw (not-false (c .before .before .before .before .before .before .before .before .before .before .before .before .before .before .before .args .b) (c .before .before .before .before .before .before .before .before .before .before .before .before .before .if1 .left)) (wrote-then _ _ _ _ _ _ _ _ (c .before .before .before .before .before .before .before .before .before .before .text .ensures) (c .before .before .before .before .before .before .before .before .before .before .text .kept .0) (wrote-then _ _ _ _ _ _ _ _ (c .before .before .before .before .before .before .name .ensures) (c .before .before .before .before .before .before .name .kept .0) (c .before .before .byte .ensures)))
+returns-2 c =
+    let at-name = c .before .before .before .before .before .before in
+    let at-text = at-name .before .before .before .before in
+    let at-if1 = at-text .before .before .before in
+    let start = at-if1 .before .before in
+    rw (not-false (start .args .b) (at-if1 .if1 .left)) (wrote-then _ _ _ _ _ _ _ _ (at-text .text .ensures) (at-text .text .kept .0)
+    (wrote-then _ _ _ _ _ _ _ _ (at-name .name .ensures) (at-name .name .kept .0) (c .before .before .byte .ensures)))
 
 pub nonnull-line-spec : {M : Type 1} → statement M
 nonnull-line-spec =

@@ -38,7 +38,21 @@ same-length c = search needs
 
 returns-2 : tie.Need-returns-2
 unfolding rangeLine
-returns-2 c = rw (not-false (c .before .before .before .before .before .before .before .before .before .before .before .before .before .before .before .before .before .before .before .before .before .before .before .before .before .before .before .before .before .before .before .before .before .before .before .args .e .present) (c .before .before .before .before .before .before .before .before .before .before .before .before .before .before .before .before .before .before .before .before .before .before .before .before .before .before .before .before .before .before .before .before .if1 .left)) (wrote-then _ _ _ _ _ _ _ _ (c .before .before .before .before .before .before .before .before .before .before .before .before .before .before .before .before .before .before .before .before .before .before .before .before .before .before .text .ensures) (c .before .before .before .before .before .before .before .before .before .before .before .before .before .before .before .before .before .before .before .before .before .before .before .before .before .before .text .kept .0) (wrote-then _ _ _ _ _ _ _ _ (c .before .before .before .before .before .before .before .before .before .before .before .before .before .before .before .before .before .before .before .before .before .before .name .ensures) (c .before .before .before .before .before .before .before .before .before .before .before .before .before .before .before .before .before .before .before .before .before .before .name .kept .0) (wrote-then _ _ _ _ _ _ _ _ (c .before .before .before .before .before .before .before .before .before .before .before .before .before .before .before .before .before .before .byte .ensures) (c .before .before .before .before .before .before .before .before .before .before .before .before .before .before .before .before .before .before .byte .kept .0) (wrote-then _ _ _ _ _ _ _ _ (c .before .before .before .before .before .before .before .before .before .before .before .before .before .before .bound .ensures) (c .before .before .before .before .before .before .before .before .before .before .before .before .before .before .bound .kept .0) (wrote-then _ _ _ _ _ _ _ _ (c .before .before .before .before .before .before .before .before .before .before .byte2 .ensures) (c .before .before .before .before .before .before .before .before .before .before .byte2 .kept .0) (wrote-then _ _ _ _ _ _ _ _ (c .before .before .before .before .before .before .bound2 .ensures) (c .before .before .before .before .before .before .bound2 .kept .0) (c .before .before .byte3 .ensures)))))))
+returns-2 c =
+    let at-bound2 = c .before .before .before .before .before .before in
+    let at-byte2 = at-bound2 .before .before .before .before in
+    let at-bound = at-byte2 .before .before .before .before in
+    let at-byte = at-bound .before .before .before .before in
+    let at-name = at-byte .before .before .before .before in
+    let at-text = at-name .before .before .before .before in
+    let at-if1 = at-text .before .before .before .before .before .before in
+    let start = at-if1 .before .before .before in
+    rw (not-false (start .args .e .present) (at-if1 .if1 .left)) (wrote-then _ _ _ _ _ _ _ _ (at-text .text .ensures) (at-text .text .kept .0)
+    (wrote-then _ _ _ _ _ _ _ _ (at-name .name .ensures) (at-name .name .kept .0)
+    (wrote-then _ _ _ _ _ _ _ _ (at-byte .byte .ensures) (at-byte .byte .kept .0)
+    (wrote-then _ _ _ _ _ _ _ _ (at-bound .bound .ensures) (at-bound .bound .kept .0)
+    (wrote-then _ _ _ _ _ _ _ _ (at-byte2 .byte2 .ensures) (at-byte2 .byte2 .kept .0)
+    (wrote-then _ _ _ _ _ _ _ _ (at-bound2 .bound2 .ensures) (at-bound2 .bound2 .kept .0) (c .before .before .byte3 .ensures)))))))
 
 pub range-line-spec : {M : Type 1} → statement M
 range-line-spec =

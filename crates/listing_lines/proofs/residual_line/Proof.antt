@@ -21,7 +21,11 @@ same-length c = search needs
 
 returns : tie.Need-returns
 unfolding residualLine
-returns c = wrote-then _ _ _ _ _ _ _ _ (c .before .before .before .before .before .before .before .before .before .before .text .ensures) (c .before .before .before .before .before .before .before .before .before .before .text .kept .0) (wrote-then _ _ _ _ _ _ _ _ (c .before .before .before .before .before .before .decimal .ensures) (c .before .before .before .before .before .before .decimal .kept .0) (c .before .before .byte .ensures))
+returns c =
+    let at-decimal = c .before .before .before .before .before .before in
+    let at-text = at-decimal .before .before .before .before in
+    wrote-then _ _ _ _ _ _ _ _ (at-text .text .ensures) (at-text .text .kept .0)
+    (wrote-then _ _ _ _ _ _ _ _ (at-decimal .decimal .ensures) (at-decimal .decimal .kept .0) (c .before .before .byte .ensures))
 
 pub residual-line-spec : {M : Type 1} → statement M
 residual-line-spec =

@@ -60,37 +60,73 @@ same-length : tie.Need-same-length
 same-length c = search needs
 
 returns : tie.Need-returns
-returns c = value-wrote _ _ _ _ _ _ _ (c .before .before .before .before .before .before .before .before .args .v) (c .before .before .before .before .before .kind-of .ensures) (c .before .before .before .before .kind-word .ensures) (c .before .before .before .before .kind-word .kept .0) _ (ap payloadText (c .enum-told .given .1)) (wrote-none _ _)
+returns c =
+    let at-kind-word = c .before .before .before .before in
+    let at-kind-of = at-kind-word .before in
+    let start = at-kind-of .before .before .before in
+    value-wrote _ _ _ _ _ _ _ (start .args .v) (at-kind-of .kind-of .ensures) (at-kind-word .kind-word .ensures) (at-kind-word .kind-word .kept .0) _
+    (ap payloadText (c .enum-told .given .1)) (wrote-none _ _)
 
 same-length-2 : tie.Need-same-length-2
 same-length-2 c = search needs
 
 returns-2 : tie.Need-returns-2
-returns-2 c = value-wrote _ _ _ _ _ _ _ (c .before .before .before .before .before .before .before .before .before .before .before .before .before .args .v) (c .before .before .before .before .before .before .before .before .before .before .kind-of .ensures) (c .before .before .before .before .before .before .before .before .before .kind-word .ensures) (c .before .before .before .before .before .before .before .before .before .kind-word .kept .0) _ (ap payloadText (c .before .before .before .before .before .v .given .1)) (c .before .before .flag .ensures)
+returns-2 c =
+    let at-v = c .before .before .before .before .before in
+    let at-kind-word = at-v .before .before .before .before in
+    let at-kind-of = at-kind-word .before in
+    let start = at-kind-of .before .before .before in
+    value-wrote _ _ _ _ _ _ _ (start .args .v) (at-kind-of .kind-of .ensures) (at-kind-word .kind-word .ensures) (at-kind-word .kind-word .kept .0) _
+    (ap payloadText (at-v .v .given .1)) (c .before .before .flag .ensures)
 
 same-length-3 : tie.Need-same-length-3
 same-length-3 c = search needs
 
 returns-3 : tie.Need-returns-3
-returns-3 c = value-wrote _ _ _ _ _ _ _ (c .before .before .before .before .before .before .before .before .before .before .before .before .before .args .v) (c .before .before .before .before .before .before .before .before .before .before .kind-of .ensures) (c .before .before .before .before .before .before .before .before .before .kind-word .ensures) (c .before .before .before .before .before .before .before .before .before .kind-word .kept .0) _ (ap payloadText (c .before .before .before .before .before .v2 .given .1) ∙ passed-wider (c .before .before .before .before .before .v2 .given .0 .0) (search needs)) (c .before .before .signed .ensures)
+returns-3 c =
+    let at-v2 = c .before .before .before .before .before in
+    let at-kind-word = at-v2 .before .before .before .before in
+    let at-kind-of = at-kind-word .before in
+    let start = at-kind-of .before .before .before in
+    value-wrote _ _ _ _ _ _ _ (start .args .v) (at-kind-of .kind-of .ensures) (at-kind-word .kind-word .ensures) (at-kind-word .kind-word .kept .0) _
+    (ap payloadText (at-v2 .v2 .given .1) ∙ passed-wider (at-v2 .v2 .given .0 .0) (search needs)) (c .before .before .signed .ensures)
 
 same-length-4 : tie.Need-same-length-4
 same-length-4 c = search needs
 
 returns-4 : tie.Need-returns-4
-returns-4 c = value-wrote _ _ _ _ _ _ _ (c .before .before .before .before .before .before .before .before .before .before .before .before .before .args .v) (c .before .before .before .before .before .before .before .before .before .before .kind-of .ensures) (c .before .before .before .before .before .before .before .before .before .kind-word .ensures) (c .before .before .before .before .before .before .before .before .before .kind-word .kept .0) _ (ap payloadText (c .before .before .before .before .before .v3 .given .1) ∙ passed (c .before .before .before .before .before .v3 .given .0 .0) (search needs)) (c .before .before .signed2 .ensures)
+returns-4 c =
+    let at-v3 = c .before .before .before .before .before in
+    let at-kind-word = at-v3 .before .before .before .before in
+    let at-kind-of = at-kind-word .before in
+    let start = at-kind-of .before .before .before in
+    value-wrote _ _ _ _ _ _ _ (start .args .v) (at-kind-of .kind-of .ensures) (at-kind-word .kind-word .ensures) (at-kind-word .kind-word .kept .0) _
+    (ap payloadText (at-v3 .v3 .given .1) ∙ passed (at-v3 .v3 .given .0 .0) (search needs)) (c .before .before .signed2 .ensures)
 
 same-length-5 : tie.Need-same-length-5
 same-length-5 c = search needs
 
 returns-5 : tie.Need-returns-5
-returns-5 c = value-wrote _ _ _ _ _ _ _ (c .before .before .before .before .before .before .before .before .before .before .before .before .before .before .args .v) (c .before .before .before .before .before .before .before .before .before .before .before .kind-of .ensures) (c .before .before .before .before .before .before .before .before .before .before .kind-word .ensures) (c .before .before .before .before .before .before .before .before .before .before .kind-word .kept .0) _ (ap payloadText (c .before .before .before .before .before .before .v4 .given .1) ∙ ap (digits 16 16) (sym (c .before .before .before .bits-of-float .ensures))) (c .before .before .hex .ensures)
+returns-5 c =
+    let at-bits-of-float = c .before .before .before in
+    let at-v4 = at-bits-of-float .before .before .before in
+    let at-kind-word = at-v4 .before .before .before .before in
+    let at-kind-of = at-kind-word .before in
+    let start = at-kind-of .before .before .before in
+    value-wrote _ _ _ _ _ _ _ (start .args .v) (at-kind-of .kind-of .ensures) (at-kind-word .kind-word .ensures) (at-kind-word .kind-word .kept .0) _
+    (ap payloadText (at-v4 .v4 .given .1) ∙ ap (digits 16 16) (sym (at-bits-of-float .bits-of-float .ensures))) (c .before .before .hex .ensures)
 
 same-length-6 : tie.Need-same-length-6
 same-length-6 c = search needs
 
 returns-6 : tie.Need-returns-6
-returns-6 c = value-wrote _ _ _ _ _ _ _ (c .before .before .before .before .before .before .before .before .before .before .before .before .before .args .v) (c .before .before .before .before .before .before .before .before .before .before .kind-of .ensures) (c .before .before .before .before .before .before .before .before .before .kind-word .ensures) (c .before .before .before .before .before .before .before .before .before .kind-word .kept .0) _ (ap payloadText (c .before .before .before .before .before .v5 .given .1) ∙ passed-wider (c .before .before .before .before .before .v5 .given .0 .0) (search needs)) (c .before .before .signed3 .ensures)
+returns-6 c =
+    let at-v5 = c .before .before .before .before .before in
+    let at-kind-word = at-v5 .before .before .before .before in
+    let at-kind-of = at-kind-word .before in
+    let start = at-kind-of .before .before .before in
+    value-wrote _ _ _ _ _ _ _ (start .args .v) (at-kind-of .kind-of .ensures) (at-kind-word .kind-word .ensures) (at-kind-word .kind-word .kept .0) _
+    (ap payloadText (at-v5 .v5 .given .1) ∙ passed-wider (at-v5 .v5 .given .0 .0) (search needs)) (c .before .before .signed3 .ensures)
 
 pub value-text-spec : {M : Type 1} → statement M
 value-text-spec =

@@ -16,7 +16,10 @@ no-such-requires c κs = search needs
 
 -- src/lib.rt:457:9
 returns : tie.Need-returns
-returns c = c .no-such .ensures ∙ apply-fail-1 (c .before .before .before .before .before .before .args .p) (c .before .before .before .before .before .before .args .t2) (c .before .before .before .before .before .before .args .e) (sym (c .before .before .plan-ok .ensures) ∙ not-true _ (c .before .if1 .taken))
+returns c =
+    let start = c .before .before .before .before .before .before in
+    let args = start .args in
+    c .no-such .ensures ∙ apply-fail-1 (args .p) (args .t2) (args .e) (sym (c .before .before .plan-ok .ensures) ∙ not-true _ (c .before .if1 .taken))
 
 -- src/lib.rt:460:9
 no-such-requires-2 : tie.Need-no-such-requires-2
@@ -24,7 +27,12 @@ no-such-requires-2 c κs = search needs
 
 -- src/lib.rt:460:9
 returns-2 : tie.Need-returns-2
-returns-2 c = c .no-such2 .ensures ∙ apply-fail-2 (c .before .before .before .before .before .before .before .args .p) (c .before .before .before .before .before .before .before .args .t2) (c .before .before .before .before .before .before .before .args .e) (sym (c .before .before .before .plan-ok .ensures) ∙ not-false _ (c .before .before .if1 .left)) (c .before .if2 .taken)
+returns-2 c =
+    let at-plan-ok = c .before .before .before in
+    let start = at-plan-ok .before .before .before .before in
+    let args = start .args in
+    c .no-such2 .ensures ∙ apply-fail-2 (args .p) (args .t2) (args .e) (sym (at-plan-ok .plan-ok .ensures) ∙ not-false _ (c .before .before .if1 .left))
+    (c .before .if2 .taken)
 
 -- src/lib.rt:462:9
 facts-ok-requires : tie.Need-facts-ok-requires
@@ -36,7 +44,14 @@ no-such-requires-3 c κs = search needs
 
 -- src/lib.rt:463:9
 returns-3 : tie.Need-returns-3
-returns-3 c = c .no-such3 .ensures ∙ apply-fail-3 (c .before .before .before .before .before .before .before .before .before .args .p) (c .before .before .before .before .before .before .before .before .before .args .t2) (c .before .before .before .before .before .before .before .before .before .args .e) (sym (c .before .before .before .before .before .plan-ok .ensures) ∙ not-false _ (c .before .before .before .before .if1 .left)) (c .before .before .before .if2 .left) (sym (c .before .before .facts-ok .ensures) ∙ not-true _ (c .before .if3 .taken))
+returns-3 c =
+    let at-if2 = c .before .before .before in
+    let at-if1 = at-if2 .before in
+    let at-plan-ok = at-if1 .before in
+    let start = at-plan-ok .before .before .before .before in
+    let args = start .args in
+    c .no-such3 .ensures ∙ apply-fail-3 (args .p) (args .t2) (args .e) (sym (at-plan-ok .plan-ok .ensures) ∙ not-false _ (at-if1 .if1 .left))
+    (at-if2 .if2 .left) (sym (c .before .before .facts-ok .ensures) ∙ not-true _ (c .before .if3 .taken))
 
 -- src/lib.rt:465:9
 apply-to-requires : tie.Need-apply-to-requires
@@ -49,7 +64,18 @@ answer-requires c κs = search needs
 -- src/lib.rt:449:1
 returns-4 : tie.Need-returns-4
 unfolding predicateApplied
-returns-4 c = c .answer .ensures ∙ ap (answered (c .before .before .before .before .before .before .before .before .before .before .before .before .before .before .before .before .before .before .before .before .before .args .t2) (c .before .before .before .before .before .before .before .before .before .before .before .before .before .before .before .before .before .before .before .before .before .args .t2)) (c .before .apply-to .ensures) ∙ answered-given (c .before .before .before .before .before .before .before .before .before .before .before .before .before .before .before .before .before .before .before .before .before .args .t2) (c .before .before .before .before .before .before .before .before .before .before .before .before .before .before .before .before .before .before .before .before .before .args .t2) (c .before .before .before .before .before .before .before .before .before .before .before .before .before .before .before .before .before .before .before .before .before .args .t2 .constraints) (predicateApplied (c .before .before .before .before .before .before .before .before .before .before .before .before .before .before .before .before .before .before .before .before .before .args .p) (c .before .before .before .before .before .before .before .before .before .before .before .before .before .before .before .before .before .before .before .before .before .args .t2 .lineage) (c .before .before .before .before .before .before .before .before .before .before .before .before .before .before .before .before .before .before .before .before .before .args .t2 .constraints) (c .before .before .before .before .before .before .before .before .before .before .before .before .before .before .before .before .before .before .before .before .before .args .e .0)) ∙ apply-pass (c .before .before .before .before .before .before .before .before .before .before .before .before .before .before .before .before .before .before .before .before .before .args .p) (c .before .before .before .before .before .before .before .before .before .before .before .before .before .before .before .before .before .before .before .before .before .args .t2) (c .before .before .before .before .before .before .before .before .before .before .before .before .before .before .before .before .before .before .before .before .before .args .e) (sym (c .before .before .before .before .before .before .before .before .before .before .before .before .before .before .before .before .before .plan-ok .ensures) ∙ not-false _ (c .before .before .before .before .before .before .before .before .before .before .before .before .before .before .before .before .if1 .left)) (c .before .before .before .before .before .before .before .before .before .before .before .before .before .before .before .if2 .left) (sym (c .before .before .before .before .before .before .before .before .before .before .before .before .before .before .facts-ok .ensures) ∙ not-false _ (c .before .before .before .before .before .before .before .before .before .before .before .before .before .if3 .left))
+returns-4 c =
+    let at-if3 = c .before .before .before .before .before .before .before .before .before .before .before .before .before in
+    let at-facts-ok = at-if3 .before in
+    let at-if2 = at-facts-ok .before in
+    let at-if1 = at-if2 .before in
+    let at-plan-ok = at-if1 .before in
+    let start = at-plan-ok .before .before .before .before in
+    let args = start .args in
+    c .answer .ensures ∙ ap (answered (args .t2) (args .t2)) (c .before .apply-to .ensures) ∙ answered-given (args .t2) (args .t2) (args .t2 .constraints)
+    (predicateApplied (args .p) (args .t2 .lineage) (args .t2 .constraints) (args .e .0)) ∙ apply-pass (args .p) (args .t2) (args .e)
+    (sym (at-plan-ok .plan-ok .ensures) ∙ not-false _ (at-if1 .if1 .left)) (at-if2 .if2 .left)
+    (sym (at-facts-ok .facts-ok .ensures) ∙ not-false _ (at-if3 .if3 .left))
 
 pub apply-predicate-spec : {M : Type 1} → statement M
 apply-predicate-spec =

@@ -30,7 +30,12 @@ definition-ok-requires c κs = search needs
 
 -- src/lib.rt:378:13
 returns : tie.Need-returns Inv-loop μ-loop
-returns c = sym (c .before .before .before .loop .inv .1 ∙ all-fails (definitionOk (now (c .before .before .before .before .before .args .definitions)) (c .before .before .before .before .before .args .nc) (c .before .before .before .before .before .args .ne)) (c .before .before .before .loop .c) 64 (c .before .before .loop-test .taken) (sym (c .before .definition-ok .ensures) ∙ not-true _ (c .if1 .taken)))
+returns c =
+    let at-loop = c .before .before .before in
+    let start = at-loop .before .before in
+    let args = start .args in
+    sym (at-loop .loop .inv .1 ∙ all-fails (definitionOk (now (args .definitions)) (args .nc) (args .ne)) (at-loop .loop .c) 64
+    (c .before .before .loop-test .taken) (sym (c .before .definition-ok .ensures) ∙ not-true _ (c .if1 .taken)))
 
 -- src/lib.rt:380:9
 add-c : tie.Need-add-c Inv-loop μ-loop
@@ -42,11 +47,21 @@ loop-less c = search needs
 
 -- src/lib.rt:376:5
 loop-again : tie.Need-loop-again Inv-loop μ-loop
-loop-again c = (omega arith, c .before .before .before .loop .inv .1 ∙ all-passes (definitionOk (now (c .before .before .before .before .before .args .definitions)) (c .before .before .before .before .before .args .nc) (c .before .before .before .before .before .args .ne)) (c .before .before .before .loop .c) 64 (c .before .before .loop-test .taken) (sym (c .before .definition-ok .ensures) ∙ not-false _ (c .if1 .left)))
+loop-again c =
+    let at-loop = c .before .before .before in
+    let start = at-loop .before .before in
+    let args = start .args in (
+      omega arith,
+      at-loop .loop .inv .1 ∙ all-passes (definitionOk (now (args .definitions)) (args .nc) (args .ne)) (at-loop .loop .c) 64
+          (c .before .before .loop-test .taken) (sym (c .before .definition-ok .ensures) ∙ not-false _ (c .if1 .left)),
+    )
 
 -- src/lib.rt:372:1
 returns-2 : tie.Need-returns-2 Inv-loop μ-loop
-returns-2 c = sym (c .before .loop .inv .1 ∙ all-done (definitionOk (now (c .before .before .before .args .definitions)) (c .before .before .before .args .nc) (c .before .before .before .args .ne)) (c .before .loop .c) 64 (c .loop-test .left))
+returns-2 c =
+    let start = c .before .before .before in
+    let args = start .args in
+    sym (c .before .loop .inv .1 ∙ all-done (definitionOk (now (args .definitions)) (args .nc) (args .ne)) (c .before .loop .c) 64 (c .loop-test .left))
 
 pub definitions-ok-spec : {M : Type 1} → statement M
 definitions-ok-spec =

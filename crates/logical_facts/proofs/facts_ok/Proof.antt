@@ -17,7 +17,9 @@ lineages-ok-requires c κs = search needs
 
 -- src/lib.rt:408:9
 returns : tie.Need-returns
-returns c = facts-fail-1 (c .before .before .before .before .before .before .before .before .args .p) (c .before .before .before .before .before .before .before .before .args .t2) (sym (c .before .lineages-ok .ensures) ∙ not-true _ (c .if1 .taken))
+returns c =
+    let start = c .before .before .before .before .before .before .before .before in
+    facts-fail-1 (start .args .p) (start .args .t2) (sym (c .before .lineages-ok .ensures) ∙ not-true _ (c .if1 .taken))
 
 -- src/lib.rt:410:9
 definitions-ok-requires : tie.Need-definitions-ok-requires
@@ -25,7 +27,12 @@ definitions-ok-requires c κs = search needs
 
 -- src/lib.rt:411:9
 returns-2 : tie.Need-returns-2
-returns-2 c = facts-fail-2 (c .before .before .before .before .before .before .before .before .before .before .before .before .before .args .p) (c .before .before .before .before .before .before .before .before .before .before .before .before .before .args .t2) (sym (c .before .before .before .before .before .before .lineages-ok .ensures) ∙ not-false _ (c .before .before .before .before .before .if1 .left)) (sym (c .before .definitions-ok .ensures) ∙ not-true _ (c .if2 .taken))
+returns-2 c =
+    let at-if1 = c .before .before .before .before .before in
+    let at-lineages-ok = at-if1 .before in
+    let start = at-lineages-ok .before .before .before .before .before .before .before in
+    facts-fail-2 (start .args .p) (start .args .t2) (sym (at-lineages-ok .lineages-ok .ensures) ∙ not-false _ (at-if1 .if1 .left))
+    (sym (c .before .definitions-ok .ensures) ∙ not-true _ (c .if2 .taken))
 
 -- src/lib.rt:413:9
 set-ok-requires : tie.Need-set-ok-requires
@@ -33,7 +40,14 @@ set-ok-requires c κs = search needs
 
 -- src/lib.rt:414:9
 returns-3 : tie.Need-returns-3
-returns-3 c = facts-fail-3 (c .before .before .before .before .before .before .before .before .before .before .before .before .before .before .before .args .p) (c .before .before .before .before .before .before .before .before .before .before .before .before .before .before .before .args .t2) (sym (c .before .before .before .before .before .before .before .before .lineages-ok .ensures) ∙ not-false _ (c .before .before .before .before .before .before .before .if1 .left)) (sym (c .before .before .before .definitions-ok .ensures) ∙ not-false _ (c .before .before .if2 .left)) (sym (c .before .set-ok .ensures) ∙ not-true _ (c .if3 .taken))
+returns-3 c =
+    let at-definitions-ok = c .before .before .before in
+    let at-if1 = at-definitions-ok .before .before .before .before in
+    let at-lineages-ok = at-if1 .before in
+    let start = at-lineages-ok .before .before .before .before .before .before .before in
+    facts-fail-3 (start .args .p) (start .args .t2) (sym (at-lineages-ok .lineages-ok .ensures) ∙ not-false _ (at-if1 .if1 .left))
+    (sym (at-definitions-ok .definitions-ok .ensures) ∙ not-false _ (c .before .before .if2 .left))
+    (sym (c .before .set-ok .ensures) ∙ not-true _ (c .if3 .taken))
 
 -- src/lib.rt:416:5
 residuals-ok-requires : tie.Need-residuals-ok-requires
@@ -41,7 +55,15 @@ residuals-ok-requires c κs = search needs
 
 -- src/lib.rt:399:1
 returns-4 : tie.Need-returns-4
-returns-4 c = c .residuals-ok .ensures ∙ facts-pass (c .before .before .before .before .before .before .before .before .before .before .before .before .before .before .before .before .args .p) (c .before .before .before .before .before .before .before .before .before .before .before .before .before .before .before .before .args .t2) (sym (c .before .before .before .before .before .before .before .before .before .lineages-ok .ensures) ∙ not-false _ (c .before .before .before .before .before .before .before .before .if1 .left)) (sym (c .before .before .before .before .definitions-ok .ensures) ∙ not-false _ (c .before .before .before .if2 .left)) (sym (c .before .before .set-ok .ensures) ∙ not-false _ (c .before .if3 .left))
+returns-4 c =
+    let at-if2 = c .before .before .before in
+    let at-definitions-ok = at-if2 .before in
+    let at-if1 = at-definitions-ok .before .before .before .before in
+    let at-lineages-ok = at-if1 .before in
+    let start = at-lineages-ok .before .before .before .before .before .before .before in
+    c .residuals-ok .ensures ∙ facts-pass (start .args .p) (start .args .t2) (sym (at-lineages-ok .lineages-ok .ensures) ∙ not-false _ (at-if1 .if1 .left))
+    (sym (at-definitions-ok .definitions-ok .ensures) ∙ not-false _ (at-if2 .if2 .left))
+    (sym (c .before .before .set-ok .ensures) ∙ not-false _ (c .before .if3 .left))
 
 pub facts-ok-spec : {M : Type 1} → statement M
 facts-ok-spec =

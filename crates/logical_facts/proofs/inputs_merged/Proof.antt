@@ -22,7 +22,12 @@ answer-requires c κs = search needs
 
 -- src/lib.rt:519:1
 returns : tie.Need-returns
-returns c = merged-parts (c .before .before .before .before .before .before .before .before .before .before .before .args .left) (c .before .before .before .before .before .before .before .before .before .before .before .args .right) (c .before .before .before .before .before .before .before .before .before .before .before .args .merge) (c .before .before .before .before .before .before .override-columns .result) (c .before .merge-constraints .result) (c .answer .result) (c .before .before .before .before .before .before .override-columns .ensures) (c .before .merge-constraints .ensures) (c .answer .ensures)
+returns c =
+    let at-override-columns = c .before .before .before .before .before .before in
+    let start = at-override-columns .before .before .before .before .before in
+    let args = start .args in
+    merged-parts (args .left) (args .right) (args .merge) (at-override-columns .override-columns .result) (c .before .merge-constraints .result)
+    (c .answer .result) (at-override-columns .override-columns .ensures) (c .before .merge-constraints .ensures) (c .answer .ensures)
 
 pub inputs-merged-spec : {M : Type 1} → statement M
 inputs-merged-spec =

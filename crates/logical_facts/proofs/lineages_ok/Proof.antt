@@ -30,7 +30,11 @@ lineage-ok-requires c κs = search needs
 
 -- src/lib.rt:358:13
 returns : tie.Need-returns Inv-loop μ-loop
-returns c = sym (c .before .before .before .loop .inv .1 ∙ all-fails (lineageOk (now (c .before .before .before .before .before .args .lineage)) (c .before .before .before .before .before .args .nc)) (c .before .before .before .loop .c) 64 (c .before .before .loop-test .taken) (sym (c .before .lineage-ok .ensures) ∙ not-true _ (c .if1 .taken)))
+returns c =
+    let at-loop = c .before .before .before in
+    let start = at-loop .before .before in
+    sym (at-loop .loop .inv .1 ∙ all-fails (lineageOk (now (start .args .lineage)) (start .args .nc)) (at-loop .loop .c) 64
+    (c .before .before .loop-test .taken) (sym (c .before .lineage-ok .ensures) ∙ not-true _ (c .if1 .taken)))
 
 -- src/lib.rt:360:9
 add-c : tie.Need-add-c Inv-loop μ-loop
@@ -42,11 +46,19 @@ loop-less c = search needs
 
 -- src/lib.rt:356:5
 loop-again : tie.Need-loop-again Inv-loop μ-loop
-loop-again c = (omega arith, c .before .before .before .loop .inv .1 ∙ all-passes (lineageOk (now (c .before .before .before .before .before .args .lineage)) (c .before .before .before .before .before .args .nc)) (c .before .before .before .loop .c) 64 (c .before .before .loop-test .taken) (sym (c .before .lineage-ok .ensures) ∙ not-false _ (c .if1 .left)))
+loop-again c =
+    let at-loop = c .before .before .before in
+    let start = at-loop .before .before in (
+      omega arith,
+      at-loop .loop .inv .1 ∙ all-passes (lineageOk (now (start .args .lineage)) (start .args .nc)) (at-loop .loop .c) 64
+          (c .before .before .loop-test .taken) (sym (c .before .lineage-ok .ensures) ∙ not-false _ (c .if1 .left)),
+    )
 
 -- src/lib.rt:352:1
 returns-2 : tie.Need-returns-2 Inv-loop μ-loop
-returns-2 c = sym (c .before .loop .inv .1 ∙ all-done (lineageOk (now (c .before .before .before .args .lineage)) (c .before .before .before .args .nc)) (c .before .loop .c) 64 (c .loop-test .left))
+returns-2 c =
+    let start = c .before .before .before in
+    sym (c .before .loop .inv .1 ∙ all-done (lineageOk (now (start .args .lineage)) (start .args .nc)) (c .before .loop .c) 64 (c .loop-test .left))
 
 pub lineages-ok-spec : {M : Type 1} → statement M
 lineages-ok-spec =

@@ -21,7 +21,11 @@ no-such-requires c κs = search needs
 
 -- src/lib.rt:544:9
 returns : tie.Need-returns
-returns c = c .no-such .ensures ∙ merge-fail-1 (c .before .before .before .args .p) (c .before .before .before .args .left) (c .before .before .before .args .right) (c .before .before .before .args .merge) (sym (c .before .before .plan-ok .ensures) ∙ not-true _ (c .before .if1 .taken))
+returns c =
+    let start = c .before .before .before in
+    let args = start .args in
+    c .no-such .ensures ∙ merge-fail-1 (args .p) (args .left) (args .right) (args .merge)
+    (sym (c .before .before .plan-ok .ensures) ∙ not-true _ (c .before .if1 .taken))
 
 -- src/lib.rt:546:9
 facts-ok-requires : tie.Need-facts-ok-requires
@@ -33,7 +37,13 @@ no-such-requires-2 c κs = search needs
 
 -- src/lib.rt:547:9
 returns-2 : tie.Need-returns-2
-returns-2 c = c .no-such2 .ensures ∙ merge-fail-2 (c .before .before .before .before .before .args .p) (c .before .before .before .before .before .args .left) (c .before .before .before .before .before .args .right) (c .before .before .before .before .before .args .merge) (sym (c .before .before .before .before .plan-ok .ensures) ∙ not-false _ (c .before .before .before .if1 .left)) (sym (c .before .before .facts-ok .ensures) ∙ not-true _ (c .before .if2 .taken))
+returns-2 c =
+    let at-if1 = c .before .before .before in
+    let at-plan-ok = at-if1 .before in
+    let start = at-plan-ok .before in
+    let args = start .args in
+    c .no-such2 .ensures ∙ merge-fail-2 (args .p) (args .left) (args .right) (args .merge)
+    (sym (at-plan-ok .plan-ok .ensures) ∙ not-false _ (at-if1 .if1 .left)) (sym (c .before .before .facts-ok .ensures) ∙ not-true _ (c .before .if2 .taken))
 
 -- src/lib.rt:549:9
 facts-ok-requires-2 : tie.Need-facts-ok-requires-2
@@ -45,7 +55,16 @@ no-such-requires-3 c κs = search needs
 
 -- src/lib.rt:550:9
 returns-3 : tie.Need-returns-3
-returns-3 c = c .no-such3 .ensures ∙ merge-fail-3 (c .before .before .before .before .before .before .before .args .p) (c .before .before .before .before .before .before .before .args .left) (c .before .before .before .before .before .before .before .args .right) (c .before .before .before .before .before .before .before .args .merge) (sym (c .before .before .before .before .before .before .plan-ok .ensures) ∙ not-false _ (c .before .before .before .before .before .if1 .left)) (sym (c .before .before .before .before .facts-ok .ensures) ∙ not-false _ (c .before .before .before .if2 .left)) (sym (c .before .before .facts-ok2 .ensures) ∙ not-true _ (c .before .if3 .taken))
+returns-3 c =
+    let at-if2 = c .before .before .before in
+    let at-facts-ok = at-if2 .before in
+    let at-if1 = at-facts-ok .before in
+    let at-plan-ok = at-if1 .before in
+    let start = at-plan-ok .before in
+    let args = start .args in
+    c .no-such3 .ensures ∙ merge-fail-3 (args .p) (args .left) (args .right) (args .merge)
+    (sym (at-plan-ok .plan-ok .ensures) ∙ not-false _ (at-if1 .if1 .left)) (sym (at-facts-ok .facts-ok .ensures) ∙ not-false _ (at-if2 .if2 .left))
+    (sym (c .before .before .facts-ok2 .ensures) ∙ not-true _ (c .before .if3 .taken))
 
 -- src/lib.rt:552:5
 inputs-merged-requires : tie.Need-inputs-merged-requires
@@ -53,7 +72,16 @@ inputs-merged-requires c κs = search needs
 
 -- src/lib.rt:540:1
 returns-4 : tie.Need-returns-4
-returns-4 c = c .inputs-merged .ensures ∙ merge-pass (c .before .before .before .before .before .before .before .args .p) (c .before .before .before .before .before .before .before .args .left) (c .before .before .before .before .before .before .before .args .right) (c .before .before .before .before .before .before .before .args .merge) (sym (c .before .before .before .before .before .before .plan-ok .ensures) ∙ not-false _ (c .before .before .before .before .before .if1 .left)) (sym (c .before .before .before .before .facts-ok .ensures) ∙ not-false _ (c .before .before .before .if2 .left)) (sym (c .before .before .facts-ok2 .ensures) ∙ not-false _ (c .before .if3 .left))
+returns-4 c =
+    let at-if2 = c .before .before .before in
+    let at-facts-ok = at-if2 .before in
+    let at-if1 = at-facts-ok .before in
+    let at-plan-ok = at-if1 .before in
+    let start = at-plan-ok .before in
+    let args = start .args in
+    c .inputs-merged .ensures ∙ merge-pass (args .p) (args .left) (args .right) (args .merge)
+    (sym (at-plan-ok .plan-ok .ensures) ∙ not-false _ (at-if1 .if1 .left)) (sym (at-facts-ok .facts-ok .ensures) ∙ not-false _ (at-if2 .if2 .left))
+    (sym (c .before .before .facts-ok2 .ensures) ∙ not-false _ (c .before .if3 .left))
 
 pub merge-inputs-spec : {M : Type 1} → statement M
 merge-inputs-spec =

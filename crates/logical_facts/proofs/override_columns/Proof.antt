@@ -74,11 +74,14 @@ loop-less c = search needs
 
 -- src/lib.rt:498:5
 loop-again : tie.Need-loop-again Inv-loop μ-loop
-loop-again c = (omega arith, over-next _ _ (c .before .before .before .before .before .before .before .loop .t) (c .before .before .before .before .before .before .before .loop .c) _ _ (c .before .before .before .before .before .before .before .loop .inv .1) (c .before .before .over8 .ensures) (c .over16 .ensures))
+loop-again c =
+    let at-loop = c .before .before .before .before .before .before .before in
+    (omega arith, over-next _ _ (at-loop .loop .t) (at-loop .loop .c) _ _ (at-loop .loop .inv .1) (c .before .before .over8 .ensures) (c .over16 .ensures))
 
 -- src/lib.rt:493:1
 returns : tie.Need-returns Inv-loop μ-loop
-returns c = over-all (c .before .before .args .left) (c .before .before .args .t2) (c .before .loop .t) (c .before .loop .c) (c .before .loop .inv .0) (c .loop-test .left) (c .before .loop .inv .1)
+returns c = over-all (c .before .before .args .left) (c .before .before .args .t2) (c .before .loop .t) (c .before .loop .c) (c .before .loop .inv .0)
+    (c .loop-test .left) (c .before .loop .inv .1)
 
 pub override-columns-spec : {M : Type 1} → statement M
 override-columns-spec =

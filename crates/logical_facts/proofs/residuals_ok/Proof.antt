@@ -32,7 +32,13 @@ at16-requires c κs = search needs
 
 -- src/lib.rt:392:13
 returns : tie.Need-returns Inv-loop μ-loop
-returns c = sym (c .before .before .before .before .before .before .loop .inv .1 ∙ all-fails (residualOk (c .before .before .before .before .before .before .before .args .t1) (c .before .before .before .before .before .before .before .args .ne)) (c .before .before .before .before .before .before .loop .k) (c .before .before .before .before .before .before .before .args .t1 .residuals) (c .before .before .before .before .before .loop-test .taken) (ap (λ (v : ℕ). ltb v (c .before .before .before .before .before .before .before .args .ne)) (sym (c .before .at16 .ensures)) ∙ le-ltb _ _ (c .if1 .taken)))
+returns c =
+    let at-loop-test = c .before .before .before .before .before in
+    let at-loop = at-loop-test .before in
+    let start = at-loop .before in
+    let args = start .args in
+    sym (at-loop .loop .inv .1 ∙ all-fails (residualOk (args .t1) (args .ne)) (at-loop .loop .k) (args .t1 .residuals) (at-loop-test .loop-test .taken)
+    (ap (λ (v : ℕ). ltb v (args .ne)) (sym (c .before .at16 .ensures)) ∙ le-ltb _ _ (c .if1 .taken)))
 
 -- src/lib.rt:394:9
 add-k : tie.Need-add-k Inv-loop μ-loop
@@ -44,11 +50,22 @@ loop-less c = search needs
 
 -- src/lib.rt:390:5
 loop-again : tie.Need-loop-again Inv-loop μ-loop
-loop-again c = (omega arith, c .before .before .before .before .before .before .loop .inv .1 ∙ all-passes (residualOk (c .before .before .before .before .before .before .before .args .t1) (c .before .before .before .before .before .before .before .args .ne)) (c .before .before .before .before .before .before .loop .k) (c .before .before .before .before .before .before .before .args .t1 .residuals) (c .before .before .before .before .before .loop-test .taken) (ap (λ (v : ℕ). ltb v (c .before .before .before .before .before .before .before .args .ne)) (sym (c .before .at16 .ensures)) ∙ lt-ltb _ _ (c .if1 .left)))
+loop-again c =
+    let at-loop-test = c .before .before .before .before .before in
+    let at-loop = at-loop-test .before in
+    let start = at-loop .before in
+    let args = start .args in (
+      omega arith,
+      at-loop .loop .inv .1 ∙ all-passes (residualOk (args .t1) (args .ne)) (at-loop .loop .k) (args .t1 .residuals)
+          (at-loop-test .loop-test .taken) (ap (λ (v : ℕ). ltb v (args .ne)) (sym (c .before .at16 .ensures)) ∙ lt-ltb _ _ (c .if1 .left)),
+    )
 
 -- src/lib.rt:385:1
 returns-2 : tie.Need-returns-2 Inv-loop μ-loop
-returns-2 c = sym (c .before .loop .inv .1 ∙ all-done (residualOk (c .before .before .args .t1) (c .before .before .args .ne)) (c .before .loop .k) (c .before .before .args .t1 .residuals) (c .loop-test .left))
+returns-2 c =
+    let start = c .before .before in
+    let args = start .args in
+    sym (c .before .loop .inv .1 ∙ all-done (residualOk (args .t1) (args .ne)) (c .before .loop .k) (args .t1 .residuals) (c .loop-test .left))
 
 pub residuals-ok-spec : {M : Type 1} → statement M
 residuals-ok-spec =

@@ -18,7 +18,18 @@ at64-requires : tie.Need-at64-requires
 at64-requires c κs = search needs
 
 returns : tie.Need-returns
-returns c = λ i. record { kind = c .before .before .before .before .at8 .ensures i; code = c .before .before .before .at82 .ensures i; a = c .before .before .at16 .ensures i; b = c .before .at162 .ensures i; c = 0; d = 0; bits = c .at64 .ensures i }
+returns c =
+    let at-at82 = c .before .before .before in
+    let at-at8 = at-at82 .before in
+    λ i. record {
+      kind = at-at8 .at8 .ensures i;
+      code = at-at82 .at82 .ensures i;
+      a = c .before .before .at16 .ensures i;
+      b = c .before .at162 .ensures i;
+      c = 0;
+      d = 0;
+      bits = c .at64 .ensures i;
+    }
 
 pub expr-record-spec : {M : Type 1} → statement M
 expr-record-spec =

@@ -21,7 +21,19 @@ at16-requires-4 : tie.Need-at16-requires-4
 at16-requires-4 c κs = search needs
 
 returns : tie.Need-returns
-returns c = λ i. record { kind = c .before .before .before .before .before .at8 .ensures i; code = c .before .before .before .before .at82 .ensures i; a = c .before .before .before .at16 .ensures i; b = c .before .before .at162 .ensures i; c = c .before .at163 .ensures i; d = c .at164 .ensures i; bits = 0 }
+returns c =
+    let at-at16 = c .before .before .before in
+    let at-at82 = at-at16 .before in
+    let at-at8 = at-at82 .before in
+    λ i. record {
+      kind = at-at8 .at8 .ensures i;
+      code = at-at82 .at82 .ensures i;
+      a = at-at16 .at16 .ensures i;
+      b = c .before .before .at162 .ensures i;
+      c = c .before .at163 .ensures i;
+      d = c .at164 .ensures i;
+      bits = 0;
+    }
 
 pub operator-record-spec : {M : Type 1} → statement M
 operator-record-spec =

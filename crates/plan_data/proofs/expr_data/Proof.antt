@@ -37,7 +37,14 @@ returns-4 c = rw (c .before .before .match .keys4, c .before .nary-op-of .ensure
 
 returns-5 : tie.Need-returns-5
 unfolding exprData
-returns-5 c = rw (ne-eqb _ 0x20 (c .before .match .rest .0 .0 .0 .1), ne-eqb _ 0x21 (c .before .match .rest .0 .0 .1), ne-eqb _ 0x22 (c .before .match .rest .0 .1), ne-eqb _ 0x23 (c .before .match .rest .1), c .scalar-of .ensures)
+returns-5 c = rw (
+  ne-eqb _ 0x20 (c .before .match .rest .0 .0 .0 .1),
+  ne-eqb _ 0x21 (c .before .match .rest .0 .0 .1),
+  ne-eqb _ 0x22
+      (c .before .match .rest .0 .1),
+  ne-eqb _ 0x23 (c .before .match .rest .1),
+  c .scalar-of .ensures,
+)
 
 pub expr-data-spec : {M : Type 1} → statement M
 expr-data-spec =

@@ -63,7 +63,9 @@ returns-4 : tie.Need-returns-4
 returns-4 c = rw (c .before .before .before .e4 .given .1, ← c .before .code-of-binary-op .ensures) (c .numbers3 .ensures)
 
 returns-5 : tie.Need-returns-5
-returns-5 c = rw (c .before .before .before .before .e5 .given .1, ← c .before .before .code-of-nary-op .ensures, ← c .before .count-of-run .ensures) (c .numbers4 .ensures)
+returns-5 c =
+    let at-e5 = c .before .before .before .before in
+    rw (at-e5 .e5 .given .1, ← c .before .before .code-of-nary-op .ensures, ← c .before .count-of-run .ensures) (c .numbers4 .ensures)
 
 pub expr-record-of-spec : {M : Type 1} → statement M
 expr-record-of-spec =

@@ -101,7 +101,29 @@ returns-14 c = rw (c .match .keys14)
 
 returns-15 : tie.Need-returns-15
 unfolding operatorData
-returns-15 c = rw (ne-eqb _ 0x30 (c .before .match .rest .0 .0 .0 .0 .0 .0 .0 .0 .0 .0 .0 .0 .0 .1), ne-eqb _ 0x31 (c .before .match .rest .0 .0 .0 .0 .0 .0 .0 .0 .0 .0 .0 .0 .1), ne-eqb _ 0x32 (c .before .match .rest .0 .0 .0 .0 .0 .0 .0 .0 .0 .0 .0 .1), ne-eqb _ 0x33 (c .before .match .rest .0 .0 .0 .0 .0 .0 .0 .0 .0 .0 .1), ne-eqb _ 0x34 (c .before .match .rest .0 .0 .0 .0 .0 .0 .0 .0 .0 .1), ne-eqb _ 0x35 (c .before .match .rest .0 .0 .0 .0 .0 .0 .0 .0 .1), ne-eqb _ 0x36 (c .before .match .rest .0 .0 .0 .0 .0 .0 .0 .1), ne-eqb _ 0x37 (c .before .match .rest .0 .0 .0 .0 .0 .0 .1), ne-eqb _ 0x38 (c .before .match .rest .0 .0 .0 .0 .0 .1), ne-eqb _ 0x39 (c .before .match .rest .0 .0 .0 .0 .1), ne-eqb _ 0x3A (c .before .match .rest .0 .0 .0 .1), ne-eqb _ 0x3B (c .before .match .rest .0 .0 .1), ne-eqb _ 0x3C (c .before .match .rest .0 .1), ne-eqb _ 0x3D (c .before .match .rest .1), c .run-of10 .ensures)
+returns-15 c = rw (
+  ne-eqb _ 0x30 (c .before .match .rest .0 .0 .0 .0 .0 .0 .0 .0 .0 .0 .0 .0 .0 .1),
+  ne-eqb _ 0x31
+      (c .before .match .rest .0 .0 .0 .0 .0 .0 .0 .0 .0 .0 .0 .0 .1),
+  ne-eqb _ 0x32 (c .before .match .rest .0 .0 .0 .0 .0 .0 .0 .0 .0 .0 .0 .1),
+  ne-eqb _ 0x33
+      (c .before .match .rest .0 .0 .0 .0 .0 .0 .0 .0 .0 .0 .1),
+  ne-eqb _ 0x34 (c .before .match .rest .0 .0 .0 .0 .0 .0 .0 .0 .0 .1),
+  ne-eqb _ 0x35
+      (c .before .match .rest .0 .0 .0 .0 .0 .0 .0 .0 .1),
+  ne-eqb _ 0x36 (c .before .match .rest .0 .0 .0 .0 .0 .0 .0 .1),
+  ne-eqb _ 0x37
+      (c .before .match .rest .0 .0 .0 .0 .0 .0 .1),
+  ne-eqb _ 0x38 (c .before .match .rest .0 .0 .0 .0 .0 .1),
+  ne-eqb _ 0x39
+      (c .before .match .rest .0 .0 .0 .0 .1),
+  ne-eqb _ 0x3A (c .before .match .rest .0 .0 .0 .1),
+  ne-eqb _ 0x3B (c .before .match .rest .0 .0 .1),
+  ne-eqb _
+      0x3C (c .before .match .rest .0 .1),
+  ne-eqb _ 0x3D (c .before .match .rest .1),
+  c .run-of10 .ensures,
+)
 
 pub operator-data-spec : {M : Type 1} → statement M
 operator-data-spec =

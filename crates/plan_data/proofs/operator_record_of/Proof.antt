@@ -138,7 +138,9 @@ returns-7 : tie.Need-returns-7
 returns-7 c = rw (c .before .before .before .o7 .given .1, ← c .before .count-of-run6 .ensures) (c .numbers7 .ensures)
 
 returns-8 : tie.Need-returns-8
-returns-8 c = rw (c .before .before .before .before .o8 .given .1, ← c .before .before .count-of-run7 .ensures, ← c .before .count-of-run8 .ensures) (c .numbers8 .ensures)
+returns-8 c =
+    let at-o8 = c .before .before .before .before in
+    rw (at-o8 .o8 .given .1, ← c .before .before .count-of-run7 .ensures, ← c .before .count-of-run8 .ensures) (c .numbers8 .ensures)
 
 returns-9 : tie.Need-returns-9
 returns-9 c = rw (c .before .before .before .o9 .given .1, ← c .before .count-of-run9 .ensures) (c .numbers9 .ensures)
@@ -153,7 +155,11 @@ returns-12 : tie.Need-returns-12
 returns-12 c = rw (c .before .before .o12 .given .1) (c .numbers12 .ensures)
 
 returns-13 : tie.Need-returns-13
-returns-13 c = rw (c .before .before .before .before .before .o13 .given .1, ← c .before .before .before .kind-of-join .ensures, ← c .before .before .code-of-join-type .ensures, ← c .before .marker-of .ensures) (c .numbers13 .ensures)
+returns-13 c =
+    let at-kind-of-join = c .before .before .before in
+    let at-o13 = at-kind-of-join .before .before in
+    rw (at-o13 .o13 .given .1, ← at-kind-of-join .kind-of-join .ensures, ← c .before .before .code-of-join-type .ensures, ← c .before .marker-of .ensures)
+    (c .numbers13 .ensures)
 
 pub operator-record-of-spec : {M : Type 1} → statement M
 operator-record-of-spec =

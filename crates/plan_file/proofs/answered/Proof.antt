@@ -15,7 +15,9 @@ empty-requires c κs = search needs
 
 returns-2 : tie.Need-returns-2
 unfolding answerOf
-returns-2 c = rw (← c .before .before .is-whole .ensures, c .before .if1 .left) (λ i. record { plan = c .empty .ensures i; reading = c .before .before .before .args .q .reading })
+returns-2 c =
+    let start = c .before .before .before in
+    rw (← c .before .before .is-whole .ensures, c .before .if1 .left) (λ i. record { plan = c .empty .ensures i; reading = start .args .q .reading })
 
 pub answered-spec : {M : Type 1} → statement M
 answered-spec = tie.close (tie.spec is-whole-requires returns empty-requires returns-2)

@@ -23,14 +23,20 @@ append-operator-requires c κs = search needs
 
 returns-3 : tie.Need-returns-3
 unfolding appendOf
-returns-3 c = rw (ne-eqb _ _ (c .before .before .before .before .before .if1 .left), ne-eqb _ _ (c .before .before .before .if2 .left), eq-eqb _ _ (c .before .if3 .taken)) (c .append-operator .ensures)
+returns-3 c =
+    let at-if2 = c .before .before .before in
+    let at-if1 = at-if2 .before .before in
+    rw (ne-eqb _ _ (at-if1 .if1 .left), ne-eqb _ _ (at-if2 .if2 .left), eq-eqb _ _ (c .before .if3 .taken)) (c .append-operator .ensures)
 
 append-item-requires : tie.Need-append-item-requires
 append-item-requires c κs = search needs
 
 returns-4 : tie.Need-returns-4
 unfolding appendOf
-returns-4 c = rw (ne-eqb _ _ (c .before .before .before .before .before .if1 .left), ne-eqb _ _ (c .before .before .before .if2 .left), ne-eqb _ _ (c .before .if3 .left)) (c .append-item .ensures)
+returns-4 c =
+    let at-if2 = c .before .before .before in
+    let at-if1 = at-if2 .before .before in
+    rw (ne-eqb _ _ (at-if1 .if1 .left), ne-eqb _ _ (at-if2 .if2 .left), ne-eqb _ _ (c .before .if3 .left)) (c .append-item .ensures)
 
 pub append-spec : {M : Type 1} → statement M
 append-spec =

@@ -27,7 +27,9 @@ answered-requires : tie.Need-answered-requires Inv-loop μ-loop
 answered-requires c κs = search needs
 
 returns : tie.Need-returns Inv-loop μ-loop
-returns c = c .answered .ensures ∙ read-early _ _ _ (c .before .before .before .before .before .loop .inv .0) (c .before .before .before .before .before .loop .inv .1) (sym (c .before .before .is-done .ensures) ∙ c .before .if1 .taken)
+returns c =
+    let at-loop = c .before .before .before .before .before in
+    c .answered .ensures ∙ read-early _ _ _ (at-loop .loop .inv .0) (at-loop .loop .inv .1) (sym (c .before .before .is-done .ensures) ∙ c .before .if1 .taken)
 
 step-requires : tie.Need-step-requires Inv-loop μ-loop
 step-requires c κs = sym (c .before .is-done .ensures) ∙ c .if1 .left

@@ -24,7 +24,13 @@ refused-requires : tie.Need-refused-requires
 refused-requires c κs = search needs
 
 returns : tie.Need-returns
-returns c = c .refused .ensures ∙ step-refused _ _ _ _ _ _ (c .before .before .before .before .before .before .at8 .ensures) (c .before .before .before .before .before .row-of .ensures) (c .before .before .before .before .fetch .ensures) (c .before .before .before .fault .ensures) (sym (c .before .before .is-whole .ensures) ∙ not-true (c .before .before .is-whole .result) (c .before .if1 .taken))
+returns c =
+    let at-fault = c .before .before .before in
+    let at-fetch = at-fault .before in
+    let at-row-of = at-fetch .before in
+    let at-at8 = at-row-of .before in
+    c .refused .ensures ∙ step-refused _ _ _ _ _ _ (at-at8 .at8 .ensures) (at-row-of .row-of .ensures) (at-fetch .fetch .ensures) (at-fault .fault .ensures)
+    (sym (c .before .before .is-whole .ensures) ∙ not-true (c .before .before .is-whole .result) (c .before .if1 .taken))
 
 append-requires : tie.Need-append-requires
 append-requires c κs = search needs
@@ -36,13 +42,42 @@ refused-requires-2 : tie.Need-refused-requires-2
 refused-requires-2 c κs = search needs
 
 returns-2 : tie.Need-returns-2
-returns-2 c = c .refused2 .ensures ∙ step-full _ _ _ _ _ _ (c .before .before .before .before .before .before .before .before .before .before .before .at8 .ensures) (c .before .before .before .before .before .before .before .before .before .before .row-of .ensures) (c .before .before .before .before .before .before .before .before .before .fetch .ensures) (c .before .before .before .before .before .before .before .before .fault .ensures) _ (sym (c .before .before .before .before .before .before .before .is-whole .ensures) ∙ not-false (c .before .before .before .before .before .before .before .is-whole .result) (c .before .before .before .before .before .before .if1 .left)) (c .before .before .before .before .append .ensures) (sym (c .before .before .is-added .ensures) ∙ not-true (c .before .before .is-added .result) (c .before .if2 .taken))
+returns-2 c =
+    let at-append = c .before .before .before .before in
+    let at-if1 = at-append .before .before in
+    let at-is-whole = at-if1 .before in
+    let at-fault = at-is-whole .before in
+    let at-fetch = at-fault .before in
+    let at-row-of = at-fetch .before in
+    let at-at8 = at-row-of .before in
+    c .refused2 .ensures ∙ step-full _ _ _ _ _ _ (at-at8 .at8 .ensures) (at-row-of .row-of .ensures) (at-fetch .fetch .ensures) (at-fault .fault .ensures) _
+    (sym (at-is-whole .is-whole .ensures) ∙ not-false (at-is-whole .is-whole .result) (at-if1 .if1 .left)) (at-append .append .ensures)
+    (sym (c .before .before .is-added .ensures) ∙ not-true (c .before .before .is-added .result) (c .before .if2 .taken))
 
 taken-requires : tie.Need-taken-requires
-taken-requires c κs = takes _ _ _ _ _ _ (c .before .before .before .before .before .before .before .before .before .before .at8 .ensures) (c .before .before .before .before .before .before .before .before .before .row-of .ensures) (c .before .before .before .before .before .before .before .before .fetch .ensures) (c .before .before .before .before .before .before .before .fault .ensures) (c .before .before .before .before .before .before .before .before .before .before .before .before .pre) (sym (c .before .before .before .before .before .before .is-whole .ensures) ∙ not-false (c .before .before .before .before .before .before .is-whole .result) (c .before .before .before .before .before .if1 .left))
+taken-requires c κs =
+    let at-if1 = c .before .before .before .before .before in
+    let at-is-whole = at-if1 .before in
+    let at-fault = at-is-whole .before in
+    let at-fetch = at-fault .before in
+    let at-row-of = at-fetch .before in
+    let at-at8 = at-row-of .before in
+    let start = at-at8 .before .before in
+    takes _ _ _ _ _ _ (at-at8 .at8 .ensures) (at-row-of .row-of .ensures) (at-fetch .fetch .ensures) (at-fault .fault .ensures) (start .pre)
+    (sym (at-is-whole .is-whole .ensures) ∙ not-false (at-is-whole .is-whole .result) (at-if1 .if1 .left))
 
 returns-3 : tie.Need-returns-3
-returns-3 c = c .taken .ensures ∙ step-taken _ _ _ _ _ _ (c .before .before .before .before .before .before .before .before .before .before .before .at8 .ensures) (c .before .before .before .before .before .before .before .before .before .before .row-of .ensures) (c .before .before .before .before .before .before .before .before .before .fetch .ensures) (c .before .before .before .before .before .before .before .before .fault .ensures) _ (sym (c .before .before .before .before .before .before .before .is-whole .ensures) ∙ not-false (c .before .before .before .before .before .before .before .is-whole .result) (c .before .before .before .before .before .before .if1 .left)) (c .before .before .before .before .append .ensures) (sym (c .before .before .is-added .ensures) ∙ not-false (c .before .before .is-added .result) (c .before .if2 .left))
+returns-3 c =
+    let at-append = c .before .before .before .before in
+    let at-if1 = at-append .before .before in
+    let at-is-whole = at-if1 .before in
+    let at-fault = at-is-whole .before in
+    let at-fetch = at-fault .before in
+    let at-row-of = at-fetch .before in
+    let at-at8 = at-row-of .before in
+    c .taken .ensures ∙ step-taken _ _ _ _ _ _ (at-at8 .at8 .ensures) (at-row-of .row-of .ensures) (at-fetch .fetch .ensures) (at-fault .fault .ensures) _
+    (sym (at-is-whole .is-whole .ensures) ∙ not-false (at-is-whole .is-whole .result) (at-if1 .if1 .left)) (at-append .append .ensures)
+    (sym (c .before .before .is-added .ensures) ∙ not-false (c .before .before .is-added .result) (c .before .if2 .left))
 
 pub record-step-spec : {M : Type 1} → statement M
 record-step-spec =

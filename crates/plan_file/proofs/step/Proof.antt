@@ -25,7 +25,10 @@ record-step-requires : tie.Need-record-step-requires
 record-step-requires c κs = search needs
 
 returns-2 : tie.Need-returns-2
-returns-2 c = step-on (c .before .before .before .before .args .s .now) _ _ _ (c .before .before .before .before .pre) (c .before .before .if1 .left) (rest-of (c .before .before .before .before .args .s .now) (c .before .before .before .before .args .q .at)) (c .record-step .ensures)
+returns-2 c =
+    let start = c .before .before .before .before in
+    let args = start .args in
+    step-on (args .s .now) _ _ _ (start .pre) (c .before .before .if1 .left) (rest-of (args .s .now) (args .q .at)) (c .record-step .ensures)
 
 pub step-spec : {M : Type 1} → statement M
 step-spec =

@@ -28,7 +28,9 @@ same-length c = search needs
 
 -- src/lib.rt:18:1
 returns : tie.Need-returns
-returns c = wrote-then _ _ _ _ _ _ _ _ (c .before .before .before .before .before .before .byte .ensures) (c .before .before .before .before .before .before .byte .kept .0) (c .before .before .byte2 .ensures)
+returns c =
+    let at-byte = c .before .before .before .before .before .before in
+    wrote-then _ _ _ _ _ _ _ _ (at-byte .byte .ensures) (at-byte .byte .kept .0) (c .before .before .byte2 .ensures)
 
 pub put2-spec : {M : Type 1} → statement M
 put2-spec =

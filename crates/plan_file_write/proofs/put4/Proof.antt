@@ -28,7 +28,9 @@ same-length c = search needs
 
 -- src/lib.rt:25:1
 returns : tie.Need-returns
-returns c = wrote-then _ _ _ _ _ _ _ _ (c .before .before .before .before .before .before .put2 .ensures) (c .before .before .before .before .before .before .put2 .kept .0) (c .before .before .put22 .ensures)
+returns c =
+    let at-put2 = c .before .before .before .before .before .before in
+    wrote-then _ _ _ _ _ _ _ _ (at-put2 .put2 .ensures) (at-put2 .put2 .kept .0) (c .before .before .put22 .ensures)
 
 pub put4-spec : {M : Type 1} → statement M
 put4-spec =

@@ -28,7 +28,9 @@ same-length c = search needs
 
 -- src/lib.rt:32:1
 returns : tie.Need-returns
-returns c = wrote-then _ _ _ _ _ _ _ _ (c .before .before .before .before .before .before .put4 .ensures) (c .before .before .before .before .before .before .put4 .kept .0) (c .before .before .put42 .ensures)
+returns c =
+    let at-put4 = c .before .before .before .before .before .before in
+    wrote-then _ _ _ _ _ _ _ _ (at-put4 .put4 .ensures) (at-put4 .put4 .kept .0) (c .before .before .put42 .ensures)
 
 pub put8-spec : {M : Type 1} → statement M
 put8-spec =

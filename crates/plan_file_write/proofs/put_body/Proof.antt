@@ -40,11 +40,32 @@ put-bits-requires c κs = search needs
 
 -- src/lib.rt:71:1
 same-length : tie.Need-same-length
-same-length c = c .before .before .put-bits .kept .0 ∙ c .before .before .before .before .before .before .put-code2 .kept .0 ∙ c .before .before .before .before .before .before .before .before .before .before .before .put-word4 .kept .0 ∙ c .before .before .before .before .before .before .before .before .before .before .before .before .before .before .before .put-word3 .kept .0 ∙ c .before .before .before .before .before .before .before .before .before .before .before .before .before .before .before .before .before .before .before .put-word2 .kept .0 ∙ c .before .before .before .before .before .before .before .before .before .before .before .before .before .before .before .before .before .before .before .before .before .before .before .put-word .kept .0 ∙ c .before .before .before .before .before .before .before .before .before .before .before .before .before .before .before .before .before .before .before .before .before .before .before .before .before .before .before .put-code .kept .0
+same-length c =
+    let at-put-code2 = c .before .before .before .before .before .before in
+    let at-put-word4 = at-put-code2 .before .before .before .before .before in
+    let at-put-word3 = at-put-word4 .before .before .before .before in
+    let at-put-word2 = at-put-word3 .before .before .before .before in
+    let at-put-word = at-put-word2 .before .before .before .before in
+    let at-put-code = at-put-word .before .before .before .before in
+    c .before .before .put-bits .kept .0 ∙ at-put-code2 .put-code2 .kept .0 ∙ at-put-word4 .put-word4 .kept .0 ∙ at-put-word3 .put-word3 .kept .0
+    ∙ at-put-word2 .put-word2 .kept .0 ∙ at-put-word .put-word .kept .0 ∙ at-put-code .put-code .kept .0
 
 -- src/lib.rt:71:1
 returns : tie.Need-returns
-returns c = wrote-as _ _ _ _ _ _ (wrote-then _ _ _ _ _ _ _ _ (c .before .before .before .before .before .before .before .before .before .before .before .before .before .before .before .before .before .before .before .before .before .before .before .before .before .before .before .put-code .ensures) (c .before .before .before .before .before .before .before .before .before .before .before .before .before .before .before .before .before .before .before .before .before .before .before .before .before .before .before .put-code .kept .0) (wrote-then _ _ _ _ _ _ _ _ (c .before .before .before .before .before .before .before .before .before .before .before .before .before .before .before .before .before .before .before .before .before .before .before .put-word .ensures) (c .before .before .before .before .before .before .before .before .before .before .before .before .before .before .before .before .before .before .before .before .before .before .before .put-word .kept .0) (wrote-then _ _ _ _ _ _ _ _ (c .before .before .before .before .before .before .before .before .before .before .before .before .before .before .before .before .before .before .before .put-word2 .ensures) (c .before .before .before .before .before .before .before .before .before .before .before .before .before .before .before .before .before .before .before .put-word2 .kept .0) (wrote-then _ _ _ _ _ _ _ _ (c .before .before .before .before .before .before .before .before .before .before .before .before .before .before .before .put-word3 .ensures) (c .before .before .before .before .before .before .before .before .before .before .before .before .before .before .before .put-word3 .kept .0) (wrote-then _ _ _ _ _ _ _ _ (c .before .before .before .before .before .before .before .before .before .before .before .put-word4 .ensures) (c .before .before .before .before .before .before .before .before .before .before .before .put-word4 .kept .0) (wrote-then _ _ _ _ _ _ _ _ (c .before .before .before .before .before .before .put-code2 .ensures) (c .before .before .before .before .before .before .put-code2 .kept .0) (c .before .before .put-bits .ensures))))))) (body-parts _ _)
+returns c =
+    let at-put-code2 = c .before .before .before .before .before .before in
+    let at-put-word4 = at-put-code2 .before .before .before .before .before in
+    let at-put-word3 = at-put-word4 .before .before .before .before in
+    let at-put-word2 = at-put-word3 .before .before .before .before in
+    let at-put-word = at-put-word2 .before .before .before .before in
+    let at-put-code = at-put-word .before .before .before .before in
+    wrote-as _ _ _ _ _ _ (wrote-then _ _ _ _ _ _ _ _ (at-put-code .put-code .ensures) (at-put-code .put-code .kept .0)
+    (wrote-then _ _ _ _ _ _ _ _ (at-put-word .put-word .ensures) (at-put-word .put-word .kept .0)
+    (wrote-then _ _ _ _ _ _ _ _ (at-put-word2 .put-word2 .ensures) (at-put-word2 .put-word2 .kept .0)
+    (wrote-then _ _ _ _ _ _ _ _ (at-put-word3 .put-word3 .ensures) (at-put-word3 .put-word3 .kept .0)
+    (wrote-then _ _ _ _ _ _ _ _ (at-put-word4 .put-word4 .ensures) (at-put-word4 .put-word4 .kept .0)
+    (wrote-then _ _ _ _ _ _ _ _ (at-put-code2 .put-code2 .ensures) (at-put-code2 .put-code2 .kept .0) (c .before .before .put-bits .ensures)))))))
+    (body-parts _ _)
 
 pub put-body-spec : {M : Type 1} → statement M
 put-body-spec =

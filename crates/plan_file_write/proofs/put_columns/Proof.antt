@@ -13,7 +13,8 @@ use Rattle.plan_file_write.proofs.put_columns.Lts as lts
 use Rattle.plan_file_write.proofs.put_column.Reads as put-column-reads
 
 abbrev Inv-loop : tie.InvT-loop
-Inv-loop out₀ at name kind n p₀ i₀ out p i = (i ≤ n) × (length out ≡ length out₀) × Wrote out₀ at out p (lines i (λ (j : ℕ). recordBytes (columnIn name kind j)))
+Inv-loop out₀ at name kind n p₀ i₀ out p i = (i ≤ n) × (length out ≡ length out₀) × Wrote out₀ at out p
+    (lines i (λ (j : ℕ). recordBytes (columnIn name kind j)))
 
 abbrev μ-loop : tie.MeasureT-loop
 μ-loop out₀ at name kind n p₀ i₀ out p i = n - i
@@ -37,7 +38,13 @@ loop-less c = search needs
 
 -- src/lib.rt:162:5
 loop-again : tie.Need-loop-again Inv-loop μ-loop
-loop-again c = (search needs, c .before .before .put-column .kept .0 ∙ c .before .before .before .before .before .loop .inv .1, rw (lines-more) (wrote-then _ _ _ _ _ _ _ _ (c .before .before .before .before .before .loop .inv .2) (c .before .before .before .before .before .loop .inv .1) (c .before .before .put-column .ensures)))
+loop-again c =
+    let at-loop = c .before .before .before .before .before in (
+      search needs,
+      c .before .before .put-column .kept .0 ∙ at-loop .loop .inv .1,
+      rw (lines-more)
+          (wrote-then _ _ _ _ _ _ _ _ (at-loop .loop .inv .2) (at-loop .loop .inv .1) (c .before .before .put-column .ensures)),
+    )
 
 -- src/lib.rt:157:1
 same-length : tie.Need-same-length Inv-loop μ-loop

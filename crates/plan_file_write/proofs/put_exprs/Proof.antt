@@ -13,7 +13,8 @@ use Rattle.plan_file_write.proofs.put_exprs.Lts as lts
 use Rattle.plan_file_write.proofs.put_expr.Reads as put-expr-reads
 
 abbrev Inv-loop : tie.InvT-loop
-Inv-loop out₀ at kind code a b bits start first second n p₀ i₀ out p i = (i ≤ n) × (length out ≡ length out₀) × Wrote out₀ at out p (lines i (exprBytes kind code a b bits start first second))
+Inv-loop out₀ at kind code a b bits start first second n p₀ i₀ out p i = (i ≤ n) × (length out ≡ length out₀) × Wrote out₀ at out p
+    (lines i (exprBytes kind code a b bits start first second))
 
 abbrev μ-loop : tie.MeasureT-loop
 μ-loop out₀ at kind code a b bits start first second n p₀ i₀ out p i = n - i
@@ -37,7 +38,13 @@ loop-less c = search needs
 
 -- src/lib.rt:206:5
 loop-again : tie.Need-loop-again Inv-loop μ-loop
-loop-again c = (search needs, c .before .before .put-expr .kept .0 ∙ c .before .before .before .before .before .loop .inv .1, rw (lines-more) (wrote-then _ _ _ _ _ _ _ _ (c .before .before .before .before .before .loop .inv .2) (c .before .before .before .before .before .loop .inv .1) (c .before .before .put-expr .ensures)))
+loop-again c =
+    let at-loop = c .before .before .before .before .before in (
+      search needs,
+      c .before .before .put-expr .kept .0 ∙ at-loop .loop .inv .1,
+      rw (lines-more)
+          (wrote-then _ _ _ _ _ _ _ _ (at-loop .loop .inv .2) (at-loop .loop .inv .1) (c .before .before .put-expr .ensures)),
+    )
 
 -- src/lib.rt:189:1
 same-length : tie.Need-same-length Inv-loop μ-loop
@@ -45,7 +52,9 @@ same-length c = search needs
 
 -- src/lib.rt:189:1
 returns : tie.Need-returns Inv-loop μ-loop
-returns c = let e : c .before .loop .i ≡ c .before .before .before .before .before .before .before .before .before .before .before .args .n = omega arith in rw e at (c .before .loop .inv .2)
+returns c =
+    let start = c .before .before .before .before .before .before .before .before .before .before .before in
+    let e : c .before .loop .i ≡ start .args .n = omega arith in rw e at (c .before .loop .inv .2)
 
 pub put-exprs-spec : {M : Type 1} → statement M
 put-exprs-spec =

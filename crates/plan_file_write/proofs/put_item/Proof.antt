@@ -33,7 +33,11 @@ same-length c = search needs
 
 -- src/lib.rt:103:1
 returns : tie.Need-returns
-returns c = rw (c .before .before .before .before .at16 .ensures, c .before .before .before .at162 .ensures, c .before .before .before .before .before .item-kind .ensures) at (c .before .before .put-record .ensures)
+returns c =
+    let at-at162 = c .before .before .before in
+    let at-at16 = at-at162 .before in
+    let at-item-kind = at-at16 .before in
+    rw (at-at16 .at16 .ensures, at-at162 .at162 .ensures, at-item-kind .item-kind .ensures) at (c .before .before .put-record .ensures)
 
 pub put-item-spec : {M : Type 1} → statement M
 put-item-spec =

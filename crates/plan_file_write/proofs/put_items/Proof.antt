@@ -68,7 +68,13 @@ loop-less c = search needs
 
 -- src/lib.rt:123:5
 loop-again : tie.Need-loop-again Inv-loop μ-loop
-loop-again c = (search needs, c .before .before .put-item .kept .0 ∙ c .before .before .before .before .before .loop .inv .1, rw (lines-more) (wrote-then _ _ _ _ _ _ _ _ (c .before .before .before .before .before .loop .inv .2) (c .before .before .before .before .before .loop .inv .1) (c .before .before .put-item .ensures)))
+loop-again c =
+    let at-loop = c .before .before .before .before .before in (
+      search needs,
+      c .before .before .put-item .kept .0 ∙ at-loop .loop .inv .1,
+      rw (lines-more)
+          (wrote-then _ _ _ _ _ _ _ _ (at-loop .loop .inv .2) (at-loop .loop .inv .1) (c .before .before .put-item .ensures)),
+    )
 
 -- src/lib.rt:116:1
 same-length : tie.Need-same-length Inv-loop μ-loop
@@ -77,7 +83,15 @@ same-length c = search needs
 -- src/lib.rt:116:1
 returns : tie.Need-returns Inv-loop μ-loop
 unfolding itemsBytes
-returns c = let f : c .before .before .before .count-of .result ≡ firstOf (c .before .before .before .before .before .before .before .before .args .x) = c .before .before .before .count-of .ensures ∙ ap (λ (r : Row). countOf r (c .before .before .before .before .before .before .before .before .args .x)) (c .before .before .before .before .row-of .ensures) in let g : c .before .before .more-of .result ≡ secondOf (c .before .before .before .before .before .before .before .before .args .x) = c .before .before .more-of .ensures ∙ ap (λ (r : Row). moreOf r (c .before .before .before .before .before .before .before .before .args .x)) (c .before .before .before .before .row-of .ensures) in let e : c .before .loop .k ≡ firstOf (c .before .before .before .before .before .before .before .before .args .x) + secondOf (c .before .before .before .before .before .before .before .before .args .x) = omega (arith, f, g) in rw e at (c .before .loop .inv .2)
+returns c =
+    let at-count-of = c .before .before .before in
+    let at-row-of = at-count-of .before in
+    let start = at-row-of .before .before .before .before in
+    let args = start .args in
+    let f : at-count-of .count-of .result ≡ firstOf (args .x) = at-count-of .count-of .ensures ∙ ap (λ (r : Row). countOf r (args .x))
+    (at-row-of .row-of .ensures) in let g : c .before .before .more-of .result ≡ secondOf (args .x) = c .before .before .more-of .ensures ∙ ap
+    (λ (r : Row). moreOf r (args .x)) (at-row-of .row-of .ensures) in let e : c .before .loop .k ≡ firstOf (args .x) + secondOf (args .x) = omega
+    (arith, f, g) in rw e at (c .before .loop .inv .2)
 
 pub put-items-spec : {M : Type 1} → statement M
 put-items-spec =

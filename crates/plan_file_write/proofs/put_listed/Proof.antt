@@ -23,7 +23,9 @@ same-length c = search needs
 -- src/lib.rt:130:1
 returns : tie.Need-returns
 unfolding listedBytes
-returns c = wrote-then _ _ _ _ _ _ _ _ (c .before .before .before .before .before .before .put-record .ensures) (c .before .before .before .before .before .before .put-record .kept .0) (c .before .before .put-items .ensures)
+returns c =
+    let at-put-record = c .before .before .before .before .before .before in
+    wrote-then _ _ _ _ _ _ _ _ (at-put-record .put-record .ensures) (at-put-record .put-record .kept .0) (c .before .before .put-items .ensures)
 
 pub put-listed-spec : {M : Type 1} → statement M
 put-listed-spec = tie.close (tie.spec put-record-requires put-items-requires same-length returns)

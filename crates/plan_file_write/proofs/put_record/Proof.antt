@@ -28,7 +28,10 @@ same-length c = search needs
 -- src/lib.rt:83:1
 returns : tie.Need-returns
 unfolding recordBytes
-returns c = rw (c .before .before .before .before .before .before .before .before .row-of .ensures) at (wrote-then _ _ _ _ _ _ _ _ (c .before .before .before .before .before .before .byte .ensures) (c .before .before .before .before .before .before .byte .kept .0) (c .before .before .put-body .ensures))
+returns c =
+    let at-byte = c .before .before .before .before .before .before in
+    let at-row-of = at-byte .before .before in
+    rw (at-row-of .row-of .ensures) at (wrote-then _ _ _ _ _ _ _ _ (at-byte .byte .ensures) (at-byte .byte .kept .0) (c .before .before .put-body .ensures))
 
 pub put-record-spec : {M : Type 1} → statement M
 put-record-spec =

@@ -24,12 +24,23 @@ put-operators-requires c κs = search needs
 
 -- src/lib.rt:260:1
 same-length : tie.Need-same-length
-same-length c = c .before .before .put-operators .kept .0 ∙ c .before .before .before .before .before .before .before .before .before .before .before .before .before .before .before .before .before .before .before .before .before .before .before .before .before .before .put-exprs .kept .0 ∙ c .before .before .before .before .before .before .before .before .before .before .before .before .before .before .before .before .before .before .before .before .before .before .before .before .before .before .before .before .before .before .before .before .before .before .before .before .before .before .before .before .before .before .before .before .before .before .before .before .put-columns .kept .0
+same-length c =
+    let at-put-exprs = c .before .before .before .before .before .before .before .before .before .before .before .before .before .before .before .before
+    .before .before .before .before .before .before .before .before .before .before in
+    let at-put-columns = at-put-exprs .before .before .before .before .before .before .before .before .before .before .before .before .before .before .before
+    .before .before .before .before .before .before .before in
+    c .before .before .put-operators .kept .0 ∙ at-put-exprs .put-exprs .kept .0 ∙ at-put-columns .put-columns .kept .0
 
 -- src/lib.rt:260:1
 returns : tie.Need-returns
 unfolding writtenOf
-returns c = wrote-then _ _ _ _ _ _ _ _ (c .before .before .before .before .before .before .before .before .before .before .before .before .before .before .before .before .before .before .before .before .before .before .before .before .before .before .before .before .before .before .before .before .before .before .before .before .before .before .before .before .before .before .before .before .before .before .before .before .put-columns .ensures) (c .before .before .before .before .before .before .before .before .before .before .before .before .before .before .before .before .before .before .before .before .before .before .before .before .before .before .before .before .before .before .before .before .before .before .before .before .before .before .before .before .before .before .before .before .before .before .before .before .put-columns .kept .0) (wrote-then _ _ _ _ _ _ _ _ (c .before .before .before .before .before .before .before .before .before .before .before .before .before .before .before .before .before .before .before .before .before .before .before .before .before .before .put-exprs .ensures) (c .before .before .before .before .before .before .before .before .before .before .before .before .before .before .before .before .before .before .before .before .before .before .before .before .before .before .put-exprs .kept .0) (c .before .before .put-operators .ensures))
+returns c =
+    let at-put-exprs = c .before .before .before .before .before .before .before .before .before .before .before .before .before .before .before .before
+    .before .before .before .before .before .before .before .before .before .before in
+    let at-put-columns = at-put-exprs .before .before .before .before .before .before .before .before .before .before .before .before .before .before .before
+    .before .before .before .before .before .before .before in
+    wrote-then _ _ _ _ _ _ _ _ (at-put-columns .put-columns .ensures) (at-put-columns .put-columns .kept .0)
+    (wrote-then _ _ _ _ _ _ _ _ (at-put-exprs .put-exprs .ensures) (at-put-exprs .put-exprs .kept .0) (c .before .before .put-operators .ensures))
 
 pub write-spec : {M : Type 1} → statement M
 write-spec =

@@ -14,7 +14,8 @@ use Rattle.plan_identities.proofs.column_of.Statement.{statement}
 use Rattle.plan_identities.proofs.column_of.Tie as tie
 
 abbrev Inv-loop : tie.InvT-loop
-Inv-loop base n number c₀ c = (c ≤ n) × (firstFrom (λ (j : ℕ). eqb (getD base j 0) number) (λ (j : ℕ). j) 0 0 n ≡ firstFrom (λ (j : ℕ). eqb (getD base j 0) number) (λ (j : ℕ). j) 0 c (n - c))
+Inv-loop base n number c₀ c = (c ≤ n) × (firstFrom (λ (j : ℕ). eqb (getD base j 0) number) (λ (j : ℕ). j) 0 0 n ≡ firstFrom
+    (λ (j : ℕ). eqb (getD base j 0) number) (λ (j : ℕ). j) 0 c (n - c))
 
 abbrev μ-loop : tie.MeasureT-loop
 μ-loop base n number c₀ c = n - c
@@ -34,10 +35,13 @@ at8-requires c κs = search needs
 
 returns : tie.Need-returns Inv-loop μ-loop
 returns c =
-    let a = c .before .before .before .before .before .args in
+    let at-loop = c .before .before .before in
+    let start = at-loop .before .before in
+    let a = start .args in
     let f : ℕ → Bool = λ j. eqb (getD (now (a .base)) j 0) (a .number) in
     let g : ℕ → ℕ = λ j. j in
-    sym (c .before .before .before .loop .inv .1 ∙ first-found f g 0 (c .before .before .before .loop .c) (a .n) true (c .before .before .loop-test .taken) (sym (eq-eqb _ _ (sym (c .before .at8 .ensures) ∙ c .if1 .taken))) refl)
+    sym (at-loop .loop .inv .1 ∙ first-found f g 0 (at-loop .loop .c) (a .n) true (c .before .before .loop-test .taken)
+    (sym (eq-eqb _ _ (sym (c .before .at8 .ensures) ∙ c .if1 .taken))) refl)
 
 add-c : tie.Need-add-c Inv-loop μ-loop
 add-c c = search needs
@@ -47,10 +51,15 @@ loop-less c = search needs
 
 loop-again : tie.Need-loop-again Inv-loop μ-loop
 loop-again c =
-    let a = c .before .before .before .before .before .args in
+    let at-loop = c .before .before .before in
+    let start = at-loop .before .before in
+    let a = start .args in
     let f : ℕ → Bool = λ j. eqb (getD (now (a .base)) j 0) (a .number) in
-    let g : ℕ → ℕ = λ j. j in
-    (omega arith, c .before .before .before .loop .inv .1 ∙ first-missed f g 0 (c .before .before .before .loop .c) (a .n) false (c .before .before .loop-test .taken) (sym (ne-eqb _ _ (λ e. c .if1 .left (c .before .at8 .ensures ∙ e)))) refl)
+    let g : ℕ → ℕ = λ j. j in (
+      omega arith,
+      at-loop .loop .inv .1 ∙ first-missed f g 0 (at-loop .loop .c) (a .n) false (c .before .before .loop-test .taken)
+          (sym (ne-eqb _ _ (λ e. c .if1 .left (c .before .at8 .ensures ∙ e)))) refl,
+    )
 
 returns-2 : tie.Need-returns-2 Inv-loop μ-loop
 returns-2 c =

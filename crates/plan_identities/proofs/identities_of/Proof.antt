@@ -25,7 +25,11 @@ ranks-requires : tie.Need-ranks-requires
 ranks-requires c κs = search needs
 
 returns : tie.Need-returns
-returns c = all-numbered (c .before .before .before .before .before .before .before .before .before .before .before .before .before .before .before .before .before .before .before .before .before .before .args .p) _ _ _ (c .before .before .before .before .before .before .before .before .before .before .before .before .before .before .before .before .before .before .size .ensures) (c .before .before .before .before .before .tables .ensures) (c .ranks .ensures)
+returns c =
+    let at-tables = c .before .before .before .before .before in
+    let at-size = at-tables .before .before .before .before .before .before .before .before .before .before .before .before .before in
+    let start = at-size .before .before .before .before in
+    all-numbered (start .args .p) _ _ _ (at-size .size .ensures) (at-tables .tables .ensures) (c .ranks .ensures)
 
 pub identities-of-spec : {M : Type 1} → statement M
 identities-of-spec =

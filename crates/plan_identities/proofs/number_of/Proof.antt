@@ -25,10 +25,18 @@ add-result : tie.Need-add-result
 add-result c = search needs
 
 returns : tie.Need-returns
-returns c = base-there (c .before .before .before .before .before .before .before .args .t1) _ _ _ (c .before .before .before .before .v .given .1) (c .before .before .before .before .before .before .size .ensures) (c .before .if1 .taken)
+returns c =
+    let at-v = c .before .before .before .before in
+    let at-size = at-v .before .before in
+    let start = at-size .before in
+    base-there (start .args .t1) _ _ _ (at-v .v .given .1) (at-size .size .ensures) (c .before .if1 .taken)
 
 returns-2 : tie.Need-returns-2
-returns-2 c = base-gone (c .before .before .before .before .before .before .args .t1) _ _ _ (c .before .before .before .v .given .1) (c .before .before .before .before .before .size .ensures) (c .if1 .left)
+returns-2 c =
+    let at-v = c .before .before .before in
+    let at-size = at-v .before .before in
+    let start = at-size .before in
+    base-gone (start .args .t1) _ _ _ (at-v .v .given .1) (at-size .size .ensures) (c .if1 .left)
 
 returns-3 : tie.Need-returns-3
 returns-3 c = derived-there (c .before .before .before .before .before .args .t1) _ _ (c .before .before .v2 .given .1) (c .if2 .taken)

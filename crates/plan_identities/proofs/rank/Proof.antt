@@ -12,7 +12,8 @@ use Rattle.plan_identities.proofs.rank.Statement.{statement}
 use Rattle.plan_identities.proofs.rank.Tie as tie
 
 abbrev Inv-loop : tie.InvT-loop
-Inv-loop tables names n c found₀ b₀ found b = (b ≤ n) × (found ≤ b) × (countFrom (λ (j : ℕ). beforeIn tables names j c) 0 n ≡ found + countFrom (λ (j : ℕ). beforeIn tables names j c) b (n - b))
+Inv-loop tables names n c found₀ b₀ found b = (b ≤ n) × (found ≤ b) × (countFrom (λ (j : ℕ). beforeIn tables names j c) 0 n ≡ found + countFrom
+    (λ (j : ℕ). beforeIn tables names j c) b (n - b))
 
 abbrev μ-loop : tie.MeasureT-loop
 μ-loop tables names n c found₀ b₀ found b = n - b

@@ -33,9 +33,11 @@ loop-less c = search needs
 
 loop-again : tie.Need-loop-again Inv-loop μ-loop
 loop-again c =
-    let a = c .before .before .before .before .before .args in
+    let at-loop = c .before .before in
+    let start = at-loop .before .before .before in
+    let a = start .args in
     let f = rankIn (now (a .tables)) (now (a .names)) (a .n) in
-    (omega arith, filled-more f (c .before .before .loop .t) (c .before .before .loop .c) (c .rank .result) (c .rank .ensures) (c .before .before .loop .inv .1))
+    (omega arith, filled-more f (at-loop .loop .t) (at-loop .loop .c) (c .rank .result) (c .rank .ensures) (at-loop .loop .inv .1))
 
 returns : tie.Need-returns Inv-loop μ-loop
 returns c =

@@ -13,7 +13,8 @@ use Rattle.plan_identities.proofs.table_of.Statement.{statement}
 use Rattle.plan_identities.proofs.table_of.Tie as tie
 
 abbrev Inv-loop : tie.InvT-loop
-Inv-loop kind a b start items np c i₀ i = (i ≤ np) × (tableIn kind a b start items np c ≡ firstFrom (scansOf kind b start items c) (λ (j : ℕ). getD a j 0) 65536 i (np - i))
+Inv-loop kind a b start items np c i₀ i = (i ≤ np) × (tableIn kind a b start items np c ≡ firstFrom (scansOf kind b start items c) (λ (j : ℕ). getD a j 0)
+    65536 i (np - i))
 
 abbrev μ-loop : tie.MeasureT-loop
 μ-loop kind a b start items np c i₀ i = np - i
@@ -37,10 +38,14 @@ cast-result c = search needs
 
 returns : tie.Need-returns Inv-loop μ-loop
 returns c =
-    let a = c .before .before .before .before .before .before .before .before .before .before .args in
+    let at-loop-test = c .before .before .before in
+    let at-loop = at-loop-test .before in
+    let start = at-loop .before .before .before .before .before .before in
+    let a = start .args in
     let f = scansOf (now (a .kind)) (now (a .b)) (now (a .start)) (now (a .items)) (a .c) in
     let g : ℕ → ℕ = λ j. getD (now (a .a)) j 0 in
-    c .at16 .ensures ∙ sym (c .before .before .before .before .loop .inv .1 ∙ first-found f g 65536 (c .before .before .before .before .loop .i) (a .np) (c .before .before .scan-lists .result) (c .before .before .before .loop-test .taken) (c .before .before .scan-lists .ensures) (c .before .if1 .taken))
+    c .at16 .ensures ∙ sym (at-loop .loop .inv .1 ∙ first-found f g 65536 (at-loop .loop .i) (a .np) (c .before .before .scan-lists .result)
+    (at-loop-test .loop-test .taken) (c .before .before .scan-lists .ensures) (c .before .if1 .taken))
 
 add-i : tie.Need-add-i Inv-loop μ-loop
 add-i c = search needs
@@ -50,10 +55,15 @@ loop-less c = search needs
 
 loop-again : tie.Need-loop-again Inv-loop μ-loop
 loop-again c =
-    let a = c .before .before .before .before .before .before .before .before .before .args in
+    let at-loop = c .before .before .before in
+    let start = at-loop .before .before .before .before .before .before in
+    let a = start .args in
     let f = scansOf (now (a .kind)) (now (a .b)) (now (a .start)) (now (a .items)) (a .c) in
-    let g : ℕ → ℕ = λ j. getD (now (a .a)) j 0 in
-    (omega arith, c .before .before .before .loop .inv .1 ∙ first-missed f g 65536 (c .before .before .before .loop .i) (a .np) (c .before .scan-lists .result) (c .before .before .loop-test .taken) (c .before .scan-lists .ensures) (c .if1 .left))
+    let g : ℕ → ℕ = λ j. getD (now (a .a)) j 0 in (
+      omega arith,
+      at-loop .loop .inv .1 ∙ first-missed f g 65536 (at-loop .loop .i) (a .np) (c .before .scan-lists .result)
+          (c .before .before .loop-test .taken) (c .before .scan-lists .ensures) (c .if1 .left),
+    )
 
 returns-2 : tie.Need-returns-2 Inv-loop μ-loop
 returns-2 c =

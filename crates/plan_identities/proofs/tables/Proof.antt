@@ -39,9 +39,11 @@ loop-less c = search needs
 
 loop-again : tie.Need-loop-again Inv-loop μ-loop
 loop-again c =
-    let a = c .before .before .before .before .before .before .before .before .args in
+    let at-loop = c .before .before in
+    let start = at-loop .before .before .before .before .before .before in
+    let a = start .args in
     let f = tableIn (now (a .kind)) (now (a .a)) (now (a .b)) (now (a .start)) (now (a .items)) (a .np) in
-    (omega arith, filled-more f (c .before .before .loop .t) (c .before .before .loop .c) (c .table-of .result) (c .table-of .ensures) (c .before .before .loop .inv .1))
+    (omega arith, filled-more f (at-loop .loop .t) (at-loop .loop .c) (c .table-of .result) (c .table-of .ensures) (at-loop .loop .inv .1))
 
 returns : tie.Need-returns Inv-loop μ-loop
 returns c =

@@ -16,7 +16,11 @@ column-of-requires : tie.Need-column-of-requires
 column-of-requires c κs = search needs
 
 returns : tie.Need-returns
-returns c = value-base (c .before .before .before .before .before .args .ids) (c .before .before .before .before .before .args .n) _ _ (c .before .before .before .before .if1 .taken) (c .before .before .before .size .ensures) (c .column-of .ensures)
+returns c =
+    let at-size = c .before .before .before in
+    let at-if1 = at-size .before in
+    let start = at-if1 .before in
+    value-base (start .args .ids) (start .args .n) _ _ (at-if1 .if1 .taken) (at-size .size .ensures) (c .column-of .ensures)
 
 cast-t12 : tie.Need-cast-t12
 cast-t12 c = search needs

@@ -16,7 +16,9 @@ handle-ok-requires-4 : tie.Need-handle-ok-requires-4
 handle-ok-requires-4 c κs = search needs
 
 returns : tie.Need-returns
-returns c = λ i. ((c .before .before .before .handle-ok .ensures i && c .before .before .handle-ok2 .ensures i) && c .before .handle-ok3 .ensures i) && c .handle-ok4 .ensures i
+returns c =
+    let at-handle-ok = c .before .before .before in
+    λ i. ((at-handle-ok .handle-ok .ensures i && c .before .before .handle-ok2 .ensures i) && c .before .handle-ok3 .ensures i) && c .handle-ok4 .ensures i
 
 pub handles-ok-spec : {M : Type 1} → statement M
 handles-ok-spec =

@@ -27,8 +27,11 @@ column-ok-requires c κs = search needs
 
 returns : tie.Need-returns Inv-loop μ-loop
 returns c =
-    let a = c .before .before .before .before .before .args in
-    sym (c .before .before .before .loop .inv .1 ∙ all-fails (columnOkOf (now (a .kind))) (c .before .before .before .loop .i) (a .n) (c .before .before .loop-test .taken) (sym (c .before .column-ok .ensures) ∙ not-true _ (c .if1 .taken)))
+    let at-loop = c .before .before .before in
+    let start = at-loop .before .before in
+    let a = start .args in
+    sym (at-loop .loop .inv .1 ∙ all-fails (columnOkOf (now (a .kind))) (at-loop .loop .i) (a .n) (c .before .before .loop-test .taken)
+    (sym (c .before .column-ok .ensures) ∙ not-true _ (c .if1 .taken)))
 
 add-i : tie.Need-add-i Inv-loop μ-loop
 add-i c = search needs
@@ -38,8 +41,13 @@ loop-less c = search needs
 
 loop-again : tie.Need-loop-again Inv-loop μ-loop
 loop-again c =
-    let a = c .before .before .before .before .before .args in
-    (omega arith, c .before .before .before .loop .inv .1 ∙ all-passes (columnOkOf (now (a .kind))) (c .before .before .before .loop .i) (a .n) (c .before .before .loop-test .taken) (sym (c .before .column-ok .ensures) ∙ not-false _ (c .if1 .left)))
+    let at-loop = c .before .before .before in
+    let start = at-loop .before .before in
+    let a = start .args in (
+      omega arith,
+      at-loop .loop .inv .1 ∙ all-passes (columnOkOf (now (a .kind))) (at-loop .loop .i) (a .n) (c .before .before .loop-test .taken)
+          (sym (c .before .column-ok .ensures) ∙ not-false _ (c .if1 .left)),
+    )
 
 returns-2 : tie.Need-returns-2 Inv-loop μ-loop
 returns-2 c =

@@ -25,9 +25,12 @@ lists-ok-requires c κs = search needs
 returns : tie.Need-returns
 unfolding exprOkOf
 returns c =
-    let a = c .before .before .before .before .before .before .before .before .before .before .before .before .args in
-    λ i. (c .before .record-ok .ensures ∙ (λ j. recordOk 2 (c .before .before .before .expr-record .ensures j) (a .nc) (a .i) (a .np))) i
-    && (c .lists-ok .ensures ∙ (λ j. listsOk (now (a .ia)) (now (a .ib)) (a .used) (c .before .before .before .expr-record .ensures j) (c .before .before .at16 .ensures j) (a .nc) (add-one (a .i) j) (a .np))) i
+    let at-expr-record = c .before .before .before in
+    let start = at-expr-record .before .before .before .before .before .before .before .before .before in
+    let a = start .args in
+    λ i. (c .before .record-ok .ensures ∙ (λ j. recordOk 2 (at-expr-record .expr-record .ensures j) (a .nc) (a .i) (a .np))) i
+    && (c .lists-ok .ensures ∙ (λ j. listsOk (now (a .ia)) (now (a .ib)) (a .used) (at-expr-record .expr-record .ensures j)
+    (c .before .before .at16 .ensures j) (a .nc) (add-one (a .i) j) (a .np))) i
 
 pub expr-ok-spec : {M : Type 1} → statement M
 expr-ok-spec =

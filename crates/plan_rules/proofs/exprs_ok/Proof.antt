@@ -12,23 +12,33 @@ use Rattle.plan_rules.proofs.exprs_ok.Statement.{statement}
 use Rattle.plan_rules.proofs.exprs_ok.Tie as tie
 
 abbrev Inv-loop : tie.InvT-loop
-Inv-loop kind code a b bits start ia ib used nc np n i₀ i = (i ≤ n) × (allFrom (exprOkOf kind code a b bits start ia ib used nc np) 0 n ≡ allFrom (exprOkOf kind code a b bits start ia ib used nc np) i (n - i))
+Inv-loop kind code a b bits start ia ib used nc np n i₀ i = (i ≤ n) × (allFrom (exprOkOf kind code a b bits start ia ib used nc np) 0 n ≡ allFrom
+    (exprOkOf kind code a b bits start ia ib used nc np) i (n - i))
 
 abbrev μ-loop : tie.MeasureT-loop
 μ-loop kind code a b bits start ia ib used nc np n i₀ i = n - i
 
 loop-holds : tie.Need-loop-holds Inv-loop μ-loop
 loop-holds c =
-    let a = c .before .before .before .before .before .before .before .before .args in
-    (omega arith, ap (allFrom (exprOkOf (now (a .kind)) (now (a .code)) (now (a .a)) (now (a .b)) (now (a .bits)) (now (a .start)) (now (a .ia)) (now (a .ib)) (a .used) (a .nc) (a .np)) 0) (sym (sub-zero (a .n))))
+    let start = c .before .before .before .before .before .before .before .before in
+    let a = start .args in (
+      omega arith,
+      ap
+          (allFrom (exprOkOf (now (a .kind)) (now (a .code)) (now (a .a)) (now (a .b)) (now (a .bits)) (now (a .start)) (now (a .ia)) (now (a .ib)) (a .used)
+          (a .nc) (a .np)) 0) (sym (sub-zero (a .n))),
+    )
 
 expr-ok-requires : tie.Need-expr-ok-requires Inv-loop μ-loop
 expr-ok-requires c κs = search needs
 
 returns : tie.Need-returns Inv-loop μ-loop
 returns c =
-    let a = c .before .before .before .before .before .before .before .before .before .before .before .before .args in
-    sym (c .before .before .before .loop .inv .1 ∙ all-fails (exprOkOf (now (a .kind)) (now (a .code)) (now (a .a)) (now (a .b)) (now (a .bits)) (now (a .start)) (now (a .ia)) (now (a .ib)) (a .used) (a .nc) (a .np)) (c .before .before .before .loop .i) (a .n) (c .before .before .loop-test .taken) (sym (c .before .expr-ok .ensures) ∙ not-true _ (c .if1 .taken)))
+    let at-loop = c .before .before .before in
+    let start = at-loop .before .before .before .before .before .before .before .before .before in
+    let a = start .args in
+    sym (at-loop .loop .inv .1 ∙ all-fails (exprOkOf (now (a .kind)) (now (a .code)) (now (a .a)) (now (a .b)) (now (a .bits)) (now (a .start)) (now (a .ia))
+    (now (a .ib)) (a .used) (a .nc) (a .np)) (at-loop .loop .i) (a .n) (c .before .before .loop-test .taken)
+    (sym (c .before .expr-ok .ensures) ∙ not-true _ (c .if1 .taken)))
 
 add-i : tie.Need-add-i Inv-loop μ-loop
 add-i c = search needs
@@ -38,13 +48,21 @@ loop-less c = search needs
 
 loop-again : tie.Need-loop-again Inv-loop μ-loop
 loop-again c =
-    let a = c .before .before .before .before .before .before .before .before .before .before .before .before .args in
-    (omega arith, c .before .before .before .loop .inv .1 ∙ all-passes (exprOkOf (now (a .kind)) (now (a .code)) (now (a .a)) (now (a .b)) (now (a .bits)) (now (a .start)) (now (a .ia)) (now (a .ib)) (a .used) (a .nc) (a .np)) (c .before .before .before .loop .i) (a .n) (c .before .before .loop-test .taken) (sym (c .before .expr-ok .ensures) ∙ not-false _ (c .if1 .left)))
+    let at-loop = c .before .before .before in
+    let start = at-loop .before .before .before .before .before .before .before .before .before in
+    let a = start .args in (
+      omega arith,
+      at-loop .loop .inv .1 ∙ all-passes (exprOkOf (now (a .kind)) (now (a .code)) (now (a .a)) (now (a .b)) (now (a .bits)) (now (a .start))
+          (now (a .ia)) (now (a .ib)) (a .used) (a .nc) (a .np)) (at-loop .loop .i) (a .n) (c .before .before .loop-test .taken)
+          (sym (c .before .expr-ok .ensures) ∙ not-false _ (c .if1 .left)),
+    )
 
 returns-2 : tie.Need-returns-2 Inv-loop μ-loop
 returns-2 c =
-    let a = c .before .before .before .before .before .before .before .before .before .before .args in
-    sym (c .before .loop .inv .1 ∙ all-done (exprOkOf (now (a .kind)) (now (a .code)) (now (a .a)) (now (a .b)) (now (a .bits)) (now (a .start)) (now (a .ia)) (now (a .ib)) (a .used) (a .nc) (a .np)) (c .before .loop .i) (a .n) (c .loop-test .left))
+    let start = c .before .before .before .before .before .before .before .before .before .before in
+    let a = start .args in
+    sym (c .before .loop .inv .1 ∙ all-done (exprOkOf (now (a .kind)) (now (a .code)) (now (a .a)) (now (a .b)) (now (a .bits)) (now (a .start)) (now (a .ia))
+    (now (a .ib)) (a .used) (a .nc) (a .np)) (c .before .loop .i) (a .n) (c .loop-test .left))
 
 pub exprs-ok-spec : {M : Type 1} → statement M
 exprs-ok-spec =

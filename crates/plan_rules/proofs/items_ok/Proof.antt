@@ -11,7 +11,8 @@ use Rattle.plan_rules.proofs.items_ok.Statement.{statement}
 use Rattle.plan_rules.proofs.items_ok.Tie as tie
 
 abbrev Inv-loop : tie.InvT-loop
-Inv-loop a b kind nc ne np from n end j₀ j = (from ≤ j) × (j ≤ from + n) × (allFrom (itemOk a b kind nc ne np) from n ≡ allFrom (itemOk a b kind nc ne np) j (from + n - j))
+Inv-loop a b kind nc ne np from n end j₀ j = (from ≤ j) × (j ≤ from + n) × (allFrom (itemOk a b kind nc ne np) from n ≡ allFrom (itemOk a b kind nc ne np) j
+    (from + n - j))
 
 abbrev μ-loop : tie.MeasureT-loop
 μ-loop a b kind nc ne np from n end j₀ j = from + n - j
@@ -29,8 +30,11 @@ item-ok-requires c κs = search needs
 
 returns : tie.Need-returns Inv-loop μ-loop
 returns c =
-    let a = c .before .before .before .before .before .before .args in
-    sym (c .before .before .before .loop .inv .2 ∙ all-fails (itemOk (now (a .a)) (now (a .b)) (a .kind) (a .nc) (a .ne) (a .np)) (c .before .before .before .loop .j) (a .from + a .n) (c .before .before .loop-test .taken) (sym (c .before .item-ok .ensures) ∙ not-true _ (c .if1 .taken)))
+    let at-loop = c .before .before .before in
+    let start = at-loop .before .before .before in
+    let a = start .args in
+    sym (at-loop .loop .inv .2 ∙ all-fails (itemOk (now (a .a)) (now (a .b)) (a .kind) (a .nc) (a .ne) (a .np)) (at-loop .loop .j) (a .from + a .n)
+    (c .before .before .loop-test .taken) (sym (c .before .item-ok .ensures) ∙ not-true _ (c .if1 .taken)))
 
 add-j : tie.Need-add-j Inv-loop μ-loop
 add-j c = search needs
@@ -40,13 +44,21 @@ loop-less c = search needs
 
 loop-again : tie.Need-loop-again Inv-loop μ-loop
 loop-again c =
-    let a = c .before .before .before .before .before .before .args in
-    (omega arith, omega arith, c .before .before .before .loop .inv .2 ∙ all-passes (itemOk (now (a .a)) (now (a .b)) (a .kind) (a .nc) (a .ne) (a .np)) (c .before .before .before .loop .j) (a .from + a .n) (c .before .before .loop-test .taken) (sym (c .before .item-ok .ensures) ∙ not-false _ (c .if1 .left)))
+    let at-loop = c .before .before .before in
+    let start = at-loop .before .before .before in
+    let a = start .args in (
+      omega arith,
+      omega arith,
+      at-loop .loop .inv .2 ∙ all-passes (itemOk (now (a .a)) (now (a .b)) (a .kind) (a .nc) (a .ne) (a .np)) (at-loop .loop .j)
+          (a .from + a .n) (c .before .before .loop-test .taken) (sym (c .before .item-ok .ensures) ∙ not-false _ (c .if1 .left)),
+    )
 
 returns-2 : tie.Need-returns-2 Inv-loop μ-loop
 returns-2 c =
-    let a = c .before .before .before .before .args in
-    sym (c .before .loop .inv .2 ∙ all-done (itemOk (now (a .a)) (now (a .b)) (a .kind) (a .nc) (a .ne) (a .np)) (c .before .loop .j) (a .from + a .n) (c .loop-test .left))
+    let start = c .before .before .before .before in
+    let a = start .args in
+    sym (c .before .loop .inv .2 ∙ all-done (itemOk (now (a .a)) (now (a .b)) (a .kind) (a .nc) (a .ne) (a .np)) (c .before .loop .j) (a .from + a .n)
+    (c .loop-test .left))
 
 pub items-ok-spec : {M : Type 1} → statement M
 items-ok-spec =

@@ -12,7 +12,8 @@ use Rattle.plan_rules.proofs.lists_column.Statement.{statement}
 use Rattle.plan_rules.proofs.lists_column.Tie as tie
 
 abbrev Inv-loop : tie.InvT-loop
-Inv-loop items c from n end j₀ j = (from ≤ j) × (j ≤ from + n) × (anyFrom (λ (k : ℕ). eqb (getD items k 0) c) from n ≡ anyFrom (λ (k : ℕ). eqb (getD items k 0) c) j (from + n - j))
+Inv-loop items c from n end j₀ j = (from ≤ j) × (j ≤ from + n)
+    × (anyFrom (λ (k : ℕ). eqb (getD items k 0) c) from n ≡ anyFrom (λ (k : ℕ). eqb (getD items k 0) c) j (from + n - j))
 
 abbrev μ-loop : tie.MeasureT-loop
 μ-loop items c from n end j₀ j = from + n - j
@@ -30,8 +31,11 @@ at16-requires c κs = search needs
 
 returns : tie.Need-returns Inv-loop μ-loop
 returns c =
-    let a = c .before .before .before .before .before .args in
-    sym (c .before .before .before .loop .inv .2 ∙ any-found (λ (k : ℕ). eqb (getD (now (a .items)) k 0) (a .c)) (c .before .before .before .loop .j) (a .from + a .n) (c .before .before .loop-test .taken) (eq-eqb _ _ (sym (c .before .at16 .ensures) ∙ c .if1 .taken)))
+    let at-loop = c .before .before .before in
+    let start = at-loop .before .before in
+    let a = start .args in
+    sym (at-loop .loop .inv .2 ∙ any-found (λ (k : ℕ). eqb (getD (now (a .items)) k 0) (a .c)) (at-loop .loop .j) (a .from + a .n)
+    (c .before .before .loop-test .taken) (eq-eqb _ _ (sym (c .before .at16 .ensures) ∙ c .if1 .taken)))
 
 add-j : tie.Need-add-j Inv-loop μ-loop
 add-j c = search needs
@@ -41,8 +45,14 @@ loop-less c = search needs
 
 loop-again : tie.Need-loop-again Inv-loop μ-loop
 loop-again c =
-    let a = c .before .before .before .before .before .args in
-    (omega arith, omega arith, c .before .before .before .loop .inv .2 ∙ any-missed (λ (k : ℕ). eqb (getD (now (a .items)) k 0) (a .c)) (c .before .before .before .loop .j) (a .from + a .n) (c .before .before .loop-test .taken) (ne-eqb _ _ (λ e. c .if1 .left (c .before .at16 .ensures ∙ e))))
+    let at-loop = c .before .before .before in
+    let start = at-loop .before .before in
+    let a = start .args in (
+      omega arith,
+      omega arith,
+      at-loop .loop .inv .2 ∙ any-missed (λ (k : ℕ). eqb (getD (now (a .items)) k 0) (a .c)) (at-loop .loop .j) (a .from + a .n)
+          (c .before .before .loop-test .taken) (ne-eqb _ _ (λ e. c .if1 .left (c .before .at16 .ensures ∙ e))),
+    )
 
 returns-2 : tie.Need-returns-2 Inv-loop μ-loop
 returns-2 c =

@@ -36,11 +36,25 @@ items-ok-requires-2 c κs = search needs
 
 returns : tie.Need-returns
 unfolding listsOk
-returns c = rw (← c .before .before .before .before .before .row-of .ensures, ← c .before .before .before .before .count-of .ensures, ← c .before .before .before .more-of .ensures, le-leb _ _ (c .before .before .if1 .taken), ← c .before .items-ok .ensures, ← c .items-ok2 .ensures)
+returns c =
+    let at-more-of = c .before .before .before in
+    let at-count-of = at-more-of .before in
+    let at-row-of = at-count-of .before in
+    rw (
+      ← at-row-of .row-of .ensures,
+      ← at-count-of .count-of .ensures,
+      ← at-more-of .more-of .ensures,
+      le-leb _ _ (c .before .before .if1 .taken),
+      ←
+          c .before .items-ok .ensures,
+      ← c .items-ok2 .ensures,
+    )
 
 returns-2 : tie.Need-returns-2
 unfolding listsOk
-returns-2 c = rw (← c .before .before .before .row-of .ensures, ← c .before .before .count-of .ensures, ← c .before .more-of .ensures, lt-leb _ _ (c .if1 .left))
+returns-2 c =
+    let at-row-of = c .before .before .before in
+    rw (← at-row-of .row-of .ensures, ← c .before .before .count-of .ensures, ← c .before .more-of .ensures, lt-leb _ _ (c .if1 .left))
 
 pub lists-ok-spec : {M : Type 1} → statement M
 lists-ok-spec =

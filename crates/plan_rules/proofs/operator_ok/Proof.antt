@@ -21,9 +21,12 @@ lists-ok-requires c κs = search needs
 returns : tie.Need-returns
 unfolding operatorOkOf
 returns c =
-    let a = c .before .before .before .before .before .before .before .before .before .before .before .before .before .args in
-    λ i. (c .before .record-ok .ensures ∙ (λ j. recordOk 3 (c .before .before .before .operator-record .ensures j) (a .nc) (a .ne) (a .i))) i
-    && (c .lists-ok .ensures ∙ (λ j. listsOk (now (a .ia)) (now (a .ib)) (a .used) (c .before .before .before .operator-record .ensures j) (c .before .before .at16 .ensures j) (a .nc) (a .ne) (a .i))) i
+    let at-operator-record = c .before .before .before in
+    let start = at-operator-record .before .before .before .before .before .before .before .before .before .before in
+    let a = start .args in
+    λ i. (c .before .record-ok .ensures ∙ (λ j. recordOk 3 (at-operator-record .operator-record .ensures j) (a .nc) (a .ne) (a .i))) i
+    && (c .lists-ok .ensures ∙ (λ j. listsOk (now (a .ia)) (now (a .ib)) (a .used) (at-operator-record .operator-record .ensures j)
+    (c .before .before .at16 .ensures j) (a .nc) (a .ne) (a .i))) i
 
 pub operator-ok-spec : {M : Type 1} → statement M
 operator-ok-spec =

@@ -18,7 +18,17 @@ handles-ok-requires c κs = search needs
 
 returns : tie.Need-returns
 unfolding recordOk
-returns c = rw (← c .before .before .before .before .before .row-of .ensures, eq-eqb _ _ (c .before .before .before .if1 .taken), ← c .before .before .code-ok .ensures, ← c .before .bits-ok .ensures, ← c .handles-ok .ensures)
+returns c =
+    let at-if1 = c .before .before .before in
+    let at-row-of = at-if1 .before .before in
+    rw (
+      ← at-row-of .row-of .ensures,
+      eq-eqb _ _ (at-if1 .if1 .taken),
+      ← c .before .before .code-ok .ensures,
+      ← c .before .bits-ok .ensures,
+      ←
+          c .handles-ok .ensures,
+    )
 
 returns-2 : tie.Need-returns-2
 unfolding recordOk

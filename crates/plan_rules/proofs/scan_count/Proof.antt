@@ -14,7 +14,8 @@ use Rattle.plan_rules.proofs.scan_count.Statement.{statement}
 use Rattle.plan_rules.proofs.scan_count.Tie as tie
 
 abbrev Inv-loop : tie.InvT-loop
-Inv-loop kind b start items c n found₀ i₀ found i = (i ≤ n) × (found ≤ i) × (countFrom (scansOf kind b start items c) 0 n ≡ found + countFrom (scansOf kind b start items c) i (n - i))
+Inv-loop kind b start items c n found₀ i₀ found i = (i ≤ n) × (found ≤ i)
+    × (countFrom (scansOf kind b start items c) 0 n ≡ found + countFrom (scansOf kind b start items c) i (n - i))
 
 abbrev μ-loop : tie.MeasureT-loop
 μ-loop kind b start items c n found₀ i₀ found i = n - i
@@ -38,12 +39,16 @@ loop-less c = search needs
 
 loop-again : tie.Need-loop-again Inv-loop μ-loop
 loop-again c =
-    let a = c .before .before .before .before .before .before .before .before .args in
+    let at-loop = c .before .before .before in
+    let start = at-loop .before .before .before .before .before in
+    let a = start .args in
     let lt = c .before .before .loop-test .taken in
-    let inv = c .before .before .before .loop .inv in
-    let i = c .before .before .before .loop .i in
-    ⊎-elim (λ w. (omega arith, omega arith, omega (arith, w .1, count-found (scansOf (now (a .kind)) (now (a .b)) (now (a .start)) (now (a .items)) (a .c)) i (a .n) lt (sym (c .before .scan-lists .ensures) ∙ w .0 .taken))))
-    (λ w. (omega arith, omega arith, omega (arith, w .1, count-missed (scansOf (now (a .kind)) (now (a .b)) (now (a .start)) (now (a .items)) (a .c)) i (a .n) lt (sym (c .before .scan-lists .ensures) ∙ w .0 .left)))) (c .if1 .came)
+    let inv = at-loop .loop .inv in
+    let i = at-loop .loop .i in
+    let the-scansOf = scansOf (now (a .kind)) (now (a .b)) (now (a .start)) (now (a .items)) (a .c) in
+    ⊎-elim (λ w. (omega arith, omega arith, omega (arith, w .1, count-found the-scansOf i (a .n) lt (sym (c .before .scan-lists .ensures) ∙ w .0 .taken))))
+    (λ w. (omega arith, omega arith, omega (arith, w .1, count-missed the-scansOf i (a .n) lt (sym (c .before .scan-lists .ensures) ∙ w .0 .left))))
+    (c .if1 .came)
 
 returns : tie.Need-returns Inv-loop μ-loop
 returns c =

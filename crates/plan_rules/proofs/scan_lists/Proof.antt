@@ -25,7 +25,11 @@ lists-column-requires c κs = search needs
 
 returns : tie.Need-returns
 unfolding scansOf
-returns c = rw (eq-eqb _ _ (sym (c .before .before .before .before .at8 .ensures) ∙ c .before .before .before .if1 .taken), ← c .before .before .at16 .ensures, ← c .before .at162 .ensures) (c .lists-column .ensures)
+returns c =
+    let at-if1 = c .before .before .before in
+    let at-at8 = at-if1 .before in
+    rw (eq-eqb _ _ (sym (at-at8 .at8 .ensures) ∙ at-if1 .if1 .taken), ← c .before .before .at16 .ensures, ← c .before .at162 .ensures)
+    (c .lists-column .ensures)
 
 returns-2 : tie.Need-returns-2
 unfolding scansOf

@@ -27,8 +27,11 @@ column-once-requires c κs = search needs
 
 returns : tie.Need-returns Inv-loop μ-loop
 returns c =
-    let a = c .before .before .before .before .before .before .before .before .args in
-    sym (c .before .before .before .loop .inv .1 ∙ all-fails (onceOf (now (a .kind)) (now (a .b)) (now (a .start)) (now (a .items)) (a .np)) (c .before .before .before .loop .c) (a .n) (c .before .before .loop-test .taken) (sym (c .before .column-once .ensures) ∙ not-true _ (c .if1 .taken)))
+    let at-loop = c .before .before .before in
+    let start = at-loop .before .before .before .before .before in
+    let a = start .args in
+    sym (at-loop .loop .inv .1 ∙ all-fails (onceOf (now (a .kind)) (now (a .b)) (now (a .start)) (now (a .items)) (a .np)) (at-loop .loop .c) (a .n)
+    (c .before .before .loop-test .taken) (sym (c .before .column-once .ensures) ∙ not-true _ (c .if1 .taken)))
 
 add-c : tie.Need-add-c Inv-loop μ-loop
 add-c c = search needs
@@ -38,13 +41,20 @@ loop-less c = search needs
 
 loop-again : tie.Need-loop-again Inv-loop μ-loop
 loop-again c =
-    let a = c .before .before .before .before .before .before .before .before .args in
-    (omega arith, c .before .before .before .loop .inv .1 ∙ all-passes (onceOf (now (a .kind)) (now (a .b)) (now (a .start)) (now (a .items)) (a .np)) (c .before .before .before .loop .c) (a .n) (c .before .before .loop-test .taken) (sym (c .before .column-once .ensures) ∙ not-false _ (c .if1 .left)))
+    let at-loop = c .before .before .before in
+    let start = at-loop .before .before .before .before .before in
+    let a = start .args in (
+      omega arith,
+      at-loop .loop .inv .1 ∙ all-passes (onceOf (now (a .kind)) (now (a .b)) (now (a .start)) (now (a .items)) (a .np)) (at-loop .loop .c) (a .n)
+          (c .before .before .loop-test .taken) (sym (c .before .column-once .ensures) ∙ not-false _ (c .if1 .left)),
+    )
 
 returns-2 : tie.Need-returns-2 Inv-loop μ-loop
 returns-2 c =
-    let a = c .before .before .before .before .before .before .args in
-    sym (c .before .loop .inv .1 ∙ all-done (onceOf (now (a .kind)) (now (a .b)) (now (a .start)) (now (a .items)) (a .np)) (c .before .loop .c) (a .n) (c .loop-test .left))
+    let start = c .before .before .before .before .before .before in
+    let a = start .args in
+    sym (c .before .loop .inv .1 ∙ all-done (onceOf (now (a .kind)) (now (a .b)) (now (a .start)) (now (a .items)) (a .np)) (c .before .loop .c) (a .n)
+    (c .loop-test .left))
 
 pub scanned-once-spec : {M : Type 1} → statement M
 scanned-once-spec =

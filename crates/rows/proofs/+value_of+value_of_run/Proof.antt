@@ -54,13 +54,42 @@ value-of-run-below t =
     value-of-run.Pre
 
 abbrev value-of-calls : ℕ → value-of-lts.Claims
-value-of-calls t = (node-at-reads.Asked, node-at-reads.Learnt, cell-at-reads.Asked, cell-at-reads.Learnt, value-of-below t, value-of.Post, unary-reads.Asked, unary-reads.Learnt, compare-reads.Asked, compare-reads.Learnt, of-truth-reads.Asked, of-truth-reads.Learnt, value-of-run-below t, value-of-run.Post)
+value-of-calls t = (
+  node-at-reads.Asked,
+  node-at-reads.Learnt,
+  cell-at-reads.Asked,
+  cell-at-reads.Learnt,
+  value-of-below t,
+  value-of.Post,
+  unary-reads.Asked,
+  unary-reads.Learnt,
+  compare-reads.Asked,
+  compare-reads.Learnt,
+  of-truth-reads.Asked,
+  of-truth-reads.Learnt,
+  value-of-run-below t,
+  value-of-run.Post,
+)
 
 abbrev value-of-run-calls : ℕ → value-of-run-lts.Claims
-value-of-run-calls t = (none-of-reads.Asked, none-of-reads.Learnt, at16-reads.Asked, at16-reads.Learnt, value-of-below t, value-of.Post, truth-of-reads.Asked, truth-of-reads.Learnt, join-reads.Asked, join-reads.Learnt)
+value-of-run-calls t = (
+  none-of-reads.Asked,
+  none-of-reads.Learnt,
+  at16-reads.Asked,
+  at16-reads.Learnt,
+  value-of-below t,
+  value-of.Post,
+  truth-of-reads.Asked,
+  truth-of-reads.Learnt,
+  join-reads.Asked,
+  join-reads.Learnt,
+)
 
 value-of-returns : (t : ℕ) → value-of-lts.Need-returns (value-of-calls t) (value-of-at t) value-of.Post
-value-of-returns t c = let a = c .before .before .before .before .before .before .before .before .before .before .before .args in sym (value-past (cellOf (now (a .row-case)) (now (a .row-code)) (now (a .row-bits))) (nodeOf (now (a .kind)) (now (a .code)) (now (a .a)) (now (a .b)) (now (a .bits)) (now (a .start))) (now (a .items)) (a .below) (a .h) (c .if1 .taken))
+value-of-returns t c =
+    let start = c .before .before .before .before .before .before .before .before .before .before .before in
+    let a = start .args in sym (value-past (cellOf (now (a .row-case)) (now (a .row-code)) (now (a .row-bits)))
+    (nodeOf (now (a .kind)) (now (a .code)) (now (a .a)) (now (a .b)) (now (a .bits)) (now (a .start))) (now (a .items)) (a .below) (a .h) (c .if1 .taken))
 
 value-of-node-at-requires : (t : ℕ) → value-of-lts.Need-node-at-requires (value-of-calls t) (value-of-at t) value-of.Post
 value-of-node-at-requires t c κs = search needs
@@ -120,19 +149,58 @@ value-of-of-truth-requires-2 : (t : ℕ) → value-of-lts.Need-of-truth-requires
 value-of-of-truth-requires-2 t c κs = search needs
 
 value-of-returns-2 : (t : ℕ) → value-of-lts.Need-returns-2 (value-of-calls t) (value-of-at t) value-of.Post
-value-of-returns-2 t c = let a = c .before .before .before .before .before .before .before .before .before .before .before .before .before .before .before .args in node-way (cellOf (now (a .row-case)) (now (a .row-code)) (now (a .row-bits))) (nodeOf (now (a .kind)) (now (a .code)) (now (a .a)) (now (a .b)) (now (a .bits)) (now (a .start))) (now (a .items)) (a .below) (a .h) (c .before .before .before .before .if1 .left) _ _ _ (c .before .before .before .node-at .ensures) (c .before .node .given .1) refl
+value-of-returns-2 t c =
+    let at-node-at = c .before .before .before in
+    let at-if1 = at-node-at .before in
+    let start = at-if1 .before .before .before .before .before .before .before .before .before .before .before in
+    let a = start .args in node-way (cellOf (now (a .row-case)) (now (a .row-code)) (now (a .row-bits)))
+    (nodeOf (now (a .kind)) (now (a .code)) (now (a .a)) (now (a .b)) (now (a .bits)) (now (a .start))) (now (a .items)) (a .below) (a .h)
+    (at-if1 .if1 .left) _ _ _ (at-node-at .node-at .ensures) (c .before .node .given .1) refl
 
 value-of-returns-3 : (t : ℕ) → value-of-lts.Need-returns-3 (value-of-calls t) (value-of-at t) value-of.Post
-value-of-returns-3 t c = let a = c .before .before .before .before .before .before .before .before .before .before .before .before .before .before .before .before .before .args in node-way (cellOf (now (a .row-case)) (now (a .row-code)) (now (a .row-bits))) (nodeOf (now (a .kind)) (now (a .code)) (now (a .a)) (now (a .b)) (now (a .bits)) (now (a .start))) (now (a .items)) (a .below) (a .h) (c .before .before .before .before .before .before .if1 .left) _ _ _ (c .before .before .before .before .before .node-at .ensures) (c .before .before .before .node2 .given .1) (c .cell-at .ensures)
+value-of-returns-3 t c =
+    let at-node2 = c .before .before .before in
+    let at-node-at = at-node2 .before .before in
+    let at-if1 = at-node-at .before in
+    let start = at-if1 .before .before .before .before .before .before .before .before .before .before .before in
+    let a = start .args in node-way (cellOf (now (a .row-case)) (now (a .row-code)) (now (a .row-bits)))
+    (nodeOf (now (a .kind)) (now (a .code)) (now (a .a)) (now (a .b)) (now (a .bits)) (now (a .start))) (now (a .items)) (a .below) (a .h)
+    (at-if1 .if1 .left) _ _ _ (at-node-at .node-at .ensures) (at-node2 .node2 .given .1) (c .cell-at .ensures)
 
 value-of-returns-4 : (t : ℕ) → value-of-lts.Need-returns-4 (value-of-calls t) (value-of-at t) value-of.Post
-value-of-returns-4 t c = let a = c .before .before .before .before .before .before .before .before .before .before .before .before .before .before .before .before .before .before .args in node-way (cellOf (now (a .row-case)) (now (a .row-code)) (now (a .row-bits))) (nodeOf (now (a .kind)) (now (a .code)) (now (a .a)) (now (a .b)) (now (a .bits)) (now (a .start))) (now (a .items)) (a .below) (a .h) (c .before .before .before .before .before .before .before .if1 .left) _ _ _ (c .before .before .before .before .before .before .node-at .ensures) (c .before .before .before .before .node3 .given .1) (c .unary .ensures ∙ ap (unaryOf (c .before .before .before .before .node3 .given .0 .0)) (c .before .value-of .ensures))
+value-of-returns-4 t c =
+    let at-node3 = c .before .before .before .before in
+    let at-node-at = at-node3 .before .before in
+    let at-if1 = at-node-at .before in
+    let start = at-if1 .before .before .before .before .before .before .before .before .before .before .before in
+    let a = start .args in node-way (cellOf (now (a .row-case)) (now (a .row-code)) (now (a .row-bits)))
+    (nodeOf (now (a .kind)) (now (a .code)) (now (a .a)) (now (a .b)) (now (a .bits)) (now (a .start))) (now (a .items)) (a .below) (a .h)
+    (at-if1 .if1 .left) _ _ _ (at-node-at .node-at .ensures) (at-node3 .node3 .given .1)
+    (c .unary .ensures ∙ ap (unaryOf (at-node3 .node3 .given .0 .0)) (c .before .value-of .ensures))
 
 value-of-returns-5 : (t : ℕ) → value-of-lts.Need-returns-5 (value-of-calls t) (value-of-at t) value-of.Post
-value-of-returns-5 t c = let a = c .before .before .before .before .before .before .before .before .before .before .before .before .before .before .before .before .before .before .before .before .before .args in node-way (cellOf (now (a .row-case)) (now (a .row-code)) (now (a .row-bits))) (nodeOf (now (a .kind)) (now (a .code)) (now (a .a)) (now (a .b)) (now (a .bits)) (now (a .start))) (now (a .items)) (a .below) (a .h) (c .before .before .before .before .before .before .before .before .before .before .if1 .left) _ _ _ (c .before .before .before .before .before .before .before .before .before .node-at .ensures) (c .before .before .before .before .before .before .before .node4 .given .1) (c .of-truth .ensures ∙ ap ofTruth (c .before .compare .ensures ∙ ap₂ (compareOf (c .before .before .before .before .before .before .before .node4 .given .0 .0)) (c .before .before .before .before .value-of2 .ensures) (c .before .before .value-of3 .ensures)))
+value-of-returns-5 t c =
+    let at-value-of2 = c .before .before .before .before in
+    let at-node4 = at-value-of2 .before .before .before in
+    let at-node-at = at-node4 .before .before in
+    let at-if1 = at-node-at .before in
+    let start = at-if1 .before .before .before .before .before .before .before .before .before .before .before in
+    let a = start .args in node-way (cellOf (now (a .row-case)) (now (a .row-code)) (now (a .row-bits)))
+    (nodeOf (now (a .kind)) (now (a .code)) (now (a .a)) (now (a .b)) (now (a .bits)) (now (a .start))) (now (a .items)) (a .below) (a .h)
+    (at-if1 .if1 .left) _ _ _ (at-node-at .node-at .ensures) (at-node4 .node4 .given .1)
+    (c .of-truth .ensures ∙ ap ofTruth (c .before .compare .ensures ∙ ap₂ (compareOf (at-node4 .node4 .given .0 .0)) (at-value-of2 .value-of2 .ensures)
+    (c .before .before .value-of3 .ensures)))
 
 value-of-returns-6 : (t : ℕ) → value-of-lts.Need-returns-6 (value-of-calls t) (value-of-at t) value-of.Post
-value-of-returns-6 t c = let a = c .before .before .before .before .before .before .before .before .before .before .before .before .before .before .before .before .before .args in node-way (cellOf (now (a .row-case)) (now (a .row-code)) (now (a .row-bits))) (nodeOf (now (a .kind)) (now (a .code)) (now (a .a)) (now (a .b)) (now (a .bits)) (now (a .start))) (now (a .items)) (a .below) (a .h) (c .before .before .before .before .before .before .if1 .left) _ _ _ (c .before .before .before .before .before .node-at .ensures) (c .before .before .before .node5 .given .1) (c .of-truth2 .ensures ∙ ap ofTruth (c .before .value-of-run .ensures))
+value-of-returns-6 t c =
+    let at-node5 = c .before .before .before in
+    let at-node-at = at-node5 .before .before in
+    let at-if1 = at-node-at .before in
+    let start = at-if1 .before .before .before .before .before .before .before .before .before .before .before in
+    let a = start .args in node-way (cellOf (now (a .row-case)) (now (a .row-code)) (now (a .row-bits)))
+    (nodeOf (now (a .kind)) (now (a .code)) (now (a .a)) (now (a .b)) (now (a .bits)) (now (a .start))) (now (a .items)) (a .below) (a .h)
+    (at-if1 .if1 .left) _ _ _ (at-node-at .node-at .ensures) (at-node5 .node5 .given .1)
+    (c .of-truth2 .ensures ∙ ap ofTruth (c .before .value-of-run .ensures))
 
 abbrev value-of-run-Inv-loop : value-of-run-lts.InvT-loop
 value-of-run-Inv-loop kind code a b bits start items row-case row-code row-bits below op at n t₀ j₀ left₀ t j left =
@@ -141,44 +209,83 @@ value-of-run-Inv-loop kind code a b bits start items row-case row-code row-bits 
 abbrev value-of-run-μ-loop : value-of-run-lts.MeasureT-loop
 value-of-run-μ-loop kind code a b bits start items row-case row-code row-bits below op at n t₀ j₀ left₀ t j left = left
 
-value-of-run-none-of-requires : (t : ℕ) → value-of-run-lts.Need-none-of-requires (value-of-run-calls t) (value-of-run-at t) value-of-run.Post value-of-run-Inv-loop value-of-run-μ-loop
+value-of-run-none-of-requires : (t : ℕ) → value-of-run-lts.Need-none-of-requires (value-of-run-calls t) (value-of-run-at t) value-of-run.Post
+    value-of-run-Inv-loop value-of-run-μ-loop
 value-of-run-none-of-requires t c κs = search needs
 
-value-of-run-loop-holds : (t : ℕ) → value-of-run-lts.Need-loop-holds (value-of-run-calls t) (value-of-run-at t) value-of-run.Post value-of-run-Inv-loop value-of-run-μ-loop
-value-of-run-loop-holds t c = let a = c .before .before .before .before .before .before .before .before .before .before .before .args in joined-first (valueIn (values (cellOf (now (a .row-case)) (now (a .row-code)) (now (a .row-bits))) (nodeOf (now (a .kind)) (now (a .code)) (now (a .a)) (now (a .b)) (now (a .bits)) (now (a .start))) (now (a .items)) (a .below))) (now (a .items)) (a .op) (a .at) (a .n) (c .none-of .result) (c .none-of .ensures)
+value-of-run-loop-holds : (t : ℕ) → value-of-run-lts.Need-loop-holds (value-of-run-calls t) (value-of-run-at t) value-of-run.Post value-of-run-Inv-loop
+    value-of-run-μ-loop
+value-of-run-loop-holds t c =
+    let start = c .before .before .before .before .before .before .before .before .before .before .before in
+    let a = start .args in joined-first
+    (valueIn (values (cellOf (now (a .row-case)) (now (a .row-code)) (now (a .row-bits)))
+    (nodeOf (now (a .kind)) (now (a .code)) (now (a .a)) (now (a .b)) (now (a .bits)) (now (a .start))) (now (a .items)) (a .below))) (now (a .items))
+    (a .op) (a .at) (a .n) (c .none-of .result) (c .none-of .ensures)
 
-value-of-run-returns : (t : ℕ) → value-of-run-lts.Need-returns (value-of-run-calls t) (value-of-run-at t) value-of-run.Post value-of-run-Inv-loop value-of-run-μ-loop
-value-of-run-returns t c = let a = c .before .before .before .before .before .before .before .before .before .before .before .before .before .before .args in joined-past (valueIn (values (cellOf (now (a .row-case)) (now (a .row-code)) (now (a .row-bits))) (nodeOf (now (a .kind)) (now (a .code)) (now (a .a)) (now (a .b)) (now (a .bits)) (now (a .start))) (now (a .items)) (a .below))) (now (a .items)) (a .op) (a .at) (a .n) (c .before .before .loop .t) (c .before .before .loop .j) (c .before .before .loop .left) (c .before .before .loop .inv) (c .if1 .taken)
+value-of-run-returns : (t : ℕ) → value-of-run-lts.Need-returns (value-of-run-calls t) (value-of-run-at t) value-of-run.Post value-of-run-Inv-loop
+    value-of-run-μ-loop
+value-of-run-returns t c =
+    let at-loop = c .before .before in
+    let start = at-loop .before .before .before .before .before .before .before .before .before .before .before .before in
+    let a = start .args in joined-past
+    (valueIn (values (cellOf (now (a .row-case)) (now (a .row-code)) (now (a .row-bits)))
+    (nodeOf (now (a .kind)) (now (a .code)) (now (a .a)) (now (a .b)) (now (a .bits)) (now (a .start))) (now (a .items)) (a .below))) (now (a .items))
+    (a .op) (a .at) (a .n) (at-loop .loop .t) (at-loop .loop .j) (at-loop .loop .left) (at-loop .loop .inv) (c .if1 .taken)
 
-value-of-run-at16-requires : (t : ℕ) → value-of-run-lts.Need-at16-requires (value-of-run-calls t) (value-of-run-at t) value-of-run.Post value-of-run-Inv-loop value-of-run-μ-loop
+value-of-run-at16-requires : (t : ℕ) → value-of-run-lts.Need-at16-requires (value-of-run-calls t) (value-of-run-at t) value-of-run.Post value-of-run-Inv-loop
+    value-of-run-μ-loop
 value-of-run-at16-requires t c κs = search needs
 
-value-of-run-cast-e : (t : ℕ) → value-of-run-lts.Need-cast-e (value-of-run-calls t) (value-of-run-at t) value-of-run.Post value-of-run-Inv-loop value-of-run-μ-loop
+value-of-run-cast-e : (t : ℕ) → value-of-run-lts.Need-cast-e (value-of-run-calls t) (value-of-run-at t) value-of-run.Post value-of-run-Inv-loop
+    value-of-run-μ-loop
 value-of-run-cast-e t c = search needs
 
-value-of-run-value-of-requires : (t : ℕ) → value-of-run-lts.Need-value-of-requires (value-of-run-calls t) (value-of-run-at t) value-of-run.Post value-of-run-Inv-loop value-of-run-μ-loop
+value-of-run-value-of-requires : (t : ℕ) → value-of-run-lts.Need-value-of-requires (value-of-run-calls t) (value-of-run-at t) value-of-run.Post
+    value-of-run-Inv-loop value-of-run-μ-loop
 value-of-run-value-of-requires t c κs = search needs
 
-value-of-run-truth-of-requires : (t : ℕ) → value-of-run-lts.Need-truth-of-requires (value-of-run-calls t) (value-of-run-at t) value-of-run.Post value-of-run-Inv-loop value-of-run-μ-loop
+value-of-run-truth-of-requires : (t : ℕ) → value-of-run-lts.Need-truth-of-requires (value-of-run-calls t) (value-of-run-at t) value-of-run.Post
+    value-of-run-Inv-loop value-of-run-μ-loop
 value-of-run-truth-of-requires t c κs = search needs
 
-value-of-run-join-requires : (t : ℕ) → value-of-run-lts.Need-join-requires (value-of-run-calls t) (value-of-run-at t) value-of-run.Post value-of-run-Inv-loop value-of-run-μ-loop
+value-of-run-join-requires : (t : ℕ) → value-of-run-lts.Need-join-requires (value-of-run-calls t) (value-of-run-at t) value-of-run.Post value-of-run-Inv-loop
+    value-of-run-μ-loop
 value-of-run-join-requires t c κs = search needs
 
-value-of-run-add-j : (t : ℕ) → value-of-run-lts.Need-add-j (value-of-run-calls t) (value-of-run-at t) value-of-run.Post value-of-run-Inv-loop value-of-run-μ-loop
+value-of-run-add-j : (t : ℕ) → value-of-run-lts.Need-add-j (value-of-run-calls t) (value-of-run-at t) value-of-run.Post value-of-run-Inv-loop
+    value-of-run-μ-loop
 value-of-run-add-j t c = search needs
 
-value-of-run-sub-left : (t : ℕ) → value-of-run-lts.Need-sub-left (value-of-run-calls t) (value-of-run-at t) value-of-run.Post value-of-run-Inv-loop value-of-run-μ-loop
+value-of-run-sub-left : (t : ℕ) → value-of-run-lts.Need-sub-left (value-of-run-calls t) (value-of-run-at t) value-of-run.Post value-of-run-Inv-loop
+    value-of-run-μ-loop
 value-of-run-sub-left t c = search needs
 
-value-of-run-loop-less : (t : ℕ) → value-of-run-lts.Need-loop-less (value-of-run-calls t) (value-of-run-at t) value-of-run.Post value-of-run-Inv-loop value-of-run-μ-loop
+value-of-run-loop-less : (t : ℕ) → value-of-run-lts.Need-loop-less (value-of-run-calls t) (value-of-run-at t) value-of-run.Post value-of-run-Inv-loop
+    value-of-run-μ-loop
 value-of-run-loop-less t c = search needs
 
-value-of-run-loop-again : (t : ℕ) → value-of-run-lts.Need-loop-again (value-of-run-calls t) (value-of-run-at t) value-of-run.Post value-of-run-Inv-loop value-of-run-μ-loop
-value-of-run-loop-again t c = let a = c .before .before .before .before .before .before .before .before .before .before .before .before .before .before .before .before .before .before .args in joined-more (valueIn (values (cellOf (now (a .row-case)) (now (a .row-code)) (now (a .row-bits))) (nodeOf (now (a .kind)) (now (a .code)) (now (a .a)) (now (a .b)) (now (a .bits)) (now (a .start))) (now (a .items)) (a .below))) (now (a .items)) (a .op) (a .at) (a .n) (c .before .before .before .before .before .before .loop .t) (c .before .before .before .before .before .before .loop .j) (c .before .before .before .before .before .before .loop .left) (c .before .before .before .before .before .before .loop .inv) (c .before .before .before .before .before .loop-test .taken) (c .before .before .before .before .if1 .left) _ _ _ _ (c .before .before .before .at16 .ensures) (c .before .before .value-of .ensures) (c .before .truth-of .ensures) (c .join .ensures)
+value-of-run-loop-again : (t : ℕ) → value-of-run-lts.Need-loop-again (value-of-run-calls t) (value-of-run-at t) value-of-run.Post value-of-run-Inv-loop
+    value-of-run-μ-loop
+value-of-run-loop-again t c =
+    let at-at16 = c .before .before .before in
+    let at-if1 = at-at16 .before in
+    let at-loop-test = at-if1 .before in
+    let at-loop = at-loop-test .before in
+    let start = at-loop .before .before .before .before .before .before .before .before .before .before .before .before in
+    let a = start .args in joined-more
+    (valueIn (values (cellOf (now (a .row-case)) (now (a .row-code)) (now (a .row-bits)))
+    (nodeOf (now (a .kind)) (now (a .code)) (now (a .a)) (now (a .b)) (now (a .bits)) (now (a .start))) (now (a .items)) (a .below))) (now (a .items))
+    (a .op) (a .at) (a .n) (at-loop .loop .t) (at-loop .loop .j) (at-loop .loop .left) (at-loop .loop .inv) (at-loop-test .loop-test .taken)
+    (at-if1 .if1 .left) _ _ _ _ (at-at16 .at16 .ensures) (c .before .before .value-of .ensures) (c .before .truth-of .ensures) (c .join .ensures)
 
-value-of-run-returns-2 : (t : ℕ) → value-of-run-lts.Need-returns-2 (value-of-run-calls t) (value-of-run-at t) value-of-run.Post value-of-run-Inv-loop value-of-run-μ-loop
-value-of-run-returns-2 t c = let a = c .before .before .before .before .before .before .before .before .before .before .before .before .before .args in joined-done (valueIn (values (cellOf (now (a .row-case)) (now (a .row-code)) (now (a .row-bits))) (nodeOf (now (a .kind)) (now (a .code)) (now (a .a)) (now (a .b)) (now (a .bits)) (now (a .start))) (now (a .items)) (a .below))) (now (a .items)) (a .op) (a .at) (a .n) (c .before .loop .t) (c .before .loop .j) (c .before .loop .left) (c .before .loop .inv) (c .loop-test .left)
+value-of-run-returns-2 : (t : ℕ) → value-of-run-lts.Need-returns-2 (value-of-run-calls t) (value-of-run-at t) value-of-run.Post value-of-run-Inv-loop
+    value-of-run-μ-loop
+value-of-run-returns-2 t c =
+    let start = c .before .before .before .before .before .before .before .before .before .before .before .before .before in
+    let a = start .args in joined-done
+    (valueIn (values (cellOf (now (a .row-case)) (now (a .row-code)) (now (a .row-bits)))
+    (nodeOf (now (a .kind)) (now (a .code)) (now (a .a)) (now (a .b)) (now (a .bits)) (now (a .start))) (now (a .items)) (a .below))) (now (a .items))
+    (a .op) (a .at) (a .n) (c .before .loop .t) (c .before .loop .j) (c .before .loop .left) (c .before .loop .inv) (c .loop-test .left)
 
 pub +value-of+value-of-run-spec : {M : Type 1} → statement M
 +value-of+value-of-run-spec = close μ-value-of μ-value-of-run (λ t. value-of-lts.spec (value-of-calls t)

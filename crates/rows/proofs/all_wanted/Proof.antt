@@ -18,7 +18,8 @@ abbrev test : List ℕ → List ℕ → List ℕ → List ℕ → List ℕ → L
 test kind code a b bits start columns flags = wanted (flagged flags) (booleanAt columns (nodeOf kind code a b bits start))
 
 abbrev Inv-loop : tie.InvT-loop
-Inv-loop kind code a b bits start items columns flags at n j₀ left₀ j left = every (test kind code a b bits start columns flags) (take n (drop at items)) ≡ every (test kind code a b bits start columns flags) (take left (drop j items))
+Inv-loop kind code a b bits start items columns flags at n j₀ left₀ j left = every (test kind code a b bits start columns flags) (take n (drop at items))
+    ≡ every (test kind code a b bits start columns flags) (take left (drop j items))
 
 abbrev μ-loop : tie.MeasureT-loop
 μ-loop kind code a b bits start items columns flags at n j₀ left₀ j left = left
@@ -27,7 +28,12 @@ loop-holds : tie.Need-loop-holds Inv-loop μ-loop
 loop-holds c = refl
 
 returns : tie.Need-returns Inv-loop μ-loop
-returns c = let a = c .before .before .before .before .before .before .before .before .before .before .before .before .args in sym (c .before .before .loop .inv ∙ every-past (test (now (a .kind)) (now (a .code)) (now (a .a)) (now (a .b)) (now (a .bits)) (now (a .start)) (now (a .columns)) (now (a .flags))) (now (a .items)) (c .before .before .loop .j) (c .before .before .loop .left) (c .if1 .taken))
+returns c =
+    let at-loop = c .before .before in
+    let start = at-loop .before .before .before .before .before .before .before .before .before .before in
+    let a = start .args in sym
+    (at-loop .loop .inv ∙ every-past (test (now (a .kind)) (now (a .code)) (now (a .a)) (now (a .b)) (now (a .bits)) (now (a .start)) (now (a .columns))
+    (now (a .flags))) (now (a .items)) (at-loop .loop .j) (at-loop .loop .left) (c .if1 .taken))
 
 at16-requires : tie.Need-at16-requires Inv-loop μ-loop
 at16-requires c κs = search needs
@@ -39,7 +45,16 @@ wanted-requires : tie.Need-wanted-requires Inv-loop μ-loop
 wanted-requires c κs = search needs
 
 returns-2 : tie.Need-returns-2 Inv-loop μ-loop
-returns-2 c = let a = c .before .before .before .before .before .before .before .before .before .before .before .before .before .before .before .args in sym (c .before .before .before .before .before .loop .inv ∙ every-fails (test (now (a .kind)) (now (a .code)) (now (a .a)) (now (a .b)) (now (a .bits)) (now (a .start)) (now (a .columns)) (now (a .flags))) (now (a .items)) (c .before .before .before .before .before .loop .j) (c .before .before .before .before .before .loop .left) (c .before .before .before .before .loop-test .taken) (c .before .before .before .if1 .left) (ap (test (now (a .kind)) (now (a .code)) (now (a .a)) (now (a .b)) (now (a .bits)) (now (a .start)) (now (a .columns)) (now (a .flags))) (sym (c .before .before .at16 .ensures)) ∙ sym (c .before .wanted .ensures) ∙ not-true _ (c .if2 .taken)))
+returns-2 c =
+    let at-if1 = c .before .before .before in
+    let at-loop-test = at-if1 .before in
+    let at-loop = at-loop-test .before in
+    let start = at-loop .before .before .before .before .before .before .before .before .before .before in
+    let a = start .args in sym
+    (at-loop .loop .inv ∙ every-fails (test (now (a .kind)) (now (a .code)) (now (a .a)) (now (a .b)) (now (a .bits)) (now (a .start)) (now (a .columns))
+    (now (a .flags))) (now (a .items)) (at-loop .loop .j) (at-loop .loop .left) (at-loop-test .loop-test .taken) (at-if1 .if1 .left)
+    (ap (test (now (a .kind)) (now (a .code)) (now (a .a)) (now (a .b)) (now (a .bits)) (now (a .start)) (now (a .columns)) (now (a .flags)))
+    (sym (c .before .before .at16 .ensures)) ∙ sym (c .before .wanted .ensures) ∙ not-true _ (c .if2 .taken)))
 
 add-j : tie.Need-add-j Inv-loop μ-loop
 add-j c = search needs
@@ -51,10 +66,22 @@ loop-less : tie.Need-loop-less Inv-loop μ-loop
 loop-less c = search needs
 
 loop-again : tie.Need-loop-again Inv-loop μ-loop
-loop-again c = let a = c .before .before .before .before .before .before .before .before .before .before .before .before .before .before .before .args in c .before .before .before .before .before .loop .inv ∙ every-passes (test (now (a .kind)) (now (a .code)) (now (a .a)) (now (a .b)) (now (a .bits)) (now (a .start)) (now (a .columns)) (now (a .flags))) (now (a .items)) (c .before .before .before .before .before .loop .j) (c .before .before .before .before .before .loop .left) (c .before .before .before .before .loop-test .taken) (c .before .before .before .if1 .left) (ap (test (now (a .kind)) (now (a .code)) (now (a .a)) (now (a .b)) (now (a .bits)) (now (a .start)) (now (a .columns)) (now (a .flags))) (sym (c .before .before .at16 .ensures)) ∙ sym (c .before .wanted .ensures) ∙ not-false _ (c .if2 .left))
+loop-again c =
+    let at-if1 = c .before .before .before in
+    let at-loop-test = at-if1 .before in
+    let at-loop = at-loop-test .before in
+    let start = at-loop .before .before .before .before .before .before .before .before .before .before in
+    let a = start .args in at-loop .loop .inv ∙ every-passes (test (now (a .kind)) (now (a .code)) (now (a .a)) (now (a .b)) (now (a .bits)) (now (a .start))
+    (now (a .columns)) (now (a .flags))) (now (a .items)) (at-loop .loop .j) (at-loop .loop .left) (at-loop-test .loop-test .taken) (at-if1 .if1 .left)
+    (ap (test (now (a .kind)) (now (a .code)) (now (a .a)) (now (a .b)) (now (a .bits)) (now (a .start)) (now (a .columns)) (now (a .flags)))
+    (sym (c .before .before .at16 .ensures)) ∙ sym (c .before .wanted .ensures) ∙ not-false _ (c .if2 .left))
 
 returns-3 : tie.Need-returns-3 Inv-loop μ-loop
-returns-3 c = let a = c .before .before .before .before .before .before .before .before .before .before .before .args in sym (c .before .loop .inv ∙ every-done (test (now (a .kind)) (now (a .code)) (now (a .a)) (now (a .b)) (now (a .bits)) (now (a .start)) (now (a .columns)) (now (a .flags))) (now (a .items)) (c .before .loop .j) (c .before .loop .left) (c .loop-test .left))
+returns-3 c =
+    let start = c .before .before .before .before .before .before .before .before .before .before .before in
+    let a = start .args in sym
+    (c .before .loop .inv ∙ every-done (test (now (a .kind)) (now (a .code)) (now (a .a)) (now (a .b)) (now (a .bits)) (now (a .start)) (now (a .columns))
+    (now (a .flags))) (now (a .items)) (c .before .loop .j) (c .before .loop .left) (c .loop-test .left))
 
 pub all-wanted-spec : {M : Type 1} → statement M
 all-wanted-spec =

@@ -18,7 +18,10 @@ cell-ok-requires : tie.Need-cell-ok-requires
 cell-ok-requires c κs = search needs
 
 returns : tie.Need-returns
-returns c = rw (← c .before .before .before .before .at8 .ensures, ← c .before .before .before .at82 .ensures, ← c .before .before .at83 .ensures, ← c .before .at64 .ensures) (c .cell-ok .ensures)
+returns c =
+    let at-at82 = c .before .before .before in
+    let at-at8 = at-at82 .before in
+    rw (← at-at8 .at8 .ensures, ← at-at82 .at82 .ensures, ← c .before .before .at83 .ensures, ← c .before .at64 .ensures) (c .cell-ok .ensures)
 
 pub cell-at-ok-spec : {M : Type 1} → statement M
 cell-at-ok-spec =

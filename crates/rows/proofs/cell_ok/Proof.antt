@@ -29,7 +29,23 @@ bits-ok-requires c κs = search needs
 
 returns : tie.Need-returns
 unfolding cellOk listedLiteral
-returns c = rw (← c .before .before .before .before .before .before .before .row-of .ensures, ← c .before .before .before .before .before .before .scalar-of .ensures, ← c .before .before .before .before .before .is-null .ensures, ← c .before .before .before .before .kind-of .ensures, ← c .before .before .before .kind-of-code .ensures, ← c .before .before .same-kind .ensures, ← c .before .code-ok .ensures, ← c .bits-ok .ensures)
+returns c =
+    let at-kind-of-code = c .before .before .before in
+    let at-kind-of = at-kind-of-code .before in
+    let at-is-null = at-kind-of .before in
+    let at-scalar-of = at-is-null .before in
+    let at-row-of = at-scalar-of .before in
+    rw (
+      ← at-row-of .row-of .ensures,
+      ← at-scalar-of .scalar-of .ensures,
+      ← at-is-null .is-null .ensures,
+      ← at-kind-of .kind-of .ensures,
+      ←
+          at-kind-of-code .kind-of-code .ensures,
+      ← c .before .before .same-kind .ensures,
+      ← c .before .code-ok .ensures,
+      ← c .bits-ok .ensures,
+    )
 
 pub cell-ok-spec : {M : Type 1} → statement M
 cell-ok-spec =

@@ -18,13 +18,19 @@ abbrev μ-loop : tie.MeasureT-loop
 μ-loop columns case code bits n i₀ i = n - i
 
 loop-holds : tie.Need-loop-holds Inv-loop μ-loop
-loop-holds c = let a = c .before .before .before .before .args in (omega arith, ap (allFrom (cellAtOk (now (a .columns)) (now (a .case)) (now (a .code)) (now (a .bits))) 0) (sym (sub-zero (a .n))))
+loop-holds c =
+    let start = c .before .before .before .before in
+    let a = start .args in (omega arith, ap (allFrom (cellAtOk (now (a .columns)) (now (a .case)) (now (a .code)) (now (a .bits))) 0) (sym (sub-zero (a .n))))
 
 cell-at-ok-requires : tie.Need-cell-at-ok-requires Inv-loop μ-loop
 cell-at-ok-requires c κs = search needs
 
 returns : tie.Need-returns Inv-loop μ-loop
-returns c = let a = c .before .before .before .before .before .before .before .before .args in sym (c .before .before .before .loop .inv .1 ∙ all-fails (cellAtOk (now (a .columns)) (now (a .case)) (now (a .code)) (now (a .bits))) (c .before .before .before .loop .i) (a .n) (c .before .before .loop-test .taken) (sym (c .before .cell-at-ok .ensures) ∙ not-true _ (c .if1 .taken)))
+returns c =
+    let at-loop = c .before .before .before in
+    let start = at-loop .before .before .before .before .before in
+    let a = start .args in sym (at-loop .loop .inv .1 ∙ all-fails (cellAtOk (now (a .columns)) (now (a .case)) (now (a .code)) (now (a .bits)))
+    (at-loop .loop .i) (a .n) (c .before .before .loop-test .taken) (sym (c .before .cell-at-ok .ensures) ∙ not-true _ (c .if1 .taken)))
 
 add-i : tie.Need-add-i Inv-loop μ-loop
 add-i c = search needs
@@ -33,10 +39,20 @@ loop-less : tie.Need-loop-less Inv-loop μ-loop
 loop-less c = search needs
 
 loop-again : tie.Need-loop-again Inv-loop μ-loop
-loop-again c = let a = c .before .before .before .before .before .before .before .before .args in (omega arith, c .before .before .before .loop .inv .1 ∙ all-passes (cellAtOk (now (a .columns)) (now (a .case)) (now (a .code)) (now (a .bits))) (c .before .before .before .loop .i) (a .n) (c .before .before .loop-test .taken) (sym (c .before .cell-at-ok .ensures) ∙ not-false _ (c .if1 .left)))
+loop-again c =
+    let at-loop = c .before .before .before in
+    let start = at-loop .before .before .before .before .before in
+    let a = start .args in (
+      omega arith,
+      at-loop .loop .inv .1 ∙ all-passes (cellAtOk (now (a .columns)) (now (a .case)) (now (a .code)) (now (a .bits)))
+          (at-loop .loop .i) (a .n) (c .before .before .loop-test .taken) (sym (c .before .cell-at-ok .ensures) ∙ not-false _ (c .if1 .left)),
+    )
 
 returns-2 : tie.Need-returns-2 Inv-loop μ-loop
-returns-2 c = let a = c .before .before .before .before .before .before .args in sym (c .before .loop .inv .1 ∙ all-done (cellAtOk (now (a .columns)) (now (a .case)) (now (a .code)) (now (a .bits))) (c .before .loop .i) (a .n) (c .loop-test .left))
+returns-2 c =
+    let start = c .before .before .before .before .before .before in
+    let a = start .args in sym (c .before .loop .inv .1 ∙ all-done (cellAtOk (now (a .columns)) (now (a .case)) (now (a .code)) (now (a .bits)))
+    (c .before .loop .i) (a .n) (c .loop-test .left))
 
 pub cells-ok-spec : {M : Type 1} → statement M
 cells-ok-spec =

@@ -54,10 +54,17 @@ returns-2 : tie.Need-returns-2
 returns-2 c = rw (← c .before .before .node-at .ensures, c .enum-told2 .given .1)
 
 returns-3 : tie.Need-returns-3
-returns-3 c = rw (← c .before .before .before .before .before .before .before .node-at .ensures, c .before .before .before .before .before .node .given .1, ← c .before .at-flag .ensures, ← c .before .before .boolean-at .ensures) (c .unary-typed .ensures)
+returns-3 c =
+    let at-node = c .before .before .before .before .before in
+    let at-node-at = at-node .before .before in
+    rw (← at-node-at .node-at .ensures, at-node .node .given .1, ← c .before .at-flag .ensures, ← c .before .before .boolean-at .ensures)
+    (c .unary-typed .ensures)
 
 returns-4 : tie.Need-returns-4
-returns-4 c = rw (← c .before .before .before .before .before .before .before .node-at .ensures, c .before .before .before .before .before .node2 .given .1, ← c .before .before .at-flag2 .ensures, ← c .at-flag3 .ensures)
+returns-4 c =
+    let at-node2 = c .before .before .before .before .before in
+    let at-node-at = at-node2 .before .before in
+    rw (← at-node-at .node-at .ensures, at-node2 .node2 .given .1, ← c .before .before .at-flag2 .ensures, ← c .at-flag3 .ensures)
 
 returns-5 : tie.Need-returns-5
 returns-5 c = rw (← c .before .before .before .before .node-at .ensures, c .before .before .node3 .given .1) (c .all-wanted .ensures)

@@ -10,10 +10,18 @@ boolean-at-requires : tie.Need-boolean-at-requires
 boolean-at-requires c κs = search needs
 
 typed-at-requires : tie.Need-typed-at-requires
-typed-at-requires c κs = omega (arith, c .before .before .before .before .before .before .before .before .before .before .before .before .before .before .before .before .before .before .before .before .before .before .before .before .before .before .before .before .before .before .before .before .before .before .before .before .before .before .before .before .before .pre)
+typed-at-requires c κs =
+    let start = c .before .before .before .before .before .before .before .before .before .before .before .before .before .before .before .before .before
+    .before .before .before .before .before .before .before .before .before .before .before .before .before .before .before .before .before .before
+    .before .before .before .before .before .before in
+    omega (arith, start .pre)
 
 returns : tie.Need-returns
-returns c = rw (← c .before .before .before .before .before .before .before .before .before .before .before .before .before .before .before .before .before .before .before .before .before .boolean-at .ensures, c .before .before .before .before .before .before .before .before .before .before .before .before .before .before .before .before .before .before .before .before .if1 .taken) (c .typed-at .ensures)
+returns c =
+    let at-if1 = c .before .before .before .before .before .before .before .before .before .before .before .before .before .before .before .before .before
+    .before .before .before in
+    let at-boolean-at = at-if1 .before in
+    rw (← at-boolean-at .boolean-at .ensures, at-if1 .if1 .taken) (c .typed-at .ensures)
 
 returns-2 : tie.Need-returns-2
 returns-2 c = rw (← c .before .boolean-at .ensures, c .if1 .left)

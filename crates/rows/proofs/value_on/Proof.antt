@@ -18,7 +18,10 @@ value-of-requires : tie.Need-value-of-requires
 value-of-requires c κs = search needs
 
 returns : tie.Need-returns
-returns c = let a = c .before .before .before .before .before .before .before .before .before .before .before .before .before .before .before .before .before .before .before .before .before .before .before .before .before .before .before .args in c .value-of .ensures ∙ value-in (cellAt (a .t2)) (nodeAt (a .p)) (a .p .items .a) (a .e .0 + 1) (a .e .0) (omega arith)
+returns c =
+    let start = c .before .before .before .before .before .before .before .before .before .before .before .before .before .before .before .before .before
+    .before .before .before .before .before .before .before .before .before .before in
+    let a = start .args in c .value-of .ensures ∙ value-in (cellAt (a .t2)) (nodeAt (a .p)) (a .p .items .a) (a .e .0 + 1) (a .e .0) (omega arith)
 
 pub value-on-spec : {M : Type 1} → statement M
 value-on-spec = tie.close (tie.spec cast-h add-value-of value-of-requires returns)

@@ -50,16 +50,19 @@ returns-2 : tie.Need-returns-2
 returns-2 c = search needs
 
 returns-3 : tie.Need-returns-3
-returns-3 c = c .unsigned32 .ensures ∙ ap (ofZ w32) (toZ-ofZ w32 (c .before .before .v .given .0 .0) (search needs)) ∙ sym (ap bitsOf (c .before .before .v .given .1))
+returns-3 c = c .unsigned32 .ensures ∙ ap (ofZ w32) (toZ-ofZ w32 (c .before .before .v .given .0 .0) (search needs)) ∙ sym
+    (ap bitsOf (c .before .before .v .given .1))
 
 returns-4 : tie.Need-returns-4
-returns-4 c = c .unsigned64 .ensures ∙ ap (ofZ w64) (toZ-ofZ w64 (c .before .before .v2 .given .0 .0) (search needs)) ∙ sym (ap bitsOf (c .before .before .v2 .given .1))
+returns-4 c = c .unsigned64 .ensures ∙ ap (ofZ w64) (toZ-ofZ w64 (c .before .before .v2 .given .0 .0) (search needs)) ∙ sym
+    (ap bitsOf (c .before .before .v2 .given .1))
 
 returns-5 : tie.Need-returns-5
 returns-5 c = c .bits-of-float .ensures ∙ sym (ap bitsOf (c .before .before .v3 .given .1))
 
 returns-6 : tie.Need-returns-6
-returns-6 c = c .unsigned322 .ensures ∙ ap (ofZ w32) (toZ-ofZ w32 (c .before .before .v4 .given .0 .0) (search needs)) ∙ sym (ap bitsOf (c .before .before .v4 .given .1))
+returns-6 c = c .unsigned322 .ensures ∙ ap (ofZ w32) (toZ-ofZ w32 (c .before .before .v4 .given .0 .0) (search needs)) ∙ sym
+    (ap bitsOf (c .before .before .v4 .given .1))
 
 pub bits-of-spec : {M : Type 1} → statement M
 bits-of-spec =

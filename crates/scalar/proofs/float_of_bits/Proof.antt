@@ -16,7 +16,8 @@ is-nan (fin s m e) h = absurd (false≢true h)
 
 returns : tie.Need-returns
 unfolding ofBits div
-returns c = is-nan (ofBits binary64 (c .before .args .bits)) (sym (nanBits-is binary64 (c .before .args .bits)) ∙ nanBits-above binary64 (c .before .args .bits) ∙ lt-ltb _ _ (c .if1 .taken))
+returns c = is-nan (ofBits binary64 (c .before .args .bits)) (sym (nanBits-is binary64 (c .before .args .bits)) ∙ nanBits-above binary64
+    (c .before .args .bits) ∙ lt-ltb _ _ (c .if1 .taken))
 
 float-from-bits-result : tie.Need-float-from-bits-result
 float-from-bits-result c = subst (λ (b : Bool). T (not b)) (sym (nanBits-above binary64 (c .before .args .bits) ∙ le-ltb _ _ (c .if1 .left))) tt

@@ -52,7 +52,8 @@ enum-told-2 : tie.Need-enum-told-2
 enum-told-2 c = search needs
 
 returns-3 : tie.Need-returns-3
-returns-3 c = ap (λ (z : ℤ). Of (ofInt binary64 z)) (toZ-ofZ w32 (c .before .before .v .given .0 .0) (search needs)) ∙ sym (ap scalarToF64 (c .before .before .v .given .1))
+returns-3 c = ap (λ (z : ℤ). Of (ofInt binary64 z)) (toZ-ofZ w32 (c .before .before .v .given .0 .0) (search needs)) ∙ sym
+    (ap scalarToF64 (c .before .before .v .given .1))
 
 returns-4 : tie.Need-returns-4
 returns-4 c =
@@ -61,14 +62,16 @@ returns-4 c =
 
 returns-5 : tie.Need-returns-5
 returns-5 c =
-    let x = c .before .before .before .v3 .given .0 .0 in
-    sym (ap scalarToF64 (c .before .before .before .v3 .given .1) ∙ ap (λ (b : Bool). cond b (Of x) Nothing) (sym (c .before .is-finite .ensures) ∙ c .if3 .taken))
+    let at-v3 = c .before .before .before in
+    let x = at-v3 .v3 .given .0 .0 in
+    sym (ap scalarToF64 (at-v3 .v3 .given .1) ∙ ap (λ (b : Bool). cond b (Of x) Nothing) (sym (c .before .is-finite .ensures) ∙ c .if3 .taken))
 
 returns-6 : tie.Need-returns-6
 returns-6 c = search needs
 
 returns-7 : tie.Need-returns-7
-returns-7 c = ap (λ (z : ℤ). Of (ofInt binary64 z)) (toZ-ofZ w32 (c .before .before .v4 .given .0 .0) (search needs)) ∙ sym (ap scalarToF64 (c .before .before .v4 .given .1))
+returns-7 c = ap (λ (z : ℤ). Of (ofInt binary64 z)) (toZ-ofZ w32 (c .before .before .v4 .given .0 .0) (search needs)) ∙ sym
+    (ap scalarToF64 (c .before .before .v4 .given .1))
 
 returns-8 : tie.Need-returns-8
 returns-8 c = search needs

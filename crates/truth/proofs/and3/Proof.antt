@@ -30,7 +30,10 @@ index-2-result c = search needs
 
 returns : tie.Need-returns
 unfolding allFrom
-returns c = looked rows andT refl and-read (c .before .before .before .args .a) (c .before .before .before .args .b) (c .before .before .place .result) (c .before .place2 .result) (c .before .before .place .ensures .0) (c .before .place2 .ensures .0)
+returns c =
+    let start = c .before .before .before in
+    looked rows andT refl and-read (start .args .a) (start .args .b) (c .before .before .place .result) (c .before .place2 .result)
+    (c .before .before .place .ensures .0) (c .before .place2 .ensures .0)
 
 pub and3-spec : {M : Type 1} → statement M
 and3-spec =

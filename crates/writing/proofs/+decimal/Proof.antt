@@ -53,7 +53,11 @@ decimal-same-length-2 : (t : ℕ) → decimal-lts.Need-same-length-2 (decimal-ca
 decimal-same-length-2 t c = search needs
 
 decimal-returns-2 : (t : ℕ) → decimal-lts.Need-returns-2 (decimal-calls t) (decimal-at t) decimal.Post
-decimal-returns-2 t c = rw (decimal-high _ (c .before .before .before .before .before .before .before .before .if1 .left)) (wrote-then _ _ _ _ _ _ _ _ (c .before .before .before .before .before .before .decimal .ensures) (c .before .before .before .before .before .before .decimal .kept .0) (c .before .before .byte2 .ensures))
+decimal-returns-2 t c =
+    let at-decimal = c .before .before .before .before .before .before in
+    let at-if1 = at-decimal .before .before in
+    rw (decimal-high _ (at-if1 .if1 .left)) (wrote-then _ _ _ _ _ _ _ _ (at-decimal .decimal .ensures) (at-decimal .decimal .kept .0)
+    (c .before .before .byte2 .ensures))
 
 pub +decimal-spec : {M : Type 1} → statement M
 +decimal-spec = close μ-decimal λ t. decimal-lts.spec (decimal-calls t)

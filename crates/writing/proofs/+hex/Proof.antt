@@ -42,7 +42,13 @@ hex-same-length : (t : ℕ) → hex-lts.Need-same-length (hex-calls t) (hex-at t
 hex-same-length t c = search needs
 
 hex-returns-2 : (t : ℕ) → hex-lts.Need-returns-2 (hex-calls t) (hex-at t) hex.Post
-hex-returns-2 t c = rw (digits-more _ (c .before .before .before .before .before .before .before .before .before .before .before .args .n) (c .before .before .before .before .before .before .before .before .before .if1 .left), ← c .before .before .before .glyph .ensures) (wrote-then _ _ _ _ _ _ _ _ (c .before .before .before .before .before .before .before .hex .ensures) (c .before .before .before .before .before .before .before .hex .kept .0) (c .before .before .byte .ensures))
+hex-returns-2 t c =
+    let at-glyph = c .before .before .before in
+    let at-hex = at-glyph .before .before .before .before in
+    let at-if1 = at-hex .before .before in
+    let start = at-if1 .before .before in
+    rw (digits-more _ (start .args .n) (at-if1 .if1 .left), ← at-glyph .glyph .ensures)
+    (wrote-then _ _ _ _ _ _ _ _ (at-hex .hex .ensures) (at-hex .hex .kept .0) (c .before .before .byte .ensures))
 
 pub +hex-spec : {M : Type 1} → statement M
 +hex-spec = close μ-hex λ t. hex-lts.spec (hex-calls t)

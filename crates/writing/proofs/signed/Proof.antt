@@ -24,13 +24,27 @@ same-length : tie.Need-same-length
 same-length c = search needs
 
 returns : tie.Need-returns
-returns c = let m : c .before .before .before .before .before .before .before .before .before .magnitude .result ≡ natAbs (c .before .before .before .before .before .before .before .before .before .before .before .args .v) = c .before .before .before .before .before .before .before .before .before .magnitude .ensures ∙ ap natAbs (toZ-ofZ w64 (c .before .before .before .before .before .before .before .before .before .before .before .args .v) (c .before .before .before .before .before .before .before .before .before .before .before .fits .v)) in rw (signed-below (c .before .before .before .before .before .before .before .before .before .before .before .args .v) (c .before .before .before .before .before .before .before .before .before .before .before .fits .v) (c .before .before .before .before .before .before .before .before .if1 .taken), ← m) (wrote-then _ _ _ _ _ _ _ _ (c .before .before .before .before .before .before .byte .ensures) (c .before .before .before .before .before .before .byte .kept .0) (c .before .before .decimal .ensures))
+returns c =
+    let at-byte = c .before .before .before .before .before .before in
+    let at-if1 = at-byte .before .before in
+    let at-magnitude = at-if1 .before in
+    let start = at-magnitude .before .before in
+    let args = start .args in
+    let m : at-magnitude .magnitude .result ≡ natAbs (args .v) = at-magnitude .magnitude .ensures ∙ ap natAbs (toZ-ofZ w64 (args .v) (start .fits .v)) in rw
+    (signed-below (args .v) (start .fits .v) (at-if1 .if1 .taken), ← m) (wrote-then _ _ _ _ _ _ _ _ (at-byte .byte .ensures) (at-byte .byte .kept .0)
+    (c .before .before .decimal .ensures))
 
 same-length-2 : tie.Need-same-length-2
 same-length-2 c = search needs
 
 returns-2 : tie.Need-returns-2
-returns-2 c = let m : c .before .before .before .before .before .magnitude .result ≡ natAbs (c .before .before .before .before .before .before .before .args .v) = c .before .before .before .before .before .magnitude .ensures ∙ ap natAbs (toZ-ofZ w64 (c .before .before .before .before .before .before .before .args .v) (c .before .before .before .before .before .before .before .fits .v)) in rw (signed-not (c .before .before .before .before .before .before .before .args .v) (c .before .before .before .before .before .before .before .fits .v) (c .before .before .before .before .if1 .left), ← m) (c .before .before .decimal2 .ensures)
+returns-2 c =
+    let at-if1 = c .before .before .before .before in
+    let at-magnitude = at-if1 .before in
+    let start = at-magnitude .before .before in
+    let args = start .args in
+    let m : at-magnitude .magnitude .result ≡ natAbs (args .v) = at-magnitude .magnitude .ensures ∙ ap natAbs (toZ-ofZ w64 (args .v) (start .fits .v)) in rw
+    (signed-not (args .v) (start .fits .v) (at-if1 .if1 .left), ← m) (c .before .before .decimal2 .ensures)
 
 pub signed-spec : {M : Type 1} → statement M
 signed-spec =

@@ -35,13 +35,25 @@ loop-less : tie.Need-loop-less Inv-loop μ-loop
 loop-less c = search needs
 
 loop-again : tie.Need-loop-again Inv-loop μ-loop
-loop-again c = let h : c .before .before .before .before .before .before .loop .i < length (c .before .before .before .before .before .before .before .before .before .args .s .now) = omega arith in (omega arith, c .before .before .byte .kept .0 ∙ c .before .before .before .before .before .before .loop .inv .1, rw (add-one, take-suc {A = ℕ} _ _ 0 h) (wrote-then _ _ _ _ _ _ _ _ (c .before .before .before .before .before .before .loop .inv .2) (c .before .before .before .before .before .before .loop .inv .1) (c .before .before .byte .ensures)))
+loop-again c =
+    let at-loop = c .before .before .before .before .before .before in
+    let start = at-loop .before .before .before in
+    let h : at-loop .loop .i < length (start .args .s .now) = omega arith in (
+      omega arith,
+      c .before .before .byte .kept .0 ∙ at-loop .loop .inv .1,
+      rw
+          (add-one, take-suc {A = ℕ} _ _ 0 h) (wrote-then _ _ _ _ _ _ _ _ (at-loop .loop .inv .2) (at-loop .loop .inv .1) (c .before .before .byte .ensures)),
+    )
 
 same-length : tie.Need-same-length Inv-loop μ-loop
 same-length c = search needs
 
 returns : tie.Need-returns Inv-loop μ-loop
-returns c = let e : take (c .before .loop .i) (c .before .before .before .before .args .s .now) ≡ c .before .before .before .before .args .s .now = take-all (c .before .loop .i) (c .before .before .before .before .args .s .now) (omega arith) in rw e at (c .before .loop .inv .2)
+returns c =
+    let start = c .before .before .before .before in
+    let args = start .args in
+    let e : take (c .before .loop .i) (args .s .now) ≡ args .s .now = take-all (c .before .loop .i) (args .s .now) (omega arith) in rw e at
+    (c .before .loop .inv .2)
 
 pub text-spec : {M : Type 1} → statement M
 text-spec =

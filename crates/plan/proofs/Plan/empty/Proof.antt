@@ -17,7 +17,14 @@ empty-requires-4 c κs = search needs
 
 returns : tie.Need-returns
 unfolding emptyPlan
-returns c = λ i. record { columns = c .before .before .before .empty .ensures i; expressions = c .before .before .empty2 .ensures i; operators = c .before .empty3 .ensures i; items = c .empty4 .ensures i }
+returns c =
+    let at-empty = c .before .before .before in
+    λ i. record {
+      columns = at-empty .empty .ensures i;
+      expressions = c .before .before .empty2 .ensures i;
+      operators = c .before .empty3 .ensures i;
+      items = c .empty4 .ensures i;
+    }
 
 pub empty-spec : {M : Type 1} → statement M
 empty-spec =

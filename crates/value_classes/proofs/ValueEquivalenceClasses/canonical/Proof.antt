@@ -20,7 +20,9 @@ parent-requires : tie.Need-parent-requires Inv-loop μ-loop
 parent-requires c κs = search needs
 
 returns : tie.Need-returns Inv-loop μ-loop
-returns c = sym (climb-own _ (c .before .before .before .loop .left) _ (sym (c .before .parent .ensures) ∙ c .if1 .taken)) ∙ c .before .before .before .loop .inv .1
+returns c =
+    let at-loop = c .before .before .before in
+    sym (climb-own _ (at-loop .loop .left) _ (sym (c .before .parent .ensures) ∙ c .if1 .taken)) ∙ at-loop .loop .inv .1
 
 sub-left : tie.Need-sub-left Inv-loop μ-loop
 sub-left c = search needs

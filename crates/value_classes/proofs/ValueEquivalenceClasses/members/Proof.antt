@@ -45,13 +45,16 @@ loop-less c = search needs
 
 loop-again : tie.Need-loop-again Inv-loop μ-loop
 loop-again c =
-    let v = c .before .before .loop .inv in
+    let at-loop = c .before .before in
+    let start = at-loop .before in
+    let v = at-loop .loop .inv in
     let h = small c in (
       omega arith,
       simp length-set (v .1),
       simp length-set (v .2),
-      firsts-again (c .before .before .before .args .self .parents) (c .before .before .loop .i) _ _ (omega arith) (v .0) (c .canonical .ensures) h (c .before .before .loop .first) (v .1) (v .3),
-      nexts-again (c .before .before .before .args .self .parents) (c .before .before .loop .i) _ _ (omega arith) (v .0) (c .canonical .ensures) h (c .before .before .loop .first) (v .1) (c .before .before .loop .next) (v .2) (v .3) (v .4),
+      firsts-again (start .args .self .parents) (at-loop .loop .i) _ _ (omega arith) (v .0) (c .canonical .ensures) h (at-loop .loop .first) (v .1) (v .3),
+      nexts-again (start .args .self .parents) (at-loop .loop .i) _ _ (omega arith) (v .0) (c .canonical .ensures) h (at-loop .loop .first) (v .1)
+          (at-loop .loop .next) (v .2) (v .3) (v .4),
     )
 
 returns : tie.Need-returns Inv-loop μ-loop

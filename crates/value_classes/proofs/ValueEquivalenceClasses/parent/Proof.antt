@@ -20,10 +20,14 @@ cast-parent : tie.Need-cast-parent
 cast-parent c = search needs
 
 returns-2 : tie.Need-returns-2
-returns-2 c = sym (parent-out (c .before .before .before .args .t1 .parents) (c .before .before .before .args .value) (omega (arith, long (c .before .before .before))))
+returns-2 c =
+    let start = c .before .before .before in
+    sym (parent-out (start .args .t1 .parents) (start .args .value) (omega (arith, long start)))
 
 returns-3 : tie.Need-returns-3
-returns-3 c = sym (parent-in (c .before .before .before .args .t1 .parents) (c .before .before .before .args .value) (omega (arith, long (c .before .before .before))) (omega (arith, long (c .before .before .before))))
+returns-3 c =
+    let start = c .before .before .before in
+    sym (parent-in (start .args .t1 .parents) (start .args .value) (omega (arith, long start)) (omega (arith, long start)))
 
 pub parent-spec : {M : Type 1} → statement M
 parent-spec = tie.close (tie.spec returns element-copy-out-parent cast-parent returns-2 returns-3)

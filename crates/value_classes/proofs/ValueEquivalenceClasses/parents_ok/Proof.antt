@@ -26,7 +26,10 @@ cast-parent : tie.Need-cast-parent Inv-loop μ-loop
 cast-parent c = search needs
 
 returns : tie.Need-returns Inv-loop μ-loop
-returns c = sym (c .before .before .before .loop .inv .1 ∙ all-fails (lowTest (c .before .before .before .before .args .t1 .parents)) _ 128 (c .before .before .loop-test .taken) (lt-leb _ _ (c .if1 .taken)))
+returns c =
+    let at-loop = c .before .before .before in
+    let start = at-loop .before in
+    sym (at-loop .loop .inv .1 ∙ all-fails (lowTest (start .args .t1 .parents)) _ 128 (c .before .before .loop-test .taken) (lt-leb _ _ (c .if1 .taken)))
 
 add-i : tie.Need-add-i Inv-loop μ-loop
 add-i c = search needs
@@ -35,7 +38,13 @@ loop-less : tie.Need-loop-less Inv-loop μ-loop
 loop-less c = search needs
 
 loop-again : tie.Need-loop-again Inv-loop μ-loop
-loop-again c = (omega arith, c .before .before .before .loop .inv .1 ∙ all-passes (lowTest (c .before .before .before .before .args .t1 .parents)) _ 128 (c .before .before .loop-test .taken) (le-leb _ _ (c .if1 .left)))
+loop-again c =
+    let at-loop = c .before .before .before in
+    let start = at-loop .before in (
+      omega arith,
+      at-loop .loop .inv .1 ∙ all-passes (lowTest (start .args .t1 .parents)) _ 128 (c .before .before .loop-test .taken)
+          (le-leb _ _ (c .if1 .left)),
+    )
 
 returns-2 : tie.Need-returns-2 Inv-loop μ-loop
 returns-2 c = sym (c .before .loop .inv .1 ∙ all-done (lowTest (c .before .before .args .t1 .parents)) _ 128 (omega arith))

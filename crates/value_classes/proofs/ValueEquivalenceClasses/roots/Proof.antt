@@ -70,25 +70,30 @@ loop-less c = search needs
 -- src/lib.rt:138:9
 loop-again : tie.Need-loop-again Inv-loop μ-loop
 loop-again c =
-    let v = c .before .before .before .loop .inv in
-    let p = c .before .before .before .before .before .args .t1 .parents in
-    let i = c .before .before .before .loop .i in
-    let l = c .before .before .before .loop .of in
-    ⊎-elim
-    (λ w.
-    let t = w .0 .taken in
-    let e = w .1 in
-    let x = root-known p l 128 i _ (search needs) (sym (c .before .before .before .before .parents-ok .ensures) ∙ and-left (c .before .before .before .before .parents-ok .result) _ t) refl (ltb-true _ _ (and-right (c .before .before .before .before .parents-ok .result) _ t)) (omega arith) (v .2) in
-    (omega arith, ap length e ∙ length-set l i _ ∙ v .1, ap (take (i + 1)) e ∙ each-more (rootOf p) l i _ (omega arith) x (v .2)))
-    (λ w.
-    let e = w .2 in
-    (omega arith, ap length e ∙ length-set l i _ ∙ v .1, ap (take (i + 1)) e ∙ each-more (rootOf p) l i _ (omega arith) (w .1 .ensures) (v .2)))
-    (c .if1 .came)
+    let at-loop = c .before .before .before in
+    let at-parents-ok = at-loop .before in
+    let start = at-parents-ok .before in
+    let v = at-loop .loop .inv in
+    let p = start .args .t1 .parents in
+    let i = at-loop .loop .i in
+    let l = at-loop .loop .of in
+    ⊎-elim (λ w. let t = w .0 .taken in let e = w .1 in let x = root-known p l 128 i _ (search needs)
+    (sym (at-parents-ok .parents-ok .ensures) ∙ and-left (at-parents-ok .parents-ok .result) _ t) refl
+    (ltb-true _ _ (and-right (at-parents-ok .parents-ok .result) _ t)) (omega arith) (v .2)
+    in (omega arith, ap length e ∙ length-set l i _ ∙ v .1, ap (take (i + 1)) e ∙ each-more (rootOf p) l i _ (omega arith) x (v .2)))
+    (λ w. let e = w .2 in (
+      omega arith,
+      ap length e ∙ length-set l i _ ∙ v .1,
+      ap (take (i + 1)) e ∙ each-more (rootOf p) l i _ (omega arith)
+          (w .1 .ensures) (v .2),
+    )) (c .if1 .came)
 
 -- src/lib.rt:132:5
 returns : tie.Need-returns Inv-loop μ-loop
 unfolding rootsOf
-returns c = let e = each-done (rootOf (c .before .before .before .args .t1 .parents)) 128 _ _ (c .before .loop .inv .1) (omega arith) (c .before .loop .inv .2) in λ i. record { of = e i }
+returns c =
+    let start = c .before .before .before in
+    let e = each-done (rootOf (start .args .t1 .parents)) 128 _ _ (c .before .loop .inv .1) (omega arith) (c .before .loop .inv .2) in λ i. record { of = e i }
 
 pub roots-spec : {M : Type 1} → statement M
 roots-spec =

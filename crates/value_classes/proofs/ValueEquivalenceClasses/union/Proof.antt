@@ -45,10 +45,14 @@ element-write-classes-2 : tie.Need-element-write-classes-2
 element-write-classes-2 c = l< (c .before)
 
 returns-4 : tie.Need-returns-4
-returns-4 c = to-left _ _ _ (omega arith) (omega arith) _ _ (c .before .before .before .canonical .ensures) (c .before .before .canonical2 .ensures) (c .if4 .taken)
+returns-4 c =
+    let at-canonical = c .before .before .before in
+    to-left _ _ _ (omega arith) (omega arith) _ _ (at-canonical .canonical .ensures) (c .before .before .canonical2 .ensures) (c .if4 .taken)
 
 returns-5 : tie.Need-returns-5
-returns-5 c = to-right _ _ _ (omega arith) (omega arith) _ _ (c .before .before .before .canonical .ensures) (c .before .before .canonical2 .ensures) (omega arith)
+returns-5 c =
+    let at-canonical = c .before .before .before in
+    to-right _ _ _ (omega arith) (omega arith) _ _ (at-canonical .canonical .ensures) (c .before .before .canonical2 .ensures) (omega arith)
 
 pub union-spec : {M : Type 1} → statement M
 union-spec =
