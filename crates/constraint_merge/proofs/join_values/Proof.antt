@@ -22,13 +22,10 @@ normalize-requires c κs = search needs
 
 -- src/lib.rt:65:9
 returns : tie.Need-returns
-returns c =
-    let at-if1 = c .before .before .before in
-    let at-union = at-if1 .before in
-    let start = at-union .before .before in
-    let args = start .args in
-    fully-joined (args .s) (args .left) (args .right) (at-union .union .result) (at-union .union .ensures) (c .normalize .result)
-    (c .before .parents-ok .result) (search needs) (at-if1 .if1 .taken) (c .before .parents-ok .ensures) (c .normalize .ensures)
+returns c = fully-joined (c .before .before .before .before .before .before .args .s) (c .before .before .before .before .before .before .args .left)
+    (c .before .before .before .before .before .before .args .right) (c .before .before .before .before .union .result)
+    (c .before .before .before .before .union .ensures) (c .normalize .result) (c .before .parents-ok .result) (search needs)
+    (c .before .before .before .if1 .taken) (c .before .parents-ok .ensures) (c .normalize .ensures)
 
 -- src/lib.rt:54:1
 returns-2 : tie.Need-returns-2
