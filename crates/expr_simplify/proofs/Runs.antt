@@ -1,4 +1,4 @@
--- The ways of `simplify_expr` and `test_simplify`, one by one, over their definitions: the code's passage through the operands leaves what the
+-- The ways of `simplify_expr` and `simplify_run`, one by one, over their definitions: the code's passage through the operands leaves what the
 -- definition says. Assumes nothing.
 use mathlib.Core.Path.{_≡_, refl, sym, ap, ap₂, _∙_}
 use mathlib.Core.Bool.{Bool, true, false, not, cond, _&&_, _||_}
@@ -96,7 +96,7 @@ place-one all h t e v false deciding q =
     back-keep (bottomOf all h (q .ok) (q .st) (tallied (nextTally t e v false deciding) q)) (t .kept) v (q .kept)
     ∙ ap (λ (x : Tally). written (bottomOf all h (q .ok) (q .st) x) (t .kept) (v ∷ q .kept)) (tally-one t e v false deciding q)
 
--- the ways of `test_simplify`
+-- the ways of `simplify_run`
 module _ (all : Bool) (h : ℕ) (ok : Bool) (st : Tables) (p m : ℕ) (t : Tally) where
   pub run-none : m ≡ 0 → (o : Out) → o ≡ bottomOf all h ok st t → o ≡ placed all h t (operandsFrom simplifyAt all h ok st p m)
   unfolding operandsFrom lastOf placed

@@ -602,7 +602,7 @@ fn simplify_expr(
             count: m,
         } => {
             let t = no_tally();
-            let q = test_simplify(
+            let q = simplify_run(
                 kind,
                 code,
                 a,
@@ -625,7 +625,7 @@ fn simplify_expr(
             count: m,
         } => {
             let t = no_tally();
-            let q = test_simplify(
+            let q = simplify_run(
                 kind,
                 code,
                 a,
@@ -659,7 +659,7 @@ fn no_tally() -> Tally
 }
 
 // Simplifies the m operands of h from the item p on, makes the node, and writes its list on the way back.
-fn test_simplify(
+fn simplify_run(
     kind: &mut [u8; 1024],
     code: &mut [u8; 1024],
     a: &mut [u16; 1024],
@@ -691,7 +691,7 @@ fn test_simplify(
     let neutral = is_literal(shape, all);
     let deciding = is_literal(shape, !all);
     let t2 = count(t, e, v, neutral, deciding);
-    let q = test_simplify(
+    let q = simplify_run(
         kind,
         code,
         a,

@@ -1,9 +1,18 @@
 use borrow.Author.Needs.{needs}
 use denote.Ref.{now}
+use lib.ListN.{length}
+use mathlib.Core.Path.{_≡_}
 use Rattle.apply_predicate.proofs.Walking.{start-ready, start-whole}
 use Rattle.apply_predicate.proofs.Handing.{found-all}
 use Rattle.apply_predicate.proofs.apply_and.Statement.{statement}
 use Rattle.apply_predicate.proofs.apply_and.Tie as tie
+
+-- the lengths that the parameters have by their types
+kinds-long : (c : tie.Start) → length (now (c .args .kind)) ≡ 1024
+kinds-long c = search needs
+
+items-long : (c : tie.Start) → length (now (c .args .items)) ≡ 2048
+items-long c = search needs
 
 empty-requires : tie.Need-empty-requires
 empty-requires c κs = search needs
@@ -19,7 +28,7 @@ next-conjuncts-requires c κs =
     let args = start .args in (
       search needs,
       start-ready (now (args .kind)) (now (args .code)) (now (args .a)) (now (args .b)) (now (args .bits)) (now (args .start))
-          (now (args .items)) (now (args .lineage)) (search needs) (search needs) (args .e) (start .pre) (at-empty .empty .result) (at-enter .enter .result)
+          (now (args .items)) (now (args .lineage)) (items-long start) (kinds-long start) (args .e) (start .pre) (at-empty .empty .result) (at-enter .enter .result)
           (at-empty .empty .ensures) (at-enter .enter .ensures),
     )
 
@@ -37,7 +46,7 @@ returns c =
     found-all (now (args .kind)) (now (args .code)) (now (args .a)) (now (args .b)) (now (args .bits)) (now (args .start)) (now (args .items))
     (now (args .lineage)) (args .e) (args .s) (at-enter .enter .result) (at-next-conjuncts .next-conjuncts .result .walk) _ (search needs)
     (start-whole (now (args .kind)) (now (args .code)) (now (args .a)) (now (args .b)) (now (args .bits)) (now (args .start)) (now (args .items))
-    (now (args .lineage)) (search needs) (search needs) (args .e) (start .pre) (at-empty .empty .result) (at-enter .enter .result)
+    (now (args .lineage)) (items-long start) (kinds-long start) (args .e) (start .pre) (at-empty .empty .result) (at-enter .enter .result)
     (at-empty .empty .ensures) (at-enter .enter .ensures)) (at-next-conjuncts .next-conjuncts .ensures .1 .1 .0 (now (args .b)) (now (args .bits)))
     (at-if1 .if1 .taken) (c .apply-handles .result) (c .apply-handles .ensures)
 
@@ -48,10 +57,10 @@ apply-many-requires c κs =
     let start = at-empty .before .before .before in
     let args = start .args in (
       start-ready (now (args .kind)) (now (args .code)) (now (args .a)) (now (args .b)) (now (args .bits)) (now (args .start)) (now (args .items))
-          (now (args .lineage)) (search needs) (search needs) (args .e) (start .pre) (at-empty .empty .result) (at-enter .enter .result)
+          (now (args .lineage)) (items-long start) (kinds-long start) (args .e) (start .pre) (at-empty .empty .result) (at-enter .enter .result)
           (at-empty .empty .ensures) (at-enter .enter .ensures),
       start-whole (now (args .kind)) (now (args .code)) (now (args .a)) (now (args .b))
-          (now (args .bits)) (now (args .start)) (now (args .items)) (now (args .lineage)) (search needs) (search needs) (args .e) (start .pre)
+          (now (args .bits)) (now (args .start)) (now (args .items)) (now (args .lineage)) (items-long start) (kinds-long start) (args .e) (start .pre)
           (at-empty .empty .result) (at-enter .enter .result) (at-empty .empty .ensures) (at-enter .enter .ensures),
     )
 
