@@ -16,9 +16,9 @@ use borrow.Fn.PlainCycle.{Measures, is, falls, and}
 use Rattle.expr_simplify.proofs.simplify_expr.Reads as simplify-expr
 use Rattle.expr_simplify.proofs.simplify_expr.Kinds as simplify-expr-kinds
 use Rattle.expr_simplify.proofs.+simplify_expr+simplify_run.Lts-simplify_expr as simplify-expr-lts
-use Rattle.expr_simplify.proofs.test_simplify.Reads as simplify-run
-use Rattle.expr_simplify.proofs.test_simplify.Kinds as simplify-run-kinds
-use Rattle.expr_simplify.proofs.+simplify_expr+simplify_run.Lts-test_simplify as simplify-run-lts
+use Rattle.expr_simplify.proofs.simplify_run.Reads as simplify-run
+use Rattle.expr_simplify.proofs.simplify_run.Kinds as simplify-run-kinds
+use Rattle.expr_simplify.proofs.+simplify_expr+simplify_run.Lts-simplify_run as simplify-run-lts
 use Rattle.expr_simplify.proofs.bottom.Reads as bottom-reads
 use Rattle.expr_simplify.proofs.compare_step.Reads as compare-step-reads
 use Rattle.expr_simplify.proofs.count.Reads as count-reads
