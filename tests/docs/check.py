@@ -5,6 +5,7 @@
 
 - README.md's picture of the crates is what docs/picture.py draws of crates.txt;
 - every crate, file, theorem, definition, function and type that a document names in backticks is in the tree;
+- every theorem of a table with the columns 'theorem' and 'file' stands in that file;
 - links between documents lead to files, and to headings that are there;
 - no line of code, definition or proof has more than 160 characters;
 - no document, comment or script has a crate's former name.
@@ -51,28 +52,25 @@ def declared(path):
     if path.suffix == ".antt":
         for m in re.finditer(r"^\s*(?:(?:abbrev|unfoldable|pub|record|data|inductive|private) )*([^\s:(){}.]+)(?: [^:=\n]*)? :", text, re.M):
             yield m.group(1)
-        # a constructor or a signature whose arguments stand on the next lines
-        for m in re.finditer(r"^\s*(?:(?:abbrev|unfoldable|pub) )*([^\s:(){}.=]+)$", text, re.M):
-            yield m.group(1)
     else:
         for m in re.finditer(r"\b(?:fn|struct|enum|trait|type|mod|const) (\w+)", text):
             yield m.group(1)
-        for m in re.finditer(r"^\s*(?:pub )?(\w+)(?:\([^)]*\))?(?:: [^=]*)?,$", text, re.M):
+        # fields and variants
+        for m in re.finditer(r"^\s*(?:pub )?(\w+)(?:\([^)]*\))?(?:: [^=\n]*)?,$", text, re.M):
             yield m.group(1)
 
 
 def known():
-    """Every name of the tree."""
-    names = set()
+    """Every name of the tree; those of the oracle's Rust by themselves, which only its own document may take for granted."""
+    names, oracle = set(), set()
     for path in files(""):
-        rel = path.relative_to(TOP)
-        names.update(part for part in rel.parts)
+        names.update(path.relative_to(TOP).parts)
         names.add(path.stem)
     for path in files(".antt", ".rt", ".rs"):
-        names.update(declared(path))
+        (oracle if path.is_relative_to(TOP / "oracle") else names).update(declared(path))
     for path in files(".h"):
         names.update(re.findall(r"\b(?:mossladder|MOSSLADDER)_\w+", path.read_text()))
-    return names
+    return names, oracle | names
 
 
 def words():
@@ -129,6 +127,27 @@ def check_names(document, names, allowed):
             yield f"{where}: nothing is called {name} (in `{code}`)"
 
 
+def cells(line):
+    return [cell.strip() for cell in line.strip().strip("|").split("|")]
+
+
+def check_tables(document):
+    """Of each table with the columns theorem and file: a theorem stands in one of the files beside it."""
+    inside = False
+    for number, line in enumerate(document.read_text().splitlines(), 1):
+        if not line.startswith("|"):
+            inside = False
+        elif cells(line)[:2] == ["theorem", "file"]:
+            inside = True
+        elif inside:
+            row = cells(line)
+            paths = [TOP / "crates" / p for p in re.findall(r"`([^`]+\.antt)`", row[1])]
+            there = {name for p in paths if p.exists() for name in declared(p)}
+            for name in re.findall(r"`([^`]+)`", row[0]) if paths else []:
+                if name not in there:
+                    yield f"{document.relative_to(TOP)}:{number}: {name} does not stand in {row[1]}"
+
+
 def anchors(path):
     """The anchors of a document's headings, as a forge makes them."""
     for line in path.read_text().splitlines():
@@ -177,10 +196,11 @@ def check_picture():
 
 
 def main():
-    names, allowed = known(), words()
+    (ours, with_oracle), allowed = known(), words()
     faults = list(check_picture())
     for document in documents():
-        faults += check_names(document, names, allowed)
+        faults += check_names(document, with_oracle if document.parent.name == "oracle" else ours, allowed)
+        faults += check_tables(document)
         faults += check_links(document)
     faults += check_wide()
     faults += check_former()
