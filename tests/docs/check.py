@@ -98,7 +98,10 @@ def is_path(code):
 
 
 def is_there(code, document):
+    """From the top, from the document's folder or from crates/; what lies outside the repository is not looked for."""
     code = code.split(":")[0].rstrip("/")
+    if code.startswith("../") and not (TOP / code).resolve().is_relative_to(TOP):
+        return True
     return any((base / code).exists() for base in (TOP, document.parent, TOP / "crates"))
 
 
