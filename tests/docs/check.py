@@ -6,9 +6,10 @@
 - README.md's picture of the crates is what docs/picture.py draws of crates.txt;
 - every crate, file, theorem, definition, function and type that a document names in backticks is in the tree;
 - every theorem of a table with the columns 'theorem' and 'file' stands in that file;
+- docs/FORMAT.md's table of records is the one of crates/plan_kinds, its example the one that the program is run on;
 - links between documents lead to files, and to headings that are there;
 - no line of code, definition or proof has more than 160 characters;
-- no document, comment or script has a crate's former name.
+- no document, comment or script has a crate's former name, and no comment names a file that is not there.
 
 Names that are not the tree's own (of the language, its tools, the Rust that is ported, SQL) stand in words.txt beside this
 file: a name in backticks that is in neither is a mistake.
@@ -21,12 +22,15 @@ import sys
 TOP = pathlib.Path(__file__).resolve().parents[2]
 HERE = pathlib.Path(__file__).resolve().parent
 sys.path.insert(0, str(TOP / "docs"))
+sys.path.insert(0, str(HERE))
 import picture  # noqa: E402
+import rules  # noqa: E402
 
 WIDEST = 160
 # what stands for something else in a path: `crates/NAME/src`, `docs/changes/T-nn.md`
 PLACEHOLDERS = re.compile(r"\b(NAME|CRATE|FILE|FOLDER|ROOM|F|X|T-nn|DIR|SEED|COUNT)\b|[*<>…]|\.\.$")
 NAME = re.compile(r"[A-Za-z][A-Za-z0-9]*(?:[_-][A-Za-z0-9]+)*")
+DECLARED = re.compile(r"^\s*(?:(?:abbrev|unfoldable|pub|record|data) )*([^\s:(){}.]+)(?: [^:=\n]*)? :", re.M)
 FORMER = (
     "ready_sets conjunct_facts applied_conjuncts repeated_conjuncts predicate_facts column_facts operator_facts derive_facts"
     " derived_ready simplifying_laws read_run rows_run rows_deep facts_run derive_run listing_run simplify_deep"
@@ -50,7 +54,7 @@ def declared(path):
     """The names that a file of definitions, proofs or code declares."""
     text = path.read_text()
     if path.suffix == ".antt":
-        for m in re.finditer(r"^\s*(?:(?:abbrev|unfoldable|pub|record|data|inductive|private) )*([^\s:(){}.]+)(?: [^:=\n]*)? :", text, re.M):
+        for m in DECLARED.finditer(text):
             yield m.group(1)
     else:
         for m in re.finditer(r"\b(?:fn|struct|enum|trait|type|mod|const) (\w+)", text):
@@ -177,7 +181,8 @@ def check_wide():
     for path in files(".rt", ".antt"):
         wide = [(n, len(line)) for n, line in enumerate(path.read_text().splitlines(), 1) if len(line) > WIDEST]
         if wide:
-            yield f"{path.relative_to(TOP)}:{wide[0][0]}: {len(wide)} lines of more than {WIDEST} characters, up to {max(w for _, w in wide)}"
+            most = max(w for _, w in wide)
+            yield f"{path.relative_to(TOP)}:{wide[0][0]}: {len(wide)} lines of more than {WIDEST} characters, up to {most}"
 
 
 def check_former():
@@ -191,6 +196,16 @@ def check_former():
                 yield f"{path.relative_to(TOP)}:{number}: the former name {m.group(1)}"
 
 
+def check_comments():
+    """The files that comments of code and proofs name."""
+    for path in files(".rt", ".antt"):
+        crate = TOP.joinpath(*path.relative_to(TOP).parts[:2])
+        comments = "\n".join(re.findall(r"(?:^|\s)(?:--|//) (.*)", path.read_text(), re.M))
+        for name in sorted(set(re.findall(r"[\w/+]+/[\w/+]+\.(?:antt|rt|md)\b", comments))):
+            if not any((base / name).exists() for base in (TOP, TOP / "crates", crate)):
+                yield f"{path.relative_to(TOP)}: a comment names {name}, which is not there"
+
+
 def check_picture():
     if picture.in_readme() is None:
         yield "README.md: no picture between its markers"
@@ -200,13 +215,14 @@ def check_picture():
 
 def main():
     (ours, with_oracle), allowed = known(), words()
-    faults = list(check_picture())
+    faults = list(check_picture()) + list(rules.check())
     for document in documents():
         faults += check_names(document, with_oracle if document.parent.name == "oracle" else ours, allowed)
         faults += check_tables(document)
         faults += check_links(document)
     faults += check_wide()
     faults += check_former()
+    faults += check_comments()
     for fault in faults:
         print(fault)
     print(f"{len(documents())} documents, {len(faults)} faults")
