@@ -21,6 +21,7 @@ import sys
 
 TOP = pathlib.Path(__file__).resolve().parents[2]
 HERE = pathlib.Path(__file__).resolve().parent
+sys.dont_write_bytecode = True
 sys.path.insert(0, str(TOP / "docs"))
 sys.path.insert(0, str(HERE))
 import picture  # noqa: E402
