@@ -1,40 +1,26 @@
-// Simplifying the expressions of one operator of a plan, after the Rust's ExprSimplify. What recurses over expressions has the tables' arrays lent
-// to it one by one, never a table.
-use comparison::BinaryOp;
+// Simplifying the expressions of one operator of a plan, after the Rust's ExprSimplify.
 use plan::Expr;
-use plan::Expressions;
 use plan::Items;
 use plan::Operator;
 use plan::Operators;
 use plan::Plan;
-use plan_data::ExprData;
-use plan_data::NaryOp;
 use plan_data::OperatorData;
-use plan_data::Run;
-use plan_data::UnaryOp;
 use plan_kinds::Record;
-use scalar::ScalarValue;
 use simplify_spec::Each;
 use simplify_spec::Held;
 use simplify_spec::Rewrite;
 use simplify_spec::Rewritten;
-use simplify_spec::Shape;
-use simplify_spec::Simplified;
 use simplify_spec::Tables;
 ghost use mathlib.Core.Path.{_≡_};
-ghost use mathlib.Core.Bool.{Bool, true, false, not, cond, _&&_, _||_};
 ghost use mathlib.Core.List.{List};
-ghost use Prim.Native.Nat.{ℕ, _+_, _<_, _≤_};
-ghost use lib.Dec.{eqb, ltb};
+ghost use Prim.Native.Nat.{ℕ, _+_, _≤_};
 ghost use lib.ListN.{getD, set};
 ghost use Rattle.plan.specs.Records.{operatorRecordOf};
-ghost use Rattle.plan_data.specs.Codes.{unaryOpOf, naryOpOf};
-ghost use Rattle.plan_data.specs.Nodes.{exprData, nodeOf, operatorData, recordOfOperator};
-ghost use Rattle.simplify_spec.specs.Shapes.{sameBool, isLiteral, naryOpFor, unaryShape, naryShape, shapeOf};
-ghost use Rattle.simplify_spec.specs.OneExpression.{kept, failed, took, addRecord, addNode, addLiteral, notStep, notOther, notOf, compareOf, enterOf};
-ghost use Rattle.simplify_spec.specs.OneExpression.{operandsFrom, itemSet, simplifyAt};
-ghost use Rattle.simplify_spec.specs.OneOperator.{operatorAt, heldOf, heldCount, heldAt, eachWith, eachTo, itemCount, itemFirst, itemSecond};
+ghost use Rattle.plan_append.specs.Appending.{itemsOf};
+ghost use Rattle.plan_data.specs.Nodes.{operatorData, recordOfOperator};
+ghost use Rattle.simplify_spec.specs.OneOperator.{heldOf, heldCount, heldAt, eachWith, eachTo, itemCount, itemFirst, itemSecond};
 ghost use Rattle.simplify_spec.specs.OneOperator.{withList, rebuiltOf, answered, addOperator, inputOr, eachOf, rewriteOf, simplifyOf};
+<<<<<<< HEAD
 ghost use Rattle.expr_simplify.specs.Passage.{itemsOf, tablesOf, resultOf, outOf, plainOut, noTally, nextTally, reserved, rebuiltOut, bottomOf};
 ghost use Rattle.expr_simplify.specs.Passage.{backItems, placed};
 
@@ -770,6 +756,8 @@ fn simplify_in(t: Tables, ok: bool, e: u16, n: u16) -> Simplified
         ok: r.ok,
     }
 }
+=======
+>>>>>>> split
 
 // Where the operator of a record has its expressions.
 fn held_of(x: Record, start: u16) -> Held
@@ -839,9 +827,9 @@ fn held_at<'a>(ia: &'a [u16], ib: &'a [u16], held: Held, k: u16) -> u16
 fn each_step(r: Each, n: u16, e: u16, k: u16) -> Each
     ensures { λ q. ⌜ q ≡ eachWith n e r k ⌝ }
 {
-    let q = simplify_in(r.st, r.ok, e, n);
+    let q = simplify_expr::simplify_in(r.st, r.ok, e, n);
     let mut ats = r.ats;
-    put16(&mut ats, k as usize, q.at);
+    plan_append::put16(&mut ats, k as usize, q.at);
     let st = q.st;
     Each { st, ok: q.ok, ats }
 }
@@ -926,8 +914,8 @@ fn item_put(t: Items, i: usize, x: u16, y: u16) -> Items
 {
     let mut a = t.a;
     let mut b = t.b;
-    put16(&mut a, i, x);
-    put16(&mut b, i, y);
+    plan_append::put16(&mut a, i, x);
+    plan_append::put16(&mut b, i, y);
     Items {
         count: t.count,
         a,
@@ -1061,8 +1049,8 @@ fn input_or(p: Plan, st: Tables, x: Record, start: u16, held: Held, ats: [u16; 2
 {
     let t = st.exprs;
     let e = lists::at16(&ats, 0) as usize;
-    let shape = shape_at(&t.kind, &t.code, &t.a, &t.b, &t.start, &t.bits, e);
-    let through = (x.kind == 0x33) & is_literal(shape, true);
+    let shape = simplify_shape::shape_at(&t.kind, &t.code, &t.a, &t.b, &t.start, &t.bits, e);
+    let through = (x.kind == 0x33) & simplify_shape::is_literal(shape, true);
     if through {
         let columns = p.columns;
         let operators = p.operators;
