@@ -39,8 +39,8 @@ use Rattle.apply_spec.specs.Apply.{seenOf, isNullLiteral, pairApplied, r
 use Rattle.apply_spec.specs.Apply.{comparisonApplied, literalApplied, nodeApplied, conjunctApplied, allApplied}
 use Rattle.apply_spec.specs.declared.Seen.{Seen}
 use Rattle.apply_spec.specs.declared.Seen.the-variants.{Identity, Constant, Unseen}
-use Rattle.rows.specs.Compare.{compareOf, truthOf}
-use Rattle.rows.specs.Values.{nodeValue, valueIn, values, valueAt}
+use Rattle.rows_spec.specs.Compare.{compareOf, truthOf}
+use Rattle.rows_spec.specs.Values.{nodeValue, valueIn, values, valueAt}
 use Rattle.apply_spec.specs.Meaning.{WholeRow, Consistent, OnNodes, AllOf}
 use Rattle.apply_spec.specs.Conditions.{OneKind, ExactSeen, ExactNode}
 use Rattle.apply_spec.proofs.Readings.{value-here, value-before}

@@ -26,9 +26,9 @@ use Rattle.apply_spec.specs.Apply.{comparisonApplied, conjunctApplied, a
 use Rattle.apply_spec.specs.Entries.{predicateApplied, applyPredicate}
 use Rattle.apply_spec.specs.declared.LogicalFacts.{LogicalFacts}
 use Rattle.apply_spec.specs.declared.Outcome.the-variants.{Accepted}
-use Rattle.rows.specs.Compare.{compareOf}
-use Rattle.rows.specs.InOrder.{inOrder}
-use Rattle.rows.specs.Values.{values}
+use Rattle.rows_spec.specs.Compare.{compareOf}
+use Rattle.rows_spec.specs.InOrder.{inOrder}
+use Rattle.rows_spec.specs.Values.{values}
 use Rattle.apply_spec.specs.Meaning.{AllOn}
 use Rattle.apply_spec.proofs.Conjunctions.{truth-back}
 use Rattle.apply_spec.proofs.Comparisons.{compared-of}

@@ -20,7 +20,7 @@ use Rattle.constraint_spec.specs.Sets.{boundsBy}
 use Rattle.constraint_spec.proofs.Pairs.{by-pairs}
 use Rattle.constraint_spec.proofs.ValueLaws.{same-null, same-sym}
 use Rattle.constraint_spec.proofs.Bounding.{Tested, tested}
-use Rattle.rows.specs.Compare.{known, compared, compareOf}
+use Rattle.rows_spec.specs.Compare.{known, compared, compareOf}
 
 -- ---- the ordinary six
 pub record Compared (op : BinaryOp) (a b : ScalarValue) : Type 0 where

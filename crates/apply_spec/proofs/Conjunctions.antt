@@ -19,10 +19,10 @@ use Rattle.plan_data.specs.declared.NaryOp.the-variants as N
 use Rattle.plan_data.specs.declared.ExprData.{ExprData}
 use Rattle.plan_data.specs.declared.ExprData.the-variants.{Literal, ColumnRef, Unary, Binary, Nary}
 use Rattle.apply_spec.specs.Conjuncts.{joinedOf, conjunctsBy, conjunctsTo, conjunctsOf}
-use Rattle.rows.specs.Compare.{truthOf, ofTruth}
-use Rattle.rows.specs.Values.{truths, nodeValue, valueIn, values}
+use Rattle.rows_spec.specs.Compare.{truthOf, ofTruth}
+use Rattle.rows_spec.specs.Values.{truths, nodeValue, valueIn, values}
 use Rattle.apply_spec.specs.Meaning.{WholeRow, OnNodes, AllOf}
-use Rattle.rows.proofs.Tables.{before-all}
+use Rattle.rows_spec.proofs.Tables.{before-all}
 use Rattle.apply_spec.proofs.Members.{all-append, all-left, all-right, all-map}
 use Rattle.apply_spec.proofs.Readings.{value-here, value-before, value-past, conjuncts-here, conjuncts-before, conjuncts-past}
 

@@ -9,12 +9,12 @@ use Rattle.scalar.specs.declared.ScalarValue.{ScalarValue}
 use Rattle.plan.specs.declared.Plan.{Plan}
 use Rattle.plan.specs.declared.Expr.{Expr}
 use Rattle.plan_rules.specs.Rules.{planOk}
-use Rattle.rows.specs.Compare.{truthOf}
-use Rattle.rows.specs.Cells.{cellAt, rowOk}
-use Rattle.rows.specs.Evaluate.{valueOn, typed, evaluateOf, refusalOf, valueFound}
-use Rattle.rows.specs.declared.Row.{Row}
-use Rattle.rows.specs.declared.Evaluation.{Evaluation}
-use Rattle.rows.specs.declared.Evaluation.the-variants.{Value, NoSuch, Untyped, BadRow}
+use Rattle.rows_spec.specs.Compare.{truthOf}
+use Rattle.rows_spec.specs.Cells.{cellAt, rowOk}
+use Rattle.rows_spec.specs.Evaluate.{valueOn, typed, evaluateOf, refusalOf, valueFound}
+use Rattle.rows_spec.specs.declared.Row.{Row}
+use Rattle.rows_spec.specs.declared.Evaluation.{Evaluation}
+use Rattle.rows_spec.specs.declared.Evaluation.the-variants.{Value, NoSuch, Untyped, BadRow}
 use Rattle.apply_spec.specs.Meaning.{On}
 
 -- an evaluated predicate is TRUE of a row exactly where the evaluator answers TRUE. Assumes nothing

@@ -33,9 +33,9 @@ use Rattle.apply_spec.specs.Apply.{comparisonApplied, conjunctApplied, a
 use Rattle.apply_spec.specs.Entries.{predicateApplied, applyPredicate}
 use Rattle.apply_spec.specs.declared.LogicalFacts.{LogicalFacts}
 use Rattle.apply_spec.specs.declared.Outcome.the-variants.{Accepted}
-use Rattle.rows.specs.Compare.{compareOf, truthOf}
-use Rattle.rows.specs.InOrder.{inOrder}
-use Rattle.rows.specs.Values.{values, valueAt}
+use Rattle.rows_spec.specs.Compare.{compareOf, truthOf}
+use Rattle.rows_spec.specs.InOrder.{inOrder}
+use Rattle.rows_spec.specs.Values.{values, valueAt}
 use Rattle.apply_spec.specs.Meaning.{WholeRow, On, MeetsFacts, Wide, freshFacts, AllOn}
 use Rattle.apply_spec.specs.Conditions.{OneKinded, OneKindPlan}
 use Rattle.apply_spec.proofs.Plain.{sequence-whole}

@@ -31,7 +31,7 @@ use Rattle.apply_spec.specs.declared.LogicalFacts.{LogicalFacts}
 use Rattle.apply_spec.specs.declared.Outcome.the-variants.{Accepted}
 use Rattle.apply_spec.specs.declared.Seen.{Seen}
 use Rattle.apply_spec.specs.declared.Seen.the-variants.{Identity, Constant, Unseen}
-use Rattle.rows.specs.Typing.{kindOfNode, kindAt}
+use Rattle.rows_spec.specs.Typing.{kindOfNode, kindAt}
 use Rattle.apply_spec.specs.Meaning.{WholeRow, Consistent, On, MeetsFacts, AllOf, Wide, GoodFacts, freshFacts, AcceptedAll, AllOn}
 use Rattle.apply_spec.specs.Conditions.{OneKind, ExactSeen, ExactNode, ExactPredicate, ofKind, Kinded, OneKinded, OneKindPlan, intOrBoolean}
 use Rattle.apply_spec.proofs.Members.{all-map}

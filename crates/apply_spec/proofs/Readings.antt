@@ -9,9 +9,9 @@ use Rattle.scalar.specs.declared.ScalarValue.the-variants as S
 use Rattle.plan_data.specs.Nodes.{operandsOf}
 use Rattle.plan_data.specs.declared.ExprData.{ExprData}
 use Rattle.apply_spec.specs.Conjuncts.{conjunctsBy, conjunctsTo, conjunctsOf}
-use Rattle.rows.specs.InOrder.{inOrder}
-use Rattle.rows.specs.Values.{nodeValue, valueIn, values, valueAt}
-use Rattle.rows.proofs.Tables.{table-last, table-at, table-past}
+use Rattle.rows_spec.specs.InOrder.{inOrder}
+use Rattle.rows_spec.specs.Values.{nodeValue, valueIn, values, valueAt}
+use Rattle.rows_spec.proofs.Tables.{table-last, table-at, table-past}
 
 module _ (cell : ℕ → ScalarValue) (node : ℕ → ExprData) (items : List ℕ) where
   abbrev nextValue : ℕ → ScalarValue

@@ -21,7 +21,7 @@ use Rattle.apply_spec.specs.Conjuncts.{conjunctsOf}
 use Rattle.apply_spec.specs.Apply.{seenOf}
 use Rattle.apply_spec.specs.declared.Seen.{Seen}
 use Rattle.apply_spec.specs.declared.Seen.the-variants.{Identity, Constant, Unseen}
-use Rattle.rows.specs.Typing.{kindAt}
+use Rattle.rows_spec.specs.Typing.{kindAt}
 use Rattle.apply_spec.specs.Meaning.{AllOf}
 
 -- ---- of one row: no NaN is compared with itself, and a value that is bounded by a literal is NULL or of the literal's kind

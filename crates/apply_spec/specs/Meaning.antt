@@ -16,8 +16,8 @@ use Rattle.apply_spec.specs.Facts.{hasLineage, identityOf}
 use Rattle.apply_spec.specs.Entries.{applyPredicate}
 use Rattle.apply_spec.specs.declared.LogicalFacts.{LogicalFacts}
 use Rattle.apply_spec.specs.declared.Outcome.the-variants.{Accepted}
-use Rattle.rows.specs.Compare.{truthOf}
-use Rattle.rows.specs.Values.{valueAt}
+use Rattle.rows_spec.specs.Compare.{truthOf}
+use Rattle.rows_spec.specs.Values.{valueAt}
 
 -- a row gives a value to every column and every identity
 pub record WholeRow : Type 0 where

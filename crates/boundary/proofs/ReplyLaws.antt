@@ -24,9 +24,9 @@ use Rattle.apply_spec.specs.declared.FactsAnswer.{FactsAnswer}
 use Rattle.apply_spec.specs.declared.Outcome.the-variants as O
 use Rattle.refusals.specs.Numbers.{lastOf, standingOf, truthFound}
 use Rattle.plan_file_write.specs.Written.{writtenOf}
-use Rattle.rows.specs.Evaluate as Evaluating
-use Rattle.rows.specs.declared.Row.{Row}
-use Rattle.rows.specs.declared.Evaluation.{Evaluation}
+use Rattle.rows_spec.specs.Evaluate as Evaluating
+use Rattle.rows_spec.specs.declared.Row.{Row}
+use Rattle.rows_spec.specs.declared.Evaluation.{Evaluation}
 use Rattle.simplify_spec.specs.OneOperator as Simplifying
 use Rattle.simplify_spec.specs.declared.Rewritten.{Rewritten}
 use Rattle.boundary.specs.Replies.{headOf, readReply, onPlan, evaluateReply, rewriteReply, simplifyReply, cellsTo, derivedReply, deriveReply}

@@ -11,8 +11,8 @@ use Rattle.plan_file.specs.declared.Answer.{Answer}
 use Rattle.plan_file_laws.specs.Writing.{put8}
 use Rattle.plan_file_write.specs.Written.{writtenOf}
 use Rattle.plan_identities.specs.Identities.{identitiesOf}
-use Rattle.rows.specs.Evaluate as Evaluating
-use Rattle.rows.specs.declared.Row.{Row}
+use Rattle.rows_spec.specs.Evaluate as Evaluating
+use Rattle.rows_spec.specs.declared.Row.{Row}
 use Rattle.apply_spec.specs.Facts as Applying
 use Rattle.apply_spec.specs.Entries.{applyPredicate}
 use Rattle.apply_spec.specs.declared.LogicalFacts.{LogicalFacts}

@@ -6,7 +6,9 @@ use plan::Operator;
 use plan_kinds::Record;
 use scalar::ScalarValue;
 ghost use mathlib.Core.Path.{_≡_};
+ghost use Prim.Native.Nat.{_<_, _≤_};
 ghost use Rattle.plan_data.specs.Codes.{unaryOpCode, unaryOpOf, naryOpCode, naryOpOf, joinTypeCode, joinTypeOf, kindOfJoin, markerOf};
+ghost use Rattle.plan_data.specs.declared.OperatorData.the-variants.{Aggregation, Join};
 ghost use Rattle.plan_data.specs.Nodes.{runOf, exprData, nodeOf, operatorData, countIn, numbersOf, recordOfExpr, recordOfOperator};
 
 pub enum UnaryOp {
@@ -249,7 +251,17 @@ pub fn node_at<'a>(
 pub fn operator_data(x: Record, start: u16) -> OperatorData
     ensures { λ r. ⌜ r ≡ operatorData x start ⌝ }
 {
-    let st = start as usize;
+    if x.kind < 0x37 {
+        return lower_data(x, start as usize);
+    }
+    upper_data(x, start as usize)
+}
+
+// The operators of the kinds below 0x37.
+fn lower_data(x: Record, st: usize) -> OperatorData
+    requires { ⌜ x .kind < 0x37 ⌝ }
+    ensures { λ r. ⌜ r ≡ operatorData x st ⌝ }
+{
     let kind = x.kind;
     match kind {
         0x30 => OperatorData::Scan {
@@ -278,6 +290,19 @@ pub fn operator_data(x: Record, start: u16) -> OperatorData
             input: Operator(x.a),
             computations: run_of(st, x.b),
         },
+        _ => OperatorData::ConstScan {
+            columns: run_of(0, 0),
+        },
+    }
+}
+
+// The operators of the other kinds.
+fn upper_data(x: Record, st: usize) -> OperatorData
+    requires { ⌜ (0x37 ≤ x .kind) × (st < 65536) ⌝ }
+    ensures { λ r. ⌜ r ≡ operatorData x st ⌝ }
+{
+    let kind = x.kind;
+    match kind {
         0x37 => OperatorData::Aggregation {
             input: Operator(x.a),
             keys: run_of(st, x.b),
@@ -297,21 +322,22 @@ pub fn operator_data(x: Record, start: u16) -> OperatorData
             outer: Operator(x.a),
             inner: Operator(x.b),
         },
-        0x3C => OperatorData::Join {
-            join_type: join_type_of(x.code),
-            on: Expr(x.a),
-            outer: Operator(x.b),
-            inner: Operator(x.c),
-        },
-        0x3D => OperatorData::Join {
-            join_type: JoinType::LeftMark(Column(x.d)),
-            on: Expr(x.a),
-            outer: Operator(x.b),
-            inner: Operator(x.c),
-        },
+        0x3C => join_data(x, join_type_of(x.code)),
+        0x3D => join_data(x, JoinType::LeftMark(Column(x.d))),
         _ => OperatorData::ConstScan {
             columns: run_of(0, 0),
         },
+    }
+}
+
+fn join_data(x: Record, join_type: JoinType) -> OperatorData
+    ensures { λ r. ⌜ r ≡ Join «join_type» (record { 0 = x .a }) (record { 0 = x .b }) (record { 0 = x .c }) ⌝ }
+{
+    OperatorData::Join {
+        join_type,
+        on: Expr(x.a),
+        outer: Operator(x.b),
+        inner: Operator(x.c),
     }
 }
 
@@ -372,71 +398,76 @@ fn numbers(kind: u8, code: u8, a: u16, b: u16, c: u16, d: u16) -> Record
     }
 }
 
+// The record of a kind with no code: of two numbers, of a number and a list, of a list alone.
+fn pair_record(kind: u8, a: u16, b: u16) -> Record
+    ensures { λ r. ⌜ r ≡ numbersOf kind 0 a b 0 0 ⌝ }
+{
+    numbers(kind, 0, a, b, 0, 0)
+}
+
+fn listed_record(kind: u8, a: u16, list: Run) -> Record
+    ensures { λ r. ⌜ r ≡ numbersOf kind 0 a (countIn list) 0 0 ⌝ }
+{
+    numbers(kind, 0, a, count_of_run(list), 0, 0)
+}
+
+fn list_record(kind: u8, list: Run) -> Record
+    ensures { λ r. ⌜ r ≡ numbersOf kind 0 (countIn list) 0 0 0 ⌝ }
+{
+    numbers(kind, 0, count_of_run(list), 0, 0, 0)
+}
+
+fn aggregation_record(input: Operator, keys: Run, aggregates: Run) -> Record
+    ensures { λ r. ⌜ r ≡ recordOfOperator (Aggregation input keys aggregates) ⌝ }
+{
+    numbers(
+        0x37,
+        0,
+        input.0,
+        count_of_run(keys),
+        count_of_run(aggregates),
+        0,
+    )
+}
+
+fn join_record(t: JoinType, on: Expr, outer: Operator, inner: Operator) -> Record
+    ensures { λ r. ⌜ r ≡ recordOfOperator (Join t on outer inner) ⌝ }
+{
+    let kind = kind_of_join(t);
+    let code = code_of_join_type(t);
+    numbers(kind, code, on.0, outer.0, inner.0, marker_of(t))
+}
+
 // The record of an operator.
 pub fn operator_record_of(o: OperatorData) -> Record
     ensures { λ r. ⌜ r ≡ recordOfOperator o ⌝ }
 {
     match o {
-        OperatorData::Scan { table, columns } => numbers(
-            0x30,
-            0,
-            table,
-            count_of_run(columns),
-            0,
-            0,
-        ),
-        OperatorData::ConstScan { columns } => numbers(0x31, 0, count_of_run(columns), 0, 0, 0),
-        OperatorData::TableFunction { columns } => numbers(0x32, 0, count_of_run(columns), 0, 0, 0),
-        OperatorData::Selection { predicate, input } => numbers(
-            0x33,
-            0,
-            predicate.0,
-            input.0,
-            0,
-            0,
-        ),
-        OperatorData::Projection { input, columns } => numbers(
-            0x34,
-            0,
-            input.0,
-            count_of_run(columns),
-            0,
-            0,
-        ),
-        OperatorData::Rename { input, defs } => numbers(0x35, 0, input.0, count_of_run(defs), 0, 0),
+        OperatorData::Scan { table, columns } => listed_record(0x30, table, columns),
+        OperatorData::ConstScan { columns } => list_record(0x31, columns),
+        OperatorData::TableFunction { columns } => list_record(0x32, columns),
+        OperatorData::Selection { predicate, input } => pair_record(0x33, predicate.0, input.0),
+        OperatorData::Projection { input, columns } => listed_record(0x34, input.0, columns),
+        OperatorData::Rename { input, defs } => listed_record(0x35, input.0, defs),
         OperatorData::Map {
             input,
             computations,
-        } => numbers(0x36, 0, input.0, count_of_run(computations), 0, 0),
+        } => listed_record(0x36, input.0, computations),
         OperatorData::Aggregation {
             input,
             keys,
             aggregates,
-        } => numbers(
-            0x37,
-            0,
-            input.0,
-            count_of_run(keys),
-            count_of_run(aggregates),
-            0,
-        ),
-        OperatorData::Sort { input, keys } => numbers(0x38, 0, input.0, count_of_run(keys), 0, 0),
-        OperatorData::Limit { input } => numbers(0x39, 0, input.0, 0, 0, 0),
-        OperatorData::Output { input } => numbers(0x3A, 0, input.0, 0, 0, 0),
-        OperatorData::CrossProduct { outer, inner } => numbers(0x3B, 0, outer.0, inner.0, 0, 0),
+        } => aggregation_record(input, keys, aggregates),
+        OperatorData::Sort { input, keys } => listed_record(0x38, input.0, keys),
+        OperatorData::Limit { input } => pair_record(0x39, input.0, 0),
+        OperatorData::Output { input } => pair_record(0x3A, input.0, 0),
+        OperatorData::CrossProduct { outer, inner } => pair_record(0x3B, outer.0, inner.0),
         OperatorData::Join {
             join_type,
             on,
             outer,
             inner,
-        } => numbers(
-            kind_of_join(join_type),
-            code_of_join_type(join_type),
-            on.0,
-            outer.0,
-            inner.0,
-            marker_of(join_type),
-        ),
+        } => join_record(join_type, on, outer, inner),
     }
 }
 

@@ -1,9 +1,9 @@
 -- Numbers that go with an answer. Assumes nothing.
 use Prim.Native.Nat.{ℕ, _+_, _-_}
 use Rattle.plan.specs.declared.Plan.{Plan}
-use Rattle.rows.specs.Compare.{truthOf}
-use Rattle.rows.specs.declared.Evaluation.{Evaluation}
-use Rattle.rows.specs.declared.Evaluation.the-variants as E
+use Rattle.rows_spec.specs.Compare.{truthOf}
+use Rattle.rows_spec.specs.declared.Evaluation.{Evaluation}
+use Rattle.rows_spec.specs.declared.Evaluation.the-variants as E
 use Rattle.simplify_spec.specs.declared.Rewrite.{Rewrite}
 use Rattle.simplify_spec.specs.declared.Rewrite.the-variants as W
 

@@ -4,8 +4,11 @@ use plan::Expr;
 use plan::Plan;
 use plan_data::ExprData;
 use plan_data::NaryOp;
+use plan_data::Run;
 use plan_data::UnaryOp;
 use plan_kinds::Record;
+use rows_spec::Evaluation;
+use rows_spec::Row;
 use scalar::Kind;
 use scalar::ScalarValue;
 ghost use mathlib.Core.Path.{_≡_};
@@ -15,26 +18,11 @@ ghost use lib.ListN.{getD, take, drop};
 ghost use Rattle.lists.specs.Ranges.{allFrom};
 ghost use Rattle.truth.specs.Truth.{every};
 ghost use Rattle.plan_data.specs.Nodes.{nodeOf, operandsOf};
-ghost use Rattle.rows.specs.Compare.{known, compared, compareOf, truthOf, ofTruth};
-ghost use Rattle.rows.specs.Values.{unaryOf, noneOf, joinOf, naryOf, truths, valueIn, values};
-ghost use Rattle.rows.specs.Typing.{kindOfNode, booleanAt, unaryTyped, flagged, wanted, nodeTyped, typedAt};
-ghost use Rattle.rows.specs.Cells.{cellOf, cellOk, cellAtOk, rowOk};
-ghost use Rattle.rows.specs.Evaluate.{valueOn, typed, evaluateOf};
-
-// A value for every column, as the three numbers of a literal's record.
-pub struct Row {
-    pub case: [u8; 64],
-    pub code: [u8; 64],
-    pub bits: [u64; 64],
-}
-
-// What evaluating answers: a value, or why there is none.
-pub enum Evaluation {
-    Value(ScalarValue),
-    NoSuch,
-    Untyped,
-    BadRow,
-}
+ghost use Rattle.rows_spec.specs.Compare.{known, compared, compareOf, truthOf, ofTruth};
+ghost use Rattle.rows_spec.specs.Values.{unaryOf, noneOf, joinOf, naryOf, truths, valueIn, values};
+ghost use Rattle.rows_spec.specs.Typing.{kindOfNode, booleanAt, unaryTyped, flagged, wanted, nodeTyped, typedAt};
+ghost use Rattle.rows_spec.specs.Cells.{cellOf, cellOk, cellAtOk, rowOk};
+ghost use Rattle.rows_spec.specs.Evaluate.{valueOn, typed, evaluateOf};
 
 // TRUE and FALSE of a test.
 fn known(b: bool) -> u8
@@ -150,7 +138,8 @@ fn cell_at<'a>(case: &'a [u8], code: &'a [u8], bits: &'a [u64], c: usize) -> Sca
     )
 }
 
-// The value of the expression h, where it stands below `below`: the node whose operand it is. An operand that does not is NULL.
+// The value of the expression h, where it stands below `below`: the node whose operand it is. An operand that does not is NULL. The arrays of the row
+// are rk, rc and rb.
 fn value_of<'a>(
     kind: &'a [u8],
     code: &'a [u8],
@@ -159,14 +148,14 @@ fn value_of<'a>(
     bits: &'a [u64],
     start: &'a [u16],
     items: &'a [u16],
-    row_case: &'a [u8],
-    row_code: &'a [u8],
-    row_bits: &'a [u64],
+    rk: &'a [u8],
+    rc: &'a [u8],
+    rb: &'a [u64],
     below: usize,
     h: usize,
 ) -> ScalarValue
     ensures { λ r.
-        ⌜ r ≡ valueIn (values (cellOf (now («row_case» .entry)) (now («row_code» .entry)) (now («row_bits» .entry)))
+        ⌜ r ≡ valueIn (values (cellOf (now (rk .entry)) (now (rc .entry)) (now (rb .entry)))
         (nodeOf (now (kind .entry)) (now (code .entry)) (now (a .entry)) (now (b .entry)) (now (bits .entry)) (now (start .entry))) (now (items .entry))
         below) h ⌝ }
 {
@@ -176,78 +165,27 @@ fn value_of<'a>(
     let node = plan_data::node_at(kind, code, a, b, bits, start, h);
     match node {
         ExprData::Literal(v) => v,
-        ExprData::ColumnRef(c) => cell_at(row_case, row_code, row_bits, c.0 as usize),
+        ExprData::ColumnRef(c) => cell_at(rk, rc, rb, c.0 as usize),
         ExprData::Unary { op, expr } => {
-            let v = value_of(
-                kind,
-                code,
-                a,
-                b,
-                bits,
-                start,
-                items,
-                row_case,
-                row_code,
-                row_bits,
-                h,
-                expr.0 as usize,
-            );
+            let e = expr.0 as usize;
+            let v = value_of(kind, code, a, b, bits, start, items, rk, rc, rb, h, e);
             unary(op, v)
         }
         ExprData::Binary { op, left, right } => {
-            let v = value_of(
-                kind,
-                code,
-                a,
-                b,
-                bits,
-                start,
-                items,
-                row_case,
-                row_code,
-                row_bits,
-                h,
-                left.0 as usize,
-            );
-            let w = value_of(
-                kind,
-                code,
-                a,
-                b,
-                bits,
-                start,
-                items,
-                row_case,
-                row_code,
-                row_bits,
-                h,
-                right.0 as usize,
-            );
+            let e = left.0 as usize;
+            let f = right.0 as usize;
+            let v = value_of(kind, code, a, b, bits, start, items, rk, rc, rb, h, e);
+            let w = value_of(kind, code, a, b, bits, start, items, rk, rc, rb, h, f);
             of_truth(compare(op, v, w))
         }
-        ExprData::Nary { op, exprs } => {
-            let t = value_of_run(
-                kind,
-                code,
-                a,
-                b,
-                bits,
-                start,
-                items,
-                row_case,
-                row_code,
-                row_bits,
-                h,
-                op,
-                exprs.start,
-                exprs.count,
-            );
+        ExprData::Nary { op, exprs: r } => {
+            let t = value_of_run(kind, code, a, b, bits, start, items, rk, rc, rb, h, op, r);
             of_truth(t)
         }
     }
 }
 
-// The truth of the n operands from the item `at` on, of a node at `below`. The handle falls at each node, then the number of operands left: a loop, so
+// The truth of a run of operands, of a node at `below`. The handle falls at each node, then the number of operands left: a loop, so
 // that a long run takes no more stack than a short one.
 fn value_of_run<'a>(
     kind: &'a [u8],
@@ -257,42 +195,28 @@ fn value_of_run<'a>(
     bits: &'a [u64],
     start: &'a [u16],
     items: &'a [u16],
-    row_case: &'a [u8],
-    row_code: &'a [u8],
-    row_bits: &'a [u64],
+    rk: &'a [u8],
+    rc: &'a [u8],
+    rb: &'a [u64],
     below: usize,
     op: NaryOp,
-    at: usize,
-    n: usize,
+    r: Run,
 ) -> u8
-    ensures { λ r.
-        ⌜ r ≡ naryOf op
-        (truths (valueIn (values (cellOf (now («row_case» .entry)) (now («row_code» .entry)) (now («row_bits» .entry)))
+    ensures { λ q.
+        ⌜ q ≡ naryOf op
+        (truths (valueIn (values (cellOf (now (rk .entry)) (now (rc .entry)) (now (rb .entry)))
         (nodeOf (now (kind .entry)) (now (code .entry)) (now (a .entry)) (now (b .entry)) (now (bits .entry)) (now (start .entry))) (now (items .entry))
-        below)) (take n (drop at (now (items .entry))))) ⌝ }
+        below)) (operandsOf (now (items .entry)) r)) ⌝ }
 {
     let mut t = none_of(op);
-    let mut j = at;
-    let mut left = n;
+    let mut j = r.start;
+    let mut left = r.count;
     while 0 < left {
         if items.len() <= j {
             return t;
         }
         let e = lists::at16(items, j) as usize;
-        let v = value_of(
-            kind,
-            code,
-            a,
-            b,
-            bits,
-            start,
-            items,
-            row_case,
-            row_code,
-            row_bits,
-            below,
-            e,
-        );
+        let v = value_of(kind, code, a, b, bits, start, items, rk, rc, rb, below, e);
         t = join(op, t, truth_of(v));
         j += 1;
         left -= 1;

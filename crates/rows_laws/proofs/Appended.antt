@@ -23,14 +23,14 @@ use Rattle.plan_data.specs.Nodes.{exprData, nodeAt, operandsOf}
 use Rattle.plan_data.specs.declared.UnaryOp.the-variants.{Not, IsNull, IsNotNull, Negate}
 use Rattle.plan_data.specs.declared.ExprData.{ExprData}
 use Rattle.plan_data.specs.declared.ExprData.the-variants.{Literal, ColumnRef, Unary, Binary, Nary}
-use Rattle.rows.specs.InOrder.{inOrder}
-use Rattle.rows.specs.Compare.{ofTruth}
-use Rattle.rows.specs.Values.{naryOf, truths, nodeValue, valueIn, valueNext, values, valueAt}
-use Rattle.rows.specs.Typing.{kindOfNode, booleanAt, wanted, nodeTyped, flagged, typingNext, typings, typedAt}
-use Rattle.rows.specs.Cells.{cellAt}
-use Rattle.rows.specs.Evaluate.{valueOn, typed}
-use Rattle.rows.specs.declared.Row.{Row}
-use Rattle.rows.proofs.TypingLaws.{typing-past}
+use Rattle.rows_spec.specs.InOrder.{inOrder}
+use Rattle.rows_spec.specs.Compare.{ofTruth}
+use Rattle.rows_spec.specs.Values.{naryOf, truths, nodeValue, valueIn, valueNext, values, valueAt}
+use Rattle.rows_spec.specs.Typing.{kindOfNode, booleanAt, wanted, nodeTyped, flagged, typingNext, typings, typedAt}
+use Rattle.rows_spec.specs.Cells.{cellAt}
+use Rattle.rows_spec.specs.Evaluate.{valueOn, typed}
+use Rattle.rows_spec.specs.declared.Row.{Row}
+use Rattle.rows_spec.proofs.TypingLaws.{typing-past}
 use Rattle.rows_laws.specs.References.{nodeRefers, refersNext, references, refersTo, exprRefersTo}
 use Rattle.rows_laws.proofs.NodeRules.{NodeOk, node-ok}
 

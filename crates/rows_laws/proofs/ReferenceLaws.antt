@@ -14,14 +14,14 @@ use Rattle.plan_data.specs.Nodes.{nodeAt, operandsOf}
 use Rattle.plan_data.specs.declared.Run.{Run}
 use Rattle.plan_data.specs.declared.ExprData.{ExprData}
 use Rattle.plan_data.specs.declared.ExprData.the-variants.{Literal, ColumnRef, Unary, Binary, Nary}
-use Rattle.rows.specs.Compare.{compareOf, truthOf, ofTruth}
-use Rattle.rows.specs.Values.{unaryOf, naryOf, truths, nodeValue, valueIn, values, valueAt}
-use Rattle.rows.specs.Typing.{flagged}
-use Rattle.rows.specs.Cells.{cellAt}
-use Rattle.rows.specs.Evaluate.{valueOn}
-use Rattle.rows.specs.declared.Row.{Row}
-use Rattle.rows.proofs.InOrderLaws.{in-order-at}
-use Rattle.rows.proofs.ValueLaws.{value-step, value-past, value-in}
+use Rattle.rows_spec.specs.Compare.{compareOf, truthOf, ofTruth}
+use Rattle.rows_spec.specs.Values.{unaryOf, naryOf, truths, nodeValue, valueIn, values, valueAt}
+use Rattle.rows_spec.specs.Typing.{flagged}
+use Rattle.rows_spec.specs.Cells.{cellAt}
+use Rattle.rows_spec.specs.Evaluate.{valueOn}
+use Rattle.rows_spec.specs.declared.Row.{Row}
+use Rattle.rows_spec.proofs.InOrderLaws.{in-order-at}
+use Rattle.rows_spec.proofs.ValueLaws.{value-step, value-past, value-in}
 use Rattle.rows_laws.specs.References.{nodeRefers, refersNext, references, refersTo, exprRefersTo}
 
 or-left : (a b : Bool) → a ≡ true → (a || b) ≡ true

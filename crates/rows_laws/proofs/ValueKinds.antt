@@ -24,14 +24,14 @@ use Rattle.plan_data.specs.declared.Run.{Run}
 use Rattle.plan_data.specs.declared.UnaryOp.the-variants.{Not, IsNull, IsNotNull, Negate}
 use Rattle.plan_data.specs.declared.ExprData.{ExprData}
 use Rattle.plan_data.specs.declared.ExprData.the-variants.{Literal, ColumnRef, Unary, Binary, Nary}
-use Rattle.rows.specs.Compare.{compareOf, truthOf, ofTruth}
-use Rattle.rows.specs.Values.{naryOf, truths, nodeValue, valueIn, values}
-use Rattle.rows.specs.Typing.{kindOfNode, kindAt, booleanAt, typedAt}
-use Rattle.rows.specs.Cells.{cellAt, listedLiteral, fitsKind, cellOk, cellAtOk, rowOk}
-use Rattle.rows.specs.Evaluate.{valueOn, typed, evaluateOf}
-use Rattle.rows.specs.declared.Row.{Row}
-use Rattle.rows.specs.declared.Evaluation.the-variants.{Value, NoSuch, Untyped, BadRow}
-use Rattle.rows.proofs.ValueLaws.{value-step}
+use Rattle.rows_spec.specs.Compare.{compareOf, truthOf, ofTruth}
+use Rattle.rows_spec.specs.Values.{naryOf, truths, nodeValue, valueIn, values}
+use Rattle.rows_spec.specs.Typing.{kindOfNode, kindAt, booleanAt, typedAt}
+use Rattle.rows_spec.specs.Cells.{cellAt, listedLiteral, fitsKind, cellOk, cellAtOk, rowOk}
+use Rattle.rows_spec.specs.Evaluate.{valueOn, typed, evaluateOf}
+use Rattle.rows_spec.specs.declared.Row.{Row}
+use Rattle.rows_spec.specs.declared.Evaluation.the-variants.{Value, NoSuch, Untyped, BadRow}
+use Rattle.rows_spec.proofs.ValueLaws.{value-step}
 use Rattle.rows_laws.proofs.NodeRules.{NodeOk, node-ok}
 
 -- a value is NULL or of the kind k

@@ -9,8 +9,8 @@ use Rattle.plan_data.specs.Nodes.{nodeAt, operandsOf}
 use Rattle.plan_data.specs.declared.Run.{Run}
 use Rattle.plan_data.specs.declared.ExprData.{ExprData}
 use Rattle.plan_data.specs.declared.ExprData.the-variants.{Literal, ColumnRef, Unary, Binary, Nary}
-use Rattle.rows.specs.InOrder.{inOrder}
-use Rattle.rows.specs.Typing.{flagged}
+use Rattle.rows_spec.specs.InOrder.{inOrder}
+use Rattle.rows_spec.specs.Typing.{flagged}
 
 -- a node refers to column c where it is a reference to c, or an operand refers to it
 abbrev pub nodeRefers : ℕ → (ℕ → Bool) → (Run → List ℕ) → ExprData → Bool

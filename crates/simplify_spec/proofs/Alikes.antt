@@ -13,9 +13,9 @@ use Rattle.scalar.specs.Kinds.{kindOf, isNull, sameKind}
 use Rattle.scalar.specs.declared.Kind.the-variants as K
 use Rattle.scalar.specs.declared.ScalarValue.{ScalarValue}
 use Rattle.scalar.specs.declared.ScalarValue.the-variants as S
-use Rattle.rows.specs.Compare.{known, compareOf, compared, truthOf, ofTruth}
-use Rattle.rows.specs.Values.{truths}
-use Rattle.rows.specs.Values as values
+use Rattle.rows_spec.specs.Compare.{known, compareOf, compared, truthOf, ofTruth}
+use Rattle.rows_spec.specs.Values.{truths}
+use Rattle.rows_spec.specs.Values as values
 use Rattle.rows_laws.proofs.ValueKinds.{ofKind}
 use Rattle.simplify_spec.specs.Shapes.{naryOpFor}
 use Rattle.simplify_spec.specs.Meaning.{bare, Alike}

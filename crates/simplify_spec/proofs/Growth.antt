@@ -19,14 +19,14 @@ use Rattle.plan_data.specs.declared.UnaryOp.{UnaryOp}
 use Rattle.plan_data.specs.declared.UnaryOp.the-variants as U
 use Rattle.plan_data.specs.declared.ExprData.{ExprData}
 use Rattle.plan_data.specs.declared.ExprData.the-variants.{Literal, Unary, Binary, Nary}
-use Rattle.rows.specs.Cells.{cellAt}
-use Rattle.rows.specs.Values.{truths, nodeValue}
-use Rattle.rows.specs.Values as values
-use Rattle.rows.specs.Compare.{compareOf, truthOf, ofTruth}
+use Rattle.rows_spec.specs.Cells.{cellAt}
+use Rattle.rows_spec.specs.Values.{truths, nodeValue}
+use Rattle.rows_spec.specs.Values as values
+use Rattle.rows_spec.specs.Compare.{compareOf, truthOf, ofTruth}
 use Rattle.truth.specs.Truth.{notT}
 use Rattle.simplify_spec.proofs.Alikes.{truthAll}
-use Rattle.rows.specs.declared.Row.{Row}
-use Rattle.rows.proofs.ValueLaws.{value-step, value-in}
+use Rattle.rows_spec.specs.declared.Row.{Row}
+use Rattle.rows_spec.proofs.ValueLaws.{value-step, value-in}
 use Rattle.rows_laws.proofs.NodeRules.{NodeOk, node-ok}
 use Rattle.rows_laws.proofs.Appended.{node-kept, value-kept}
 use Rattle.simplify_spec.specs.Shapes.{naryOpFor}

@@ -29,10 +29,10 @@ use Rattle.plan_data.specs.declared.UnaryOp.the-variants as U
 use Rattle.plan_data.specs.declared.ExprData.{ExprData}
 use Rattle.plan_data.specs.declared.ExprData.the-variants.{Literal, ColumnRef, Unary, Binary, Nary}
 use Rattle.plan_data.proofs.NodeLaws.{ExprAt}
-use Rattle.rows.specs.Compare.{known, truthOf, ofTruth}
-use Rattle.rows.specs.Typing.{kindOfNode, booleanAt, wanted, nodeTyped}
-use Rattle.rows.specs.Cells.{rowOk}
-use Rattle.rows.specs.declared.Row.{Row}
+use Rattle.rows_spec.specs.Compare.{known, truthOf, ofTruth}
+use Rattle.rows_spec.specs.Typing.{kindOfNode, booleanAt, wanted, nodeTyped}
+use Rattle.rows_spec.specs.Cells.{rowOk}
+use Rattle.rows_spec.specs.declared.Row.{Row}
 use Rattle.rows_laws.proofs.NodeRules.{NodeOk, node-ok}
 use Rattle.rows_laws.proofs.ValueKinds.{ofKind, value-kind}
 use Rattle.simplify_spec.specs.Shapes.{shapeOf}

@@ -16,9 +16,9 @@ use Rattle.plan_data.specs.Nodes.{runOf, recordOfExpr, operandsOf}
 use Rattle.plan_data.specs.declared.UnaryOp.the-variants as U
 use Rattle.plan_data.specs.declared.ExprData.{ExprData}
 use Rattle.plan_data.specs.declared.ExprData.the-variants.{Unary, Binary, Nary}
-use Rattle.rows.specs.Compare.{truthOf, ofTruth}
-use Rattle.rows.specs.Typing.{kindOfNode, booleanAt, nodeTyped}
-use Rattle.rows.specs.declared.Row.{Row}
+use Rattle.rows_spec.specs.Compare.{truthOf, ofTruth}
+use Rattle.rows_spec.specs.Typing.{kindOfNode, booleanAt, nodeTyped}
+use Rattle.rows_spec.specs.declared.Row.{Row}
 use Rattle.simplify_spec.specs.Shapes.{shapeOf, naryOpFor}
 use Rattle.simplify_spec.specs.OneExpression.{nodeIn, shapeIn, handle, kept, failed, took, addRecord, addLiteral, addNary, notStep, notOf}
 use Rattle.simplify_spec.specs.OneExpression.{compareOf, enterOf, Operands, operandsFrom, itemsPut, counted, withItems, roomFor, rebuilt}

@@ -15,10 +15,10 @@ use Rattle.plan.specs.declared.Plan.{Plan}
 use Rattle.plan.specs.declared.Expr.{Expr}
 use Rattle.plan_rules.proofs.AppendRules.{counts-within}
 use Rattle.plan_data.specs.declared.UnaryOp.the-variants as U
-use Rattle.rows.specs.Compare.{known, truthOf}
-use Rattle.rows.specs.Typing.{booleanAt, wanted}
-use Rattle.rows.specs.Cells.{rowOk}
-use Rattle.rows.specs.declared.Row.{Row}
+use Rattle.rows_spec.specs.Compare.{known, truthOf}
+use Rattle.rows_spec.specs.Typing.{booleanAt, wanted}
+use Rattle.rows_spec.specs.Cells.{rowOk}
+use Rattle.rows_spec.specs.declared.Row.{Row}
 use Rattle.simplify_spec.specs.Shapes.{isLiteral}
 use Rattle.simplify_spec.specs.OneExpression.{nodeIn, shapeIn, kept, enterOf, Operands, noOperands, joinedBy, joined, operandsFrom, simplifyAt}
 use Rattle.simplify_spec.specs.OneOperator.{planWith}

@@ -20,11 +20,11 @@ use Rattle.plan_data.specs.declared.JoinType.{JoinType}
 use Rattle.plan_data.specs.declared.OperatorData.{OperatorData}
 use Rattle.plan_data.specs.declared.OperatorData.the-variants.{Selection, Join}
 use Rattle.plan_data.proofs.NodeLaws.{operator-back}
-use Rattle.rows.specs.Compare.{truthOf}
-use Rattle.rows.specs.Typing.{booleanAt}
-use Rattle.rows.specs.Cells.{rowOk}
-use Rattle.rows.specs.Evaluate.{valueOn, typed}
-use Rattle.rows.specs.declared.Row.{Row}
+use Rattle.rows_spec.specs.Compare.{truthOf}
+use Rattle.rows_spec.specs.Typing.{booleanAt}
+use Rattle.rows_spec.specs.Cells.{rowOk}
+use Rattle.rows_spec.specs.Evaluate.{valueOn, typed}
+use Rattle.rows_spec.specs.declared.Row.{Row}
 use Rattle.simplify_spec.specs.Shapes.{isLiteral}
 use Rattle.simplify_spec.specs.OneExpression.{shapeIn, handle, withItems, simplifyAt}
 use Rattle.simplify_spec.specs.OneOperator.{operatorAt, heldOf, heldCount, heldAt, eachTo, itemFirst, itemSecond, writeAll, withList}

@@ -23,13 +23,13 @@ use Rattle.plan_data.specs.Nodes.{nodeAt, operandsOf}
 use Rattle.plan_data.specs.declared.UnaryOp.the-variants as U
 use Rattle.plan_data.specs.declared.ExprData.{ExprData}
 use Rattle.plan_data.specs.declared.ExprData.the-variants.{Literal, ColumnRef, Unary, Binary, Nary}
-use Rattle.rows.specs.Compare.{truthOf}
-use Rattle.rows.specs.Typing.{booleanAt, wanted, nodeTyped, flagged, typings, typedAt}
-use Rattle.rows.specs.Cells.{rowOk}
-use Rattle.rows.specs.Evaluate.{valueOn, typed, evaluateOf}
-use Rattle.rows.specs.declared.Row.{Row}
-use Rattle.rows.specs.declared.Evaluation.the-variants.{Value}
-use Rattle.rows.proofs.TypingLaws.{typing-step, typing-in}
+use Rattle.rows_spec.specs.Compare.{truthOf}
+use Rattle.rows_spec.specs.Typing.{booleanAt, wanted, nodeTyped, flagged, typings, typedAt}
+use Rattle.rows_spec.specs.Cells.{rowOk}
+use Rattle.rows_spec.specs.Evaluate.{valueOn, typed, evaluateOf}
+use Rattle.rows_spec.specs.declared.Row.{Row}
+use Rattle.rows_spec.specs.declared.Evaluation.the-variants.{Value}
+use Rattle.rows_spec.proofs.TypingLaws.{typing-step, typing-in}
 use Rattle.rows_laws.proofs.NodeRules.{NodeOk, node-ok}
 use Rattle.rows_laws.proofs.ValueKinds.{Evaluated, evaluated}
 use Rattle.simplify_spec.specs.OneExpression.{nodeIn, stOf, handle, kept, simplifyAt}

@@ -11,9 +11,9 @@ use Rattle.plan.specs.declared.Plan.{Plan}
 use Rattle.plan.specs.Extends.{Extends, Sized}
 use Rattle.plan_rules.proofs.RuleLaws.{Rules}
 use Rattle.plan_data.specs.Nodes.{operandsOf}
-use Rattle.rows.specs.Typing.{kindAt, booleanAt, nodeTyped}
-use Rattle.rows.specs.Evaluate.{valueOn}
-use Rattle.rows.specs.declared.Row.{Row}
+use Rattle.rows_spec.specs.Typing.{kindAt, booleanAt, nodeTyped}
+use Rattle.rows_spec.specs.Evaluate.{valueOn}
+use Rattle.rows_spec.specs.declared.Row.{Row}
 use Rattle.simplify_spec.specs.OneExpression.{nodeIn, kept, simplifyAt}
 use Rattle.simplify_spec.specs.OneOperator.{planWith}
 use Rattle.simplify_spec.specs.declared.Tables.{Tables}

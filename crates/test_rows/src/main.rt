@@ -5,8 +5,8 @@
 use plan::Expr;
 use plan::Plan;
 use plan_kinds::Record;
-use rows::Evaluation;
-use rows::Row;
+use rows_spec::Evaluation;
+use rows_spec::Row;
 ghost use Prim.Native.Nat.{_<_};
 
 const STEPS: u32 = 4000000;

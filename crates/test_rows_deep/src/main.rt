@@ -3,8 +3,8 @@
 use plan::Expr;
 use plan::Plan;
 use plan_kinds::Record;
-use rows::Evaluation;
-use rows::Row;
+use rows_spec::Evaluation;
+use rows_spec::Row;
 
 fn record(kind: u8, code: u8, a: u16) -> Record {
     Record {

@@ -1,7 +1,7 @@
 use Rattle.writing.proofs.Wrotes.{wrote-as}
 use Rattle.boundary.specs.Replies.{evaluateReply, rowIn}
 use Rattle.boundary.proofs.ReplyLaws.{plan-refused, plan-read}
-use Rattle.rows.specs.declared.Row.{Row}
+use Rattle.rows_spec.specs.declared.Row.{Row}
 use mathlib.Core.Path.{ap}
 use borrow.Author.Needs.{needs}
 use Rattle.boundary.proofs.mossladder_evaluate.Statement.{statement}

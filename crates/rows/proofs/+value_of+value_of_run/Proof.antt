@@ -1,12 +1,13 @@
+-- `rows::value_of` and `rows::value_of_run` meet their contracts: handles fall from a node to its operands. Assumes nothing.
 use borrow.Author.Needs.{needs}
 use Prim.Native.Nat.{_+_, _*_}
 use denote.Ref.{now}
 use mathlib.Core.Path.{refl, sym, ap, ap₂, _∙_}
 use Rattle.plan_data.specs.Nodes.{nodeOf}
-use Rattle.rows.specs.Compare.{compareOf, ofTruth}
-use Rattle.rows.specs.Cells.{cellOf}
-use Rattle.rows.specs.Values.{unaryOf, valueIn, values}
-use Rattle.rows.proofs.ValueLaws.{value-past, node-way, Joined, joined-first, joined-done, joined-past, joined-more}
+use Rattle.rows_spec.specs.Compare.{compareOf, ofTruth}
+use Rattle.rows_spec.specs.Cells.{cellOf}
+use Rattle.rows_spec.specs.Values.{unaryOf, valueIn, values}
+use Rattle.rows_spec.proofs.ValueLaws.{value-past, node-way, Joined, joined-first, joined-done, joined-past, joined-more}
 use Prim.Native.Nat.{ℕ, _<_}
 use borrow.Fn.Kinds.{In}
 use borrow.Fn.PlainCycle.{Measures, is, falls, and}
@@ -88,7 +89,8 @@ value-of-run-calls t = (
 value-of-returns : (t : ℕ) → value-of-lts.Need-returns (value-of-calls t) (value-of-at t) value-of.Post
 value-of-returns t c =
     let start = c .before .before .before .before .before .before .before .before .before .before .before in
-    let a = start .args in sym (value-past (cellOf (now (a .row-case)) (now (a .row-code)) (now (a .row-bits)))
+    let a = start .args in
+    sym (value-past (cellOf (now (a .rk)) (now (a .rc)) (now (a .rb)))
     (nodeOf (now (a .kind)) (now (a .code)) (now (a .a)) (now (a .b)) (now (a .bits)) (now (a .start))) (now (a .items)) (a .below) (a .h) (c .if1 .taken))
 
 value-of-node-at-requires : (t : ℕ) → value-of-lts.Need-node-at-requires (value-of-calls t) (value-of-at t) value-of.Post
@@ -109,8 +111,8 @@ value-of-cell-at-requires t c κs = search needs
 value-of-enum-known-node-3 : (t : ℕ) → value-of-lts.Need-enum-known-node-3 (value-of-calls t) (value-of-at t) value-of.Post
 value-of-enum-known-node-3 t c = search needs
 
-value-of-cast-value-of : (t : ℕ) → value-of-lts.Need-cast-value-of (value-of-calls t) (value-of-at t) value-of.Post
-value-of-cast-value-of t c = search needs
+value-of-cast-e : (t : ℕ) → value-of-lts.Need-cast-e (value-of-calls t) (value-of-at t) value-of.Post
+value-of-cast-e t c = search needs
 
 value-of-value-of-requires : (t : ℕ) → value-of-lts.Need-value-of-requires (value-of-calls t) (value-of-at t) value-of.Post
 value-of-value-of-requires t c κs = search needs
@@ -121,14 +123,14 @@ value-of-unary-requires t c κs = search needs
 value-of-enum-known-node-4 : (t : ℕ) → value-of-lts.Need-enum-known-node-4 (value-of-calls t) (value-of-at t) value-of.Post
 value-of-enum-known-node-4 t c = search needs
 
-value-of-cast-value-of-2 : (t : ℕ) → value-of-lts.Need-cast-value-of-2 (value-of-calls t) (value-of-at t) value-of.Post
-value-of-cast-value-of-2 t c = search needs
+value-of-cast-e-2 : (t : ℕ) → value-of-lts.Need-cast-e-2 (value-of-calls t) (value-of-at t) value-of.Post
+value-of-cast-e-2 t c = search needs
 
 value-of-value-of-requires-2 : (t : ℕ) → value-of-lts.Need-value-of-requires-2 (value-of-calls t) (value-of-at t) value-of.Post
 value-of-value-of-requires-2 t c κs = search needs
 
-value-of-cast-value-of-3 : (t : ℕ) → value-of-lts.Need-cast-value-of-3 (value-of-calls t) (value-of-at t) value-of.Post
-value-of-cast-value-of-3 t c = search needs
+value-of-cast-f : (t : ℕ) → value-of-lts.Need-cast-f (value-of-calls t) (value-of-at t) value-of.Post
+value-of-cast-f t c = search needs
 
 value-of-value-of-requires-3 : (t : ℕ) → value-of-lts.Need-value-of-requires-3 (value-of-calls t) (value-of-at t) value-of.Post
 value-of-value-of-requires-3 t c κs = search needs
@@ -153,7 +155,8 @@ value-of-returns-2 t c =
     let at-node-at = c .before .before .before in
     let at-if1 = at-node-at .before in
     let start = at-if1 .before .before .before .before .before .before .before .before .before .before .before in
-    let a = start .args in node-way (cellOf (now (a .row-case)) (now (a .row-code)) (now (a .row-bits)))
+    let a = start .args in
+    node-way (cellOf (now (a .rk)) (now (a .rc)) (now (a .rb)))
     (nodeOf (now (a .kind)) (now (a .code)) (now (a .a)) (now (a .b)) (now (a .bits)) (now (a .start))) (now (a .items)) (a .below) (a .h)
     (at-if1 .if1 .left) _ _ _ (at-node-at .node-at .ensures) (c .before .node .given .1) refl
 
@@ -163,7 +166,8 @@ value-of-returns-3 t c =
     let at-node-at = at-node2 .before .before in
     let at-if1 = at-node-at .before in
     let start = at-if1 .before .before .before .before .before .before .before .before .before .before .before in
-    let a = start .args in node-way (cellOf (now (a .row-case)) (now (a .row-code)) (now (a .row-bits)))
+    let a = start .args in
+    node-way (cellOf (now (a .rk)) (now (a .rc)) (now (a .rb)))
     (nodeOf (now (a .kind)) (now (a .code)) (now (a .a)) (now (a .b)) (now (a .bits)) (now (a .start))) (now (a .items)) (a .below) (a .h)
     (at-if1 .if1 .left) _ _ _ (at-node-at .node-at .ensures) (at-node2 .node2 .given .1) (c .cell-at .ensures)
 
@@ -173,19 +177,21 @@ value-of-returns-4 t c =
     let at-node-at = at-node3 .before .before in
     let at-if1 = at-node-at .before in
     let start = at-if1 .before .before .before .before .before .before .before .before .before .before .before in
-    let a = start .args in node-way (cellOf (now (a .row-case)) (now (a .row-code)) (now (a .row-bits)))
+    let a = start .args in
+    node-way (cellOf (now (a .rk)) (now (a .rc)) (now (a .rb)))
     (nodeOf (now (a .kind)) (now (a .code)) (now (a .a)) (now (a .b)) (now (a .bits)) (now (a .start))) (now (a .items)) (a .below) (a .h)
     (at-if1 .if1 .left) _ _ _ (at-node-at .node-at .ensures) (at-node3 .node3 .given .1)
     (c .unary .ensures ∙ ap (unaryOf (at-node3 .node3 .given .0 .0)) (c .before .value-of .ensures))
 
 value-of-returns-5 : (t : ℕ) → value-of-lts.Need-returns-5 (value-of-calls t) (value-of-at t) value-of.Post
 value-of-returns-5 t c =
-    let at-value-of2 = c .before .before .before .before in
-    let at-node4 = at-value-of2 .before .before .before in
+    let at-value-of2 = c .before .before .before in
+    let at-node4 = at-value-of2 .before .before .before .before in
     let at-node-at = at-node4 .before .before in
     let at-if1 = at-node-at .before in
     let start = at-if1 .before .before .before .before .before .before .before .before .before .before .before in
-    let a = start .args in node-way (cellOf (now (a .row-case)) (now (a .row-code)) (now (a .row-bits)))
+    let a = start .args in
+    node-way (cellOf (now (a .rk)) (now (a .rc)) (now (a .rb)))
     (nodeOf (now (a .kind)) (now (a .code)) (now (a .a)) (now (a .b)) (now (a .bits)) (now (a .start))) (now (a .items)) (a .below) (a .h)
     (at-if1 .if1 .left) _ _ _ (at-node-at .node-at .ensures) (at-node4 .node4 .given .1)
     (c .of-truth .ensures ∙ ap ofTruth (c .before .compare .ensures ∙ ap₂ (compareOf (at-node4 .node4 .given .0 .0)) (at-value-of2 .value-of2 .ensures)
@@ -197,17 +203,18 @@ value-of-returns-6 t c =
     let at-node-at = at-node5 .before .before in
     let at-if1 = at-node-at .before in
     let start = at-if1 .before .before .before .before .before .before .before .before .before .before .before in
-    let a = start .args in node-way (cellOf (now (a .row-case)) (now (a .row-code)) (now (a .row-bits)))
+    let a = start .args in
+    node-way (cellOf (now (a .rk)) (now (a .rc)) (now (a .rb)))
     (nodeOf (now (a .kind)) (now (a .code)) (now (a .a)) (now (a .b)) (now (a .bits)) (now (a .start))) (now (a .items)) (a .below) (a .h)
     (at-if1 .if1 .left) _ _ _ (at-node-at .node-at .ensures) (at-node5 .node5 .given .1)
     (c .of-truth2 .ensures ∙ ap ofTruth (c .before .value-of-run .ensures))
 
 abbrev value-of-run-Inv-loop : value-of-run-lts.InvT-loop
-value-of-run-Inv-loop kind code a b bits start items row-case row-code row-bits below op at n t₀ j₀ left₀ t j left =
-    Joined (valueIn (values (cellOf row-case row-code row-bits) (nodeOf kind code a b bits start) items below)) items op at n t j left
+value-of-run-Inv-loop kind code a b bits start items rk rc rb below op t₀ j₀ left₀ t j left =
+    Joined (valueIn (values (cellOf rk rc rb) (nodeOf kind code a b bits start) items below)) items op j₀ left₀ t j left
 
 abbrev value-of-run-μ-loop : value-of-run-lts.MeasureT-loop
-value-of-run-μ-loop kind code a b bits start items row-case row-code row-bits below op at n t₀ j₀ left₀ t j left = left
+value-of-run-μ-loop kind code a b bits start items rk rc rb below op t₀ j₀ left₀ t j left = left
 
 value-of-run-none-of-requires : (t : ℕ) → value-of-run-lts.Need-none-of-requires (value-of-run-calls t) (value-of-run-at t) value-of-run.Post
     value-of-run-Inv-loop value-of-run-μ-loop
@@ -217,20 +224,22 @@ value-of-run-loop-holds : (t : ℕ) → value-of-run-lts.Need-loop-holds (value-
     value-of-run-μ-loop
 value-of-run-loop-holds t c =
     let start = c .before .before .before .before .before .before .before .before .before .before .before in
-    let a = start .args in joined-first
-    (valueIn (values (cellOf (now (a .row-case)) (now (a .row-code)) (now (a .row-bits)))
+    let a = start .args in
+    joined-first
+    (valueIn (values (cellOf (now (a .rk)) (now (a .rc)) (now (a .rb)))
     (nodeOf (now (a .kind)) (now (a .code)) (now (a .a)) (now (a .b)) (now (a .bits)) (now (a .start))) (now (a .items)) (a .below))) (now (a .items))
-    (a .op) (a .at) (a .n) (c .none-of .result) (c .none-of .ensures)
+    (a .op) (a .r .start) (a .r .count) (c .none-of .result) (c .none-of .ensures)
 
 value-of-run-returns : (t : ℕ) → value-of-run-lts.Need-returns (value-of-run-calls t) (value-of-run-at t) value-of-run.Post value-of-run-Inv-loop
     value-of-run-μ-loop
 value-of-run-returns t c =
-    let at-loop = c .before .before in
-    let start = at-loop .before .before .before .before .before .before .before .before .before .before .before .before in
-    let a = start .args in joined-past
-    (valueIn (values (cellOf (now (a .row-case)) (now (a .row-code)) (now (a .row-bits)))
+    let start = c .before .before .before .before .before .before .before .before .before .before .before .before .before .before in
+    let a = start .args in
+    joined-past
+    (valueIn (values (cellOf (now (a .rk)) (now (a .rc)) (now (a .rb)))
     (nodeOf (now (a .kind)) (now (a .code)) (now (a .a)) (now (a .b)) (now (a .bits)) (now (a .start))) (now (a .items)) (a .below))) (now (a .items))
-    (a .op) (a .at) (a .n) (at-loop .loop .t) (at-loop .loop .j) (at-loop .loop .left) (at-loop .loop .inv) (c .if1 .taken)
+    (a .op) (a .r .start) (a .r .count) (c .before .before .loop .t) (c .before .before .loop .j) (c .before .before .loop .left)
+    (c .before .before .loop .inv) (c .if1 .taken)
 
 value-of-run-at16-requires : (t : ℕ) → value-of-run-lts.Need-at16-requires (value-of-run-calls t) (value-of-run-at t) value-of-run.Post value-of-run-Inv-loop
     value-of-run-μ-loop
@@ -272,20 +281,22 @@ value-of-run-loop-again t c =
     let at-loop-test = at-if1 .before in
     let at-loop = at-loop-test .before in
     let start = at-loop .before .before .before .before .before .before .before .before .before .before .before .before in
-    let a = start .args in joined-more
-    (valueIn (values (cellOf (now (a .row-case)) (now (a .row-code)) (now (a .row-bits)))
+    let a = start .args in
+    joined-more
+    (valueIn (values (cellOf (now (a .rk)) (now (a .rc)) (now (a .rb)))
     (nodeOf (now (a .kind)) (now (a .code)) (now (a .a)) (now (a .b)) (now (a .bits)) (now (a .start))) (now (a .items)) (a .below))) (now (a .items))
-    (a .op) (a .at) (a .n) (at-loop .loop .t) (at-loop .loop .j) (at-loop .loop .left) (at-loop .loop .inv) (at-loop-test .loop-test .taken)
+    (a .op) (a .r .start) (a .r .count) (at-loop .loop .t) (at-loop .loop .j) (at-loop .loop .left) (at-loop .loop .inv) (at-loop-test .loop-test .taken)
     (at-if1 .if1 .left) _ _ _ _ (at-at16 .at16 .ensures) (c .before .before .value-of .ensures) (c .before .truth-of .ensures) (c .join .ensures)
 
 value-of-run-returns-2 : (t : ℕ) → value-of-run-lts.Need-returns-2 (value-of-run-calls t) (value-of-run-at t) value-of-run.Post value-of-run-Inv-loop
     value-of-run-μ-loop
 value-of-run-returns-2 t c =
     let start = c .before .before .before .before .before .before .before .before .before .before .before .before .before in
-    let a = start .args in joined-done
-    (valueIn (values (cellOf (now (a .row-case)) (now (a .row-code)) (now (a .row-bits)))
+    let a = start .args in
+    joined-done
+    (valueIn (values (cellOf (now (a .rk)) (now (a .rc)) (now (a .rb)))
     (nodeOf (now (a .kind)) (now (a .code)) (now (a .a)) (now (a .b)) (now (a .bits)) (now (a .start))) (now (a .items)) (a .below))) (now (a .items))
-    (a .op) (a .at) (a .n) (c .before .loop .t) (c .before .loop .j) (c .before .loop .left) (c .before .loop .inv) (c .loop-test .left)
+    (a .op) (a .r .start) (a .r .count) (c .before .loop .t) (c .before .loop .j) (c .before .loop .left) (c .before .loop .inv) (c .loop-test .left)
 
 pub +value-of+value-of-run-spec : {M : Type 1} → statement M
 +value-of+value-of-run-spec = close μ-value-of μ-value-of-run (λ t. value-of-lts.spec (value-of-calls t)
@@ -298,13 +309,13 @@ pub +value-of+value-of-run-spec : {M : Type 1} → statement M
     (value-of-cast-cell-at t)
     (value-of-cell-at-requires t)
     (value-of-enum-known-node-3 t)
-    (value-of-cast-value-of t)
+    (value-of-cast-e t)
     (value-of-value-of-requires t)
     (value-of-unary-requires t)
     (value-of-enum-known-node-4 t)
-    (value-of-cast-value-of-2 t)
+    (value-of-cast-e-2 t)
+    (value-of-cast-f t)
     (value-of-value-of-requires-2 t)
-    (value-of-cast-value-of-3 t)
     (value-of-value-of-requires-3 t)
     (value-of-compare-requires t)
     (value-of-of-truth-requires t)

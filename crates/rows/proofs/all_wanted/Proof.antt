@@ -1,8 +1,8 @@
 use borrow.Author.Needs.{needs}
-use Rattle.rows.specs.Typing.{flagged, booleanAt, wanted}
+use Rattle.rows_spec.specs.Typing.{flagged, booleanAt, wanted}
 use Rattle.plan_data.specs.Nodes.{nodeOf}
 use Rattle.truth.specs.Truth.{every}
-use Rattle.rows.proofs.PartLaws.{every-done, every-past, every-fails, every-passes}
+use Rattle.rows_spec.proofs.PartLaws.{every-done, every-past, every-fails, every-passes}
 use denote.Ref.{now}
 use borrow.Author.Tests.{not-true, not-false}
 use Prim.Native.Nat.{ℕ}

@@ -1,4 +1,4 @@
-use Rattle.rows.specs.Cells.{cellOk, listedLiteral}
+use Rattle.rows_spec.specs.Cells.{cellOk, listedLiteral}
 use borrow.Author.Needs.{needs}
 use Rattle.rows.proofs.cell_ok.Statement.{statement}
 use Rattle.rows.proofs.cell_ok.Tie as tie

@@ -1,5 +1,5 @@
 use borrow.Author.Needs.{needs}
-use Rattle.rows.specs.Cells.{cellAtOk}
+use Rattle.rows_spec.specs.Cells.{cellAtOk}
 use Rattle.lists.proofs.RangeLaws.{all-done, all-fails, all-passes}
 use Rattle.lists.specs.Ranges.{allFrom}
 use denote.Ref.{now}

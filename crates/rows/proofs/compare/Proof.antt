@@ -1,4 +1,4 @@
-use Rattle.rows.specs.Compare.{compareOf}
+use Rattle.rows_spec.specs.Compare.{compareOf}
 use borrow.Author.Needs.{needs}
 use Rattle.rows.proofs.compare.Statement.{statement}
 use Rattle.rows.proofs.compare.Tie as tie

@@ -1,8 +1,8 @@
 use native.Mathlib.Omega.{arith}
 use mathlib.Core.Path.{sym, ap, _∙_}
 use borrow.Author.Tests.{not-true, not-false}
-use Rattle.rows.specs.declared.Evaluation.the-variants.{Value}
-use Rattle.rows.proofs.AnswerLaws.{few-exprs, broken-plan, no-such, not-typed, bad-row, found}
+use Rattle.rows_spec.specs.declared.Evaluation.the-variants.{Value}
+use Rattle.rows_spec.proofs.AnswerLaws.{few-exprs, broken-plan, no-such, not-typed, bad-row, found}
 use borrow.Author.Needs.{needs}
 use Rattle.rows.proofs.evaluate.Statement.{statement}
 use Rattle.rows.proofs.evaluate.Tie as tie

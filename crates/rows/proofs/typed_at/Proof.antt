@@ -3,7 +3,7 @@ use native.Mathlib.Omega.{arith}
 use denote.Ref.{now}
 use Prim.Native.Nat.{_+_, _-_, _≤_}
 use Rattle.plan_data.specs.Nodes.{nodeOf}
-use Rattle.rows.proofs.TypingLaws.{Flags, flags-none, flags-more, flags-at}
+use Rattle.rows_spec.proofs.TypingLaws.{Flags, flags-none, flags-more, flags-at}
 use Rattle.rows.proofs.typed_at.Statement.{statement}
 use Rattle.rows.proofs.typed_at.Tie as tie
 

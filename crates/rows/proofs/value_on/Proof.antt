@@ -2,8 +2,8 @@ use native.Mathlib.Omega.{arith}
 use mathlib.Core.Path.{_∙_}
 use Prim.Native.Nat.{_+_}
 use Rattle.plan_data.specs.Nodes.{nodeAt}
-use Rattle.rows.specs.Cells.{cellAt}
-use Rattle.rows.proofs.ValueLaws.{value-in}
+use Rattle.rows_spec.specs.Cells.{cellAt}
+use Rattle.rows_spec.proofs.ValueLaws.{value-in}
 use borrow.Author.Needs.{needs}
 use Rattle.rows.proofs.value_on.Statement.{statement}
 use Rattle.rows.proofs.value_on.Tie as tie

@@ -7,7 +7,7 @@ use native.Mathlib.Nat.{eq-or-lt-of-le}
 use native.Mathlib.Omega.{arith}
 use lib.ListN.{length, getD, length-append, List·getD-append, List·getD-eq-default}
 use lib.Seq.{getD-at}
-use Rattle.rows.specs.InOrder.{inOrder}
+use Rattle.rows_spec.specs.InOrder.{inOrder}
 
 module _ {A : Type 0} (entry : List A → ℕ → A) where
   pub in-order-length : (n : ℕ) → length (inOrder entry n) ≡ n

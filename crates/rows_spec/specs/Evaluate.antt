@@ -9,12 +9,12 @@ use Rattle.plan_data.specs.Nodes.{nodeAt}
 use Rattle.scalar.specs.declared.Kind.the-variants as K
 use Rattle.scalar.specs.declared.ScalarValue.{ScalarValue}
 use Rattle.scalar.specs.declared.ScalarValue.the-variants as S
-use Rattle.rows.specs.Values.{valueAt}
-use Rattle.rows.specs.Typing.{booleanAt, typedAt}
-use Rattle.rows.specs.Cells.{cellAt, rowOk}
-use Rattle.rows.specs.declared.Row.{Row}
-use Rattle.rows.specs.declared.Evaluation.{Evaluation}
-use Rattle.rows.specs.declared.Evaluation.the-variants.{Value, NoSuch, Untyped, BadRow}
+use Rattle.rows_spec.specs.Values.{valueAt}
+use Rattle.rows_spec.specs.Typing.{booleanAt, typedAt}
+use Rattle.rows_spec.specs.Cells.{cellAt, rowOk}
+use Rattle.rows_spec.specs.declared.Row.{Row}
+use Rattle.rows_spec.specs.declared.Evaluation.{Evaluation}
+use Rattle.rows_spec.specs.declared.Evaluation.the-variants.{Value, NoSuch, Untyped, BadRow}
 
 -- the value of the expression h of a plan on a row
 abbrev pub valueOn : Plan → Row → ℕ → ScalarValue

@@ -13,10 +13,10 @@ use Rattle.plan_data.specs.Nodes.{operandsOf}
 use Rattle.plan_data.specs.declared.NaryOp.{NaryOp}
 use Rattle.plan_data.specs.declared.NaryOp.the-variants.{And, Or}
 use Rattle.plan_data.specs.declared.ExprData.{ExprData}
-use Rattle.rows.specs.Compare.{truthOf}
-use Rattle.rows.specs.Values.{noneOf, joinOf, naryOf, truths, nodeValue, valueIn, valueNext, values, valueAt}
-use Rattle.rows.proofs.InOrderLaws.{in-order-at, in-order-past}
-use Rattle.rows.proofs.PartLaws.{part-done, part-past, part-more}
+use Rattle.rows_spec.specs.Compare.{truthOf}
+use Rattle.rows_spec.specs.Values.{noneOf, joinOf, naryOf, truths, nodeValue, valueIn, valueNext, values, valueAt}
+use Rattle.rows_spec.proofs.InOrderLaws.{in-order-at, in-order-past}
+use Rattle.rows_spec.proofs.PartLaws.{part-done, part-past, part-more}
 
 module _ (cell : ℕ → ScalarValue) (node : ℕ → ExprData) (items : List ℕ) where
   -- the value of h in a list of values is that of its node over those before it

@@ -17,7 +17,7 @@ use Rattle.scalar.specs.declared.Kind.{Kind}
 use Rattle.scalar.specs.declared.ScalarValue.{ScalarValue}
 use Rattle.scalar.specs.declared.ScalarValue.the-variants as S
 use Rattle.scalar.proofs.ScalarLaws.{same-comm}
-use Rattle.rows.specs.Compare.{known, compared, compareOf, truthOf, ofTruth}
+use Rattle.rows_spec.specs.Compare.{known, compared, compareOf, truthOf, ofTruth}
 
 -- an ordinary comparison with a NULL is UNKNOWN
 pub null-unknown : (op : BinaryOp) (v w : ScalarValue) → ordinary op ≡ true → (isNull v || isNull w) ≡ true → compareOf op v w ≡ 1

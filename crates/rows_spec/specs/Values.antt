@@ -16,8 +16,8 @@ use Rattle.plan_data.specs.declared.NaryOp.{NaryOp}
 use Rattle.plan_data.specs.declared.NaryOp.the-variants.{And, Or}
 use Rattle.plan_data.specs.declared.ExprData.{ExprData}
 use Rattle.plan_data.specs.declared.ExprData.the-variants.{Literal, ColumnRef, Unary, Binary, Nary}
-use Rattle.rows.specs.InOrder.{inOrder}
-use Rattle.rows.specs.Compare.{compareOf, truthOf, ofTruth}
+use Rattle.rows_spec.specs.InOrder.{inOrder}
+use Rattle.rows_spec.specs.Compare.{compareOf, truthOf, ofTruth}
 
 -- a unary operation on the value of its operand; Negate is never asked for, since nothing that has one is typed
 abbrev pub unaryOf : UnaryOp → ScalarValue → ScalarValue

@@ -17,11 +17,11 @@ use Rattle.plan_data.specs.Nodes.{exprData, nodeOf}
 use Rattle.plan_data.specs.declared.UnaryOp.the-variants.{Not, IsNull, IsNotNull}
 use Rattle.plan_data.specs.declared.NaryOp.the-variants.{And, Or}
 use Rattle.plan_data.specs.declared.ExprData.{ExprData}
-use Rattle.rows.specs.InOrder.{inOrder}
-use Rattle.rows.specs.Compare.{compareOf}
-use Rattle.rows.specs.Values.{unaryOf, naryOf, truths, valueIn, values, valueAt}
-use Rattle.rows.specs.Typing.{typings, typedAt}
-use Rattle.rows.specs.Cells.{cellOk, listedLiteral}
+use Rattle.rows_spec.specs.InOrder.{inOrder}
+use Rattle.rows_spec.specs.Compare.{compareOf}
+use Rattle.rows_spec.specs.Values.{unaryOf, naryOf, truths, valueIn, values, valueAt}
+use Rattle.rows_spec.specs.Typing.{typings, typedAt}
+use Rattle.rows_spec.specs.Cells.{cellOk, listedLiteral}
 
 -- x = NULL and NULL = NULL are UNKNOWN; NULL IS NOT DISTINCT FROM NULL is TRUE, and FALSE with one NULL
 pub null-equal : compareOf Eq (S.Null K.Int32) (S.Null K.Int32) ≡ 1

@@ -12,7 +12,7 @@ use Rattle.scalar.specs.Kinds.{kindOf, isNull, kindOfCode, sameKind}
 use Rattle.scalar.specs.Coded.{scalarOf}
 use Rattle.scalar.specs.declared.ScalarValue.{ScalarValue}
 use Rattle.plan.specs.declared.Plan.{Plan}
-use Rattle.rows.specs.declared.Row.{Row}
+use Rattle.rows_spec.specs.declared.Row.{Row}
 
 -- the value of column c
 abbrev pub cellOf : List ℕ → List ℕ → List ℕ → ℕ → ScalarValue

@@ -9,10 +9,10 @@ use Rattle.plan.specs.declared.Plan.{Plan}
 use Rattle.plan.specs.declared.Expr.{Expr}
 use Rattle.plan_rules.specs.Rules.{columnOk, exprOk, operatorOk, scannedOnce, countsOk, planOk}
 use Rattle.plan_rules.proofs.Parts.{exprs-within}
-use Rattle.rows.specs.Cells.{rowOk}
-use Rattle.rows.specs.Evaluate.{valueOn, typed, evaluateOf}
-use Rattle.rows.specs.declared.Row.{Row}
-use Rattle.rows.specs.declared.Evaluation.the-variants.{Value, NoSuch, Untyped, BadRow}
+use Rattle.rows_spec.specs.Cells.{rowOk}
+use Rattle.rows_spec.specs.Evaluate.{valueOn, typed, evaluateOf}
+use Rattle.rows_spec.specs.declared.Row.{Row}
+use Rattle.rows_spec.specs.declared.Evaluation.the-variants.{Value, NoSuch, Untyped, BadRow}
 
 -- a plan that keeps the rules has at most 1,024 expressions
 pub few-exprs : (p : Plan) → planOk p ≡ true → p .expressions .count ≤ 1024

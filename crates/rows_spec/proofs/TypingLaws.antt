@@ -10,8 +10,8 @@ use lib.Seq.{getD-set-same, getD-set-other}
 use borrow.Author.Tests.{eqb-true, eqb-false, ltb-true, ltb-false}
 use Rattle.plan_data.specs.Nodes.{operandsOf}
 use Rattle.plan_data.specs.declared.ExprData.{ExprData}
-use Rattle.rows.specs.Typing.{booleanAt, nodeTyped, flagged, typingNext, typings, typedAt}
-use Rattle.rows.proofs.InOrderLaws.{in-order-at, in-order-past}
+use Rattle.rows_spec.specs.Typing.{booleanAt, nodeTyped, flagged, typingNext, typings, typedAt}
+use Rattle.rows_spec.proofs.InOrderLaws.{in-order-at, in-order-past}
 
 never : (n e : ℕ) → getD (replicate n false) e false ≡ false
 never zero e = refl

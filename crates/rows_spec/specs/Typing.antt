@@ -13,7 +13,7 @@ use Rattle.plan_data.specs.declared.UnaryOp.{UnaryOp}
 use Rattle.plan_data.specs.declared.UnaryOp.the-variants.{Not, IsNull, IsNotNull, Negate}
 use Rattle.plan_data.specs.declared.ExprData.{ExprData}
 use Rattle.plan_data.specs.declared.ExprData.the-variants.{Literal, ColumnRef, Unary, Binary, Nary}
-use Rattle.rows.specs.InOrder.{inOrder}
+use Rattle.rows_spec.specs.InOrder.{inOrder}
 
 -- a node's kind is its literal's or its column's, else Boolean; the columns' kinds are codes
 abbrev pub kindOfNode : List ℕ → ExprData → Kind
