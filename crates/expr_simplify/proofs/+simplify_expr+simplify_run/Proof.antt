@@ -15,10 +15,10 @@ use borrow.Fn.Kinds.{In}
 use borrow.Fn.PlainCycle.{Measures, is, falls, and}
 use Rattle.expr_simplify.proofs.simplify_expr.Reads as simplify-expr
 use Rattle.expr_simplify.proofs.simplify_expr.Kinds as simplify-expr-kinds
-use Rattle.expr_simplify.proofs.+simplify_expr+test_simplify.Lts-simplify_expr as simplify-expr-lts
-use Rattle.expr_simplify.proofs.test_simplify.Reads as simplify-run
-use Rattle.expr_simplify.proofs.test_simplify.Kinds as simplify-run-kinds
-use Rattle.expr_simplify.proofs.+simplify_expr+test_simplify.Lts-test_simplify as simplify-run-lts
+use Rattle.expr_simplify.proofs.+simplify_expr+simplify_run.Lts-simplify_expr as simplify-expr-lts
+use Rattle.expr_simplify.proofs.simplify_run.Reads as simplify-run
+use Rattle.expr_simplify.proofs.simplify_run.Kinds as simplify-run-kinds
+use Rattle.expr_simplify.proofs.+simplify_expr+simplify_run.Lts-simplify_run as simplify-run-lts
 use Rattle.expr_simplify.proofs.bottom.Reads as bottom-reads
 use Rattle.expr_simplify.proofs.compare_step.Reads as compare-step-reads
 use Rattle.expr_simplify.proofs.count.Reads as count-reads
@@ -30,8 +30,8 @@ use Rattle.expr_simplify.proofs.refused.Reads as refused-reads
 use Rattle.expr_simplify.proofs.same.Reads as same-reads
 use Rattle.expr_simplify.proofs.shape_at.Reads as shape-at-reads
 use Rattle.lists.proofs.at16.Reads as at16-reads
-use Rattle.expr_simplify.proofs.+simplify_expr+test_simplify.{statement}
-use Rattle.expr_simplify.proofs.+simplify_expr+test_simplify.Tie.{close}
+use Rattle.expr_simplify.proofs.+simplify_expr+simplify_run.{statement}
+use Rattle.expr_simplify.proofs.+simplify_expr+simplify_run.Tie.{close}
 
 abbrev μ-simplify-expr : Measures 8 simplify-expr-kinds.ps ℕ
 μ-simplify-expr κs a = a .1 .1 .1 .1 .1 .1 .1 .1 .1 .1 .0 * 1048576
