@@ -280,7 +280,7 @@ fn changed(p: Plan, f: LogicalFacts, g: LogicalFacts, s: &[u8]) -> LogicalFacts 
         return with_lineage(f, s);
     }
     if what == 6 {
-        return written(logical_facts::apply_predicate(p, f, Expr(first(s))));
+        return written(apply_predicate::apply_predicate(p, f, Expr(first(s))));
     }
     if what == 7 {
         list(f);
