@@ -5,7 +5,6 @@
 // with its constraints where the code is 1. An application and a merge write the refusal's number, 0 for none.
 use apply_spec::FactsAnswer;
 use apply_spec::LogicalFacts;
-use apply_spec::Outcome;
 use constraint_spec::ConstraintSet;
 use constraint_spec::Entry;
 use constraint_spec::Holder;
@@ -14,7 +13,6 @@ use plan::Plan;
 use plan_kinds::Record;
 use scalar::ScalarValue;
 use value_range::Bound;
-ghost use Prim.Native.Nat.{_<_};
 
 const STEPS: u32 = 4000000;
 
@@ -22,52 +20,6 @@ struct State {
     plan: Plan,
     left: LogicalFacts,
     right: LogicalFacts,
-}
-
-fn byte(s: &[u8], i: usize) -> u8 {
-    lists::at8(s, i)
-}
-
-fn word(high: u8, low: u8) -> u16 {
-    high as u16 * 256 + low as u16
-}
-
-fn long(high: u16, low: u16) -> u64
-    ensures { λ r. ⌜ r < 4294967296 ⌝ }
-{
-    high as u64 * 65536 + low as u64
-}
-
-fn bits(s: &[u8]) -> u64 {
-    let high = long(
-        word(byte(s, 12), byte(s, 13)),
-        word(byte(s, 14), byte(s, 15)),
-    );
-    let low = long(
-        word(byte(s, 16), byte(s, 17)),
-        word(byte(s, 18), byte(s, 19)),
-    );
-    high * 4294967296 + low
-}
-
-fn first(s: &[u8]) -> u16 {
-    word(byte(s, 4), byte(s, 5))
-}
-
-fn second(s: &[u8]) -> u16 {
-    word(byte(s, 6), byte(s, 7))
-}
-
-fn record(s: &[u8]) -> Record {
-    Record {
-        kind: byte(s, 1),
-        code: byte(s, 2),
-        a: first(s),
-        b: second(s),
-        c: 0,
-        d: 0,
-        bits: bits(s),
-    }
 }
 
 fn plain(kind: u8, a: u16) -> Record {
@@ -106,24 +58,10 @@ fn nested(p: Plan, n: u16, e: u16) -> Plan {
 }
 
 fn planned(p: Plan, s: &[u8]) -> Plan {
-    let x = record(s);
-    let what = byte(s, 0);
-    if what == 1 {
-        let r = p.append_column(x);
-        return r.plan;
+    if lists::at8(s, 0) == 4 {
+        return nested(p, test_input::word(s, 4), test_input::word(s, 6));
     }
-    if what == 2 {
-        let r = p.append_expr(x, word(byte(s, 8), byte(s, 9)));
-        return r.plan;
-    }
-    if what == 3 {
-        let r = p.append_item(x);
-        return r.plan;
-    }
-    if what == 4 {
-        return nested(p, first(s), second(s));
-    }
-    p
+    test_input::planned(p, s)
 }
 
 // ---- what is written
@@ -246,18 +184,10 @@ fn list(f: LogicalFacts) {
     list_residuals(residuals, s.residuals);
 }
 
-fn number(o: Outcome) -> u64 {
-    match o {
-        Outcome::Accepted => 0,
-        Outcome::Residuals => 7,
-        Outcome::NoSuch => 8,
-    }
-}
-
 fn written(a: FactsAnswer) -> LogicalFacts {
     let o = a.outcome;
     io::write_all(1, b"refused");
-    say(number(o));
+    say(refusals::outcome_number(o) as u64);
     end_line();
     a.facts
 }
@@ -265,29 +195,38 @@ fn written(a: FactsAnswer) -> LogicalFacts {
 // ---- steps
 
 fn with_lineage(f: LogicalFacts, s: &[u8]) -> LogicalFacts {
-    let c = byte(s, 3) as usize;
+    let c = lists::at8(s, 3) as usize;
     let mut g = f;
     if c < 64 {
-        g.lineage[c] = byte(s, 5);
+        g.lineage[c] = lists::at8(s, 5);
     }
     g
 }
 
+// What the library promises of an answer stays in a function that does nothing else: a caller that knew of it would take longer to prove.
+fn applied(p: Plan, f: LogicalFacts, e: u16) -> FactsAnswer {
+    logical_facts::apply_predicate(p, f, Expr(e))
+}
+
+fn merged(p: Plan, f: LogicalFacts, g: LogicalFacts, all: bool) -> FactsAnswer {
+    logical_facts::merge_inputs(p, f, g, all)
+}
+
 // What a step makes of the left facts.
 fn changed(p: Plan, f: LogicalFacts, g: LogicalFacts, s: &[u8]) -> LogicalFacts {
-    let what = byte(s, 0);
+    let what = lists::at8(s, 0);
     if what == 5 {
         return with_lineage(f, s);
     }
     if what == 6 {
-        return written(logical_facts::apply_predicate(p, f, Expr(first(s))));
+        return written(applied(p, f, test_input::word(s, 4)));
     }
     if what == 7 {
         list(f);
         return f;
     }
     if what == 9 {
-        return written(logical_facts::merge_inputs(p, f, g, byte(s, 2) == 1));
+        return written(merged(p, f, g, lists::at8(s, 2) == 1));
     }
     f
 }
@@ -296,7 +235,7 @@ fn step(s: State, buf: &[u8]) -> State {
     let p = s.plan;
     let f = s.left;
     let g = s.right;
-    let what = byte(buf, 0);
+    let what = lists::at8(buf, 0);
     if what == 0 {
         return State {
             plan: Plan::empty(),
