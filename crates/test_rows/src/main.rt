@@ -62,7 +62,7 @@ fn answer(a: Evaluation) {
     }
 }
 
-// What `rows::evaluate` promises stays here: a caller that knew of it would take longer to prove.
+// What the library promises of an answer is known here alone: a function of many branches that knew of it would take longer to prove.
 fn evaluated(p: Plan, e: u16, row: Row) -> Evaluation {
     rows::evaluate(p, Expr(e), row)
 }
