@@ -1,3 +1,2 @@
-pub mod ShapeAnswers
-pub mod Runs
+pub mod HeldAnswers
 pub mod OperatorAnswers

@@ -31,8 +31,8 @@ use Rattle.simplify_spec.specs.declared.Held.{Held}
 use Rattle.simplify_spec.specs.declared.Held.the-variants.{Nothing, One, Seconds, Firsts}
 use Rattle.simplify_spec.specs.declared.Rewrite.the-variants.{Keep, Replace, Room, NoSuch}
 use Rattle.simplify_spec.specs.declared.Rewritten.{Rewritten}
-use Rattle.expr_simplify.specs.Passage.{itemsOf}
-use Rattle.expr_simplify.proofs.ShapeAnswers.{choose}
+use Rattle.plan_append.specs.Appending.{itemsOf}
+use Rattle.simplify_spec.proofs.HeldLaws.{choose}
 
 -- ---- one expression after the other
 pub each-one : (n e : ℕ) (r : Each) (k : ℕ) (q : Simplified) → q ≡ enterOf simplifyAt n (r .ok) (r .st) e → (ats : List ℕ) → ats ≡ set (r .ats) k (q .at)

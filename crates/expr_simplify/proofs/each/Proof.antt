@@ -1,5 +1,5 @@
 use Rattle.expr_simplify.proofs.OperatorAnswers.{each-more, each-done}
-use Rattle.expr_simplify.specs.Passage.{itemsOf}
+use Rattle.plan_append.specs.Appending.{itemsOf}
 use Rattle.simplify_spec.specs.OneOperator.{heldAt, eachTo}
 use Prim.Native.Nat.{_-_, _≤_}
 use mathlib.Core.Path.{_≡_, refl}

@@ -1,4 +1,4 @@
-use Rattle.expr_simplify.proofs.ShapeAnswers.{held-selection, held-join, held-mark, held-map, held-aggregation, held-sort, held-nothing}
+use Rattle.expr_simplify.proofs.HeldAnswers.{held-selection, held-join, held-mark, held-map, held-aggregation, held-sort, held-nothing}
 use Rattle.expr_simplify.proofs.held_of.Statement.{statement}
 use Rattle.expr_simplify.proofs.held_of.Tie as tie
 

@@ -1,4 +1,4 @@
-use Rattle.expr_simplify.proofs.ShapeAnswers.{new-selection, new-join, record-way}
+use Rattle.expr_simplify.proofs.HeldAnswers.{new-selection, new-join, record-way}
 use mathlib.Core.Path.{refl}
 use borrow.Author.Needs.{needs}
 use Rattle.expr_simplify.proofs.new_record.Statement.{statement}

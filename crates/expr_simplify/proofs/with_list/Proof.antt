@@ -1,5 +1,5 @@
 use Rattle.expr_simplify.proofs.OperatorAnswers.{listAt, list-none, list-more, list-done}
-use Rattle.expr_simplify.specs.Passage.{itemsOf}
+use Rattle.plan_append.specs.Appending.{itemsOf}
 use Rattle.simplify_spec.specs.OneOperator.{itemFirst, itemSecond}
 use lib.ListN.{getD}
 use Prim.Native.Nat.{ℕ, _-_, _≤_}
