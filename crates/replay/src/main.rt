@@ -196,9 +196,9 @@ fn ask(operation: u8, s: &[u8]) {
 // The next question, if there is a whole one.
 fn next() -> bool {
     let mut head = [0u8; 5];
-    let mut body = [0u8; 131072];
+    let mut body = [0u8; 24576];
     let n = test_input::next(&mut head, 1, &mut body);
-    if 131072 < n {
+    if 24576 < n {
         return false;
     }
     ask(lists::at8(&head, 0), &body[0..n]);
