@@ -16,39 +16,27 @@ struct Read {
     at: usize,
 }
 
-fn word(high: u8, low: u8) -> u16 {
-    high as u16 * 256 + low as u16
-}
-
-fn first(s: &[u8]) -> u16 {
-    word(lists::at8(s, 0), lists::at8(s, 1))
-}
-
-fn second(s: &[u8]) -> u16 {
-    word(lists::at8(s, 2), lists::at8(s, 3))
-}
-
 // ---- questions with one number before the file
 
 fn derive<'a, 'b>(s: &'a [u8], out: &'b mut [u8]) -> usize {
     if s.len() < 2 {
         return 0;
     }
-    boundary::mossladder_derive(&s[2..], first(s), out)
+    boundary::mossladder_derive(&s[2..], test_input::word(s, 0), out)
 }
 
 fn simplify<'a, 'b>(s: &'a [u8], out: &'b mut [u8]) -> usize {
     if s.len() < 2 {
         return 0;
     }
-    boundary::mossladder_simplify(&s[2..], first(s), out)
+    boundary::mossladder_simplify(&s[2..], test_input::word(s, 0), out)
 }
 
 // ---- predicates: the operator, how many, and that many expressions
 
 fn predicate(s: &[u8], k: usize) -> u16 {
     if k < 1024 {
-        word(lists::at8(s, 4 + 2 * k), lists::at8(s, 5 + 2 * k))
+        test_input::word(s, 4 + 2 * k)
     } else {
         0
     }
@@ -65,7 +53,7 @@ fn predicates(s: &[u8]) -> [u16; 1024] {
 }
 
 fn apply<'a, 'b>(s: &'a [u8], out: &'b mut [u8]) -> usize {
-    let n = second(s) as usize;
+    let n = test_input::word(s, 2) as usize;
     if 1024 < n {
         return 0;
     }
@@ -74,44 +62,10 @@ fn apply<'a, 'b>(s: &'a [u8], out: &'b mut [u8]) -> usize {
         return 0;
     }
     let a = predicates(s);
-    boundary::mossladder_apply(&s[at..], first(s), &a[..n], out)
+    boundary::mossladder_apply(&s[at..], test_input::word(s, 0), &a[0..n], out)
 }
 
 // ---- a row: how many cells, and a literal record for each
-
-fn wide(high: u16, low: u16) -> u64
-    ensures { λ r. ⌜ r < 4294967296 ⌝ }
-{
-    high as u64 * 65536 + low as u64
-}
-
-fn four(a: u8, b: u8, c: u8, d: u8) -> u64
-    ensures { λ r. ⌜ r < 4294967296 ⌝ }
-{
-    wide(word(a, b), word(c, d))
-}
-
-// The four bytes after the first, which is at `at`.
-fn near(s: &[u8], at: usize) -> u64
-    ensures { λ r. ⌜ r < 4294967296 ⌝ }
-{
-    if 100000 < at {
-        return 0;
-    }
-    four(
-        lists::at8(s, at + 1),
-        lists::at8(s, at + 2),
-        lists::at8(s, at + 3),
-        lists::at8(s, at + 4),
-    )
-}
-
-fn far(s: &[u8], at: usize) -> u64 {
-    if 100000 < at {
-        return 0;
-    }
-    near(s, at) * 4294967296 + near(s, at + 4)
-}
 
 // The length of a literal's record by its kind.
 fn length_of(kind: u8) -> usize
@@ -125,21 +79,22 @@ fn length_of(kind: u8) -> usize
     }
 }
 
-fn bits_at(s: &[u8], at: usize) -> u64 {
-    let n = length_of(lists::at8(s, at));
+// What stands after the kind, at `at`: the payload of a number or a date.
+fn bits_at(s: &[u8], kind: u8, at: usize) -> u64 {
+    let n = length_of(kind);
     if n == 9 {
-        return far(s, at);
+        return test_input::bits(s, at);
     }
-    if n == 5 { near(s, at) } else { 0 }
+    if n == 5 { test_input::long(s, at) } else { 0 }
 }
 
 // The code of a NULL or a Boolean.
-fn code_at(s: &[u8], at: usize) -> u8 {
-    if 100000 < at {
-        return 0;
+fn code_at(s: &[u8], kind: u8, at: usize) -> u8 {
+    if length_of(kind) == 2 {
+        lists::at8(s, at)
+    } else {
+        0
     }
-    let n = length_of(lists::at8(s, at));
-    if n == 2 { lists::at8(s, at + 1) } else { 0 }
 }
 
 fn with_cell(r: Read, s: &[u8], c: usize) -> Read {
@@ -151,12 +106,13 @@ fn with_cell(r: Read, s: &[u8], c: usize) -> Read {
     if 100000 < at {
         return r;
     }
-    row.case[c] = lists::at8(s, at);
-    row.code[c] = code_at(s, at);
-    row.bits[c] = bits_at(s, at);
+    let kind = lists::at8(s, at);
+    row.case[c] = kind;
+    row.code[c] = code_at(s, kind, at + 1);
+    row.bits[c] = bits_at(s, kind, at + 1);
     Read {
         row,
-        at: at + length_of(lists::at8(s, at)),
+        at: at + length_of(kind),
     }
 }
 
@@ -184,13 +140,13 @@ fn on_row<'a, 'b>(file: &'a [u8], e: u16, row: Row, out: &'b mut [u8]) -> usize 
 }
 
 fn evaluate<'a, 'b>(s: &'a [u8], out: &'b mut [u8]) -> usize {
-    let r = row_of(s, second(s) as usize);
+    let r = row_of(s, test_input::word(s, 2) as usize);
     let at = r.at;
     if s.len() < at {
         return 0;
     }
     let row = r.row;
-    on_row(&s[at..], first(s), row, out)
+    on_row(&s[at..], test_input::word(s, 0), row, out)
 }
 
 // ---- a question and its reply
@@ -225,7 +181,7 @@ fn print(s: &[u8]) {
     let mut line = [0u8; 65536];
     let n = digits(&mut line, s);
     if n <= 65536 {
-        io::write_all(1, &line[..n]);
+        io::write_all(1, &line[0..n]);
     }
 }
 
@@ -233,41 +189,20 @@ fn ask(operation: u8, s: &[u8]) {
     let mut out = [0u8; 24576];
     let n = reply(operation, s, &mut out);
     if n <= 24576 {
-        print(&out[..n]);
+        print(&out[0..n]);
     }
-}
-
-// The input of n bytes that comes next, read into the buffer.
-fn filled(buf: &mut [u8], n: usize, operation: u8) -> bool {
-    if buf.len() < n {
-        return false;
-    }
-    let m = io::read_full(0, &mut buf[..n]);
-    if m < n {
-        return false;
-    }
-    ask(operation, &buf[..n]);
-    true
-}
-
-fn size_of(head: [u8; 5]) -> usize {
-    let high = lists::at8(&head, 2) as usize;
-    let middle = lists::at8(&head, 3) as usize;
-    let low = lists::at8(&head, 4) as usize;
-    high * 65536 + middle * 256 + low
 }
 
 // The next question, if there is a whole one.
 fn next() -> bool {
     let mut head = [0u8; 5];
-    let mut body = [0u8; 131072];
-    let got = io::read_full(0, &mut head);
-    if got < 5 {
+    let mut body = [0u8; 24576];
+    let n = test_input::next(&mut head, 1, &mut body);
+    if 24576 < n {
         return false;
     }
-    let n = size_of(head);
-    let operation = lists::at8(&head, 0);
-    filled(&mut body, n, operation)
+    ask(lists::at8(&head, 0), &body[0..n]);
+    true
 }
 
 // The bound stands in for the end of the input, which no contract speaks of.

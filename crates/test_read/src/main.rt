@@ -138,9 +138,9 @@ fn one(s: &[u8]) {
 // The next file, if there is a whole one.
 fn next() -> bool {
     let mut head = [0u8; 4];
-    let mut body = [0u8; 131072];
+    let mut body = [0u8; 24576];
     let n = test_input::next(&mut head, 0, &mut body);
-    if 131072 < n {
+    if 24576 < n {
         return false;
     }
     one(&body[0..n]);

@@ -153,36 +153,16 @@ fn one(s: &[u8], o: u16) {
     io::write_all(1, b"\n");
 }
 
-fn word(high: u8, low: u8) -> u16 {
-    let h = high as u16;
-    let l = low as u16;
-    h * 256 + l
-}
-
-// The file of n bytes that comes next, read into the buffer.
-fn filled(buf: &mut [u8], n: usize, o: u16) -> bool {
-    if buf.len() < n {
-        return false;
-    }
-    let m = io::read_full(0, &mut buf[..n]);
-    if m < n {
-        return false;
-    }
-    one(&buf[..n], o);
-    true
-}
-
 // The next file, if there is a whole one.
 fn next() -> bool {
     let mut head = [0u8; 6];
     let mut body = [0u8; 32768];
-    let got = io::read_full(0, &mut head);
-    if got < 6 {
+    let n = test_input::next(&mut head, 0, &mut body);
+    if 32768 < n {
         return false;
     }
-    let n = word(lists::at8(&head, 2), lists::at8(&head, 3));
-    let o = word(lists::at8(&head, 4), lists::at8(&head, 5));
-    filled(&mut body, n as usize, o)
+    one(&body[0..n], test_input::word(&head, 4));
+    true
 }
 
 // The bound stands in for the end of the input, which no contract speaks of.
