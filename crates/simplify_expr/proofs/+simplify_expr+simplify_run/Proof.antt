@@ -113,7 +113,7 @@ simplify-expr-enum-known-shape t c =
 
 simplify-expr-simplify-expr-requires : (t : ℕ) → simplify-expr-lts.Need-simplify-expr-requires (simplify-expr-calls t) (simplify-expr-at t) simplify-expr.Post
 simplify-expr-simplify-expr-requires t c κs =
-    let at-if2 = c .before .before .before .before .before .before .before .before .before .before .before .before .before .before .before .before .before .before .before .before .before .before .before .before in
+    let at-if2 = c .before .before .before .before .before .before .before .before .before .before .before .before .before .before .before .before .before .before in
     let start = at-if2 .before .before .before in
     (omega (arith, at-if2 .if2 .left, start .pre .0), tt)
 
@@ -127,13 +127,13 @@ simplify-expr-enum-known-shape-2 t c =
 
 simplify-expr-simplify-expr-requires-2 : (t : ℕ) → simplify-expr-lts.Need-simplify-expr-requires-2 (simplify-expr-calls t) (simplify-expr-at t) simplify-expr.Post
 simplify-expr-simplify-expr-requires-2 t c κs =
-    let at-if2 = c .before .before .before .before .before .before .before .before .before .before .before .before .before .before .before .before .before .before .before .before .before .before .before .before in
+    let at-if2 = c .before .before .before .before .before .before .before .before .before .before .before .before .before .before .before .before .before .before in
     let start = at-if2 .before .before .before in
     (omega (arith, at-if2 .if2 .left, start .pre .0), tt)
 
 simplify-expr-simplify-expr-requires-3 : (t : ℕ) → simplify-expr-lts.Need-simplify-expr-requires-3 (simplify-expr-calls t) (simplify-expr-at t) simplify-expr.Post
 simplify-expr-simplify-expr-requires-3 t c κs =
-    let at-if2 = c .before .before .before .before .before .before .before .before .before .before .before .before .before .before .before .before .before .before .before .before .before .before .before .before .before .before .before .before .before .before .before .before .before in
+    let at-if2 = c .before .before .before .before .before .before .before .before .before .before .before .before .before .before .before .before .before .before .before .before .before .before .before .before .before .before .before in
     let start = at-if2 .before .before .before in
     (omega (arith, at-if2 .if2 .left, start .pre .0), tt)
 
@@ -155,7 +155,7 @@ simplify-expr-simplify-run-requires t c κs =
     let p : c .before .before .before .before .before .before .before .before .all-operands .result .at ≡ c .before .before .before .before .before .before .before .before .before .before .shape3 .given .0 .0 = ap (λ (x : Walk). x .at) (c .before .before .before .before .before .before .before .before .all-operands .ensures) in
     let z : c .before .before .before .before .before .before .before .before .all-operands .result .tally .kept ≡ 0 = ap (λ (x : Walk). x .tally .kept)
     (c .before .before .before .before .before .before .before .before .all-operands .ensures) in
-    (omega (arith, n, c .before .before .before .before .before .before .before .before .before .before .before .before .before .before .before .before .before .before .before .before .before .before .before .before .before .if2 .left, c .before .before .before .before .before .before .before .before .before .before .before .before .before .before .before .before .before .before .before .before .before .before .before .before .before .before .before .before .pre .0, c .before .before .before .before .before .before .before .before .before .known-told3 .given), (omega (arith, n, p, c .before .before .before .before .before .before .before .before .before .known-told3 .given), omega (arith, n, z, c .before .before .before .before .before .before .before .before .before .known-told3 .given)))
+    (omega (arith, n, c .before .before .before .before .before .before .before .before .before .before .before .before .before .before .before .before .before .before .before .if2 .left, c .before .before .before .before .before .before .before .before .before .before .before .before .before .before .before .before .before .before .before .before .before .before .pre .0, c .before .before .before .before .before .before .before .before .before .known-told3 .given), (omega (arith, n, p, c .before .before .before .before .before .before .before .before .before .known-told3 .given), omega (arith, n, z, c .before .before .before .before .before .before .before .before .before .known-told3 .given)))
 
 simplify-expr-enum-known-shape-4 : (t : ℕ) → simplify-expr-lts.Need-enum-known-shape-4 (simplify-expr-calls t) (simplify-expr-at t) simplify-expr.Post
 simplify-expr-enum-known-shape-4 t c =
@@ -171,7 +171,7 @@ simplify-expr-simplify-run-requires-2 t c κs =
     let p : c .before .before .before .before .before .before .before .before .all-operands2 .result .at ≡ c .before .before .before .before .before .before .before .before .before .before .shape4 .given .0 .0 = ap (λ (x : Walk). x .at) (c .before .before .before .before .before .before .before .before .all-operands2 .ensures) in
     let z : c .before .before .before .before .before .before .before .before .all-operands2 .result .tally .kept ≡ 0 = ap (λ (x : Walk). x .tally .kept)
     (c .before .before .before .before .before .before .before .before .all-operands2 .ensures) in
-    (omega (arith, n, c .before .before .before .before .before .before .before .before .before .before .before .before .before .before .before .before .before .before .before .before .before .before .before .before .before .if2 .left, c .before .before .before .before .before .before .before .before .before .before .before .before .before .before .before .before .before .before .before .before .before .before .before .before .before .before .before .before .pre .0, c .before .before .before .before .before .before .before .before .before .known-told4 .given), (omega (arith, n, p, c .before .before .before .before .before .before .before .before .before .known-told4 .given), omega (arith, n, z, c .before .before .before .before .before .before .before .before .before .known-told4 .given)))
+    (omega (arith, n, c .before .before .before .before .before .before .before .before .before .before .before .before .before .before .before .before .before .before .before .if2 .left, c .before .before .before .before .before .before .before .before .before .before .before .before .before .before .before .before .before .before .before .before .before .before .pre .0, c .before .before .before .before .before .before .before .before .before .known-told4 .given), (omega (arith, n, p, c .before .before .before .before .before .before .before .before .before .known-told4 .given), omega (arith, n, z, c .before .before .before .before .before .before .before .before .before .known-told4 .given)))
 
 simplify-expr-enum-told-2 : (t : ℕ) → simplify-expr-lts.Need-enum-told-2 (simplify-expr-calls t) (simplify-expr-at t) simplify-expr.Post
 simplify-expr-enum-told-2 t c =
@@ -184,7 +184,7 @@ simplify-expr-same-requires-3 t c κs =
 simplify-expr-returns-3 : (t : ℕ) → simplify-expr-lts.Need-returns-3 (simplify-expr-calls t) (simplify-expr-at t) simplify-expr.Post
 simplify-expr-returns-3 t c =
     let at-shape-at = c .before .before .before in
-    let at-if2 = at-shape-at .before .before .before .before .before .before .before .before .before .before .before .before .before in
+    let at-if2 = at-shape-at .before .before .before .before .before .before .before in
     let at-if1 = at-if2 .before in
     let start = at-if1 .before .before in
     let a = start .args in
@@ -198,7 +198,7 @@ simplify-expr-returns-4 t c =
     let at-simplify-expr = c .before .before .before .before .before .before .before in
     let at-shape = at-simplify-expr .before .before .before .before .before .before .before .before .before .before in
     let at-shape-at = at-shape .before .before in
-    let at-if2 = at-shape-at .before .before .before .before .before .before .before .before .before .before .before .before .before in
+    let at-if2 = at-shape-at .before .before .before .before .before .before .before in
     let at-if1 = at-if2 .before in
     let start = at-if1 .before .before in
     let a = start .args in
@@ -217,7 +217,7 @@ simplify-expr-returns-5 t c =
     let at-simplify-expr2 = at-simplify-expr3 .before .before .before .before .before .before .before .before .before in
     let at-shape2 = at-simplify-expr2 .before .before .before .before .before .before .before .before .before .before in
     let at-shape-at = at-shape2 .before .before in
-    let at-if2 = at-shape-at .before .before .before .before .before .before .before .before .before .before .before .before .before in
+    let at-if2 = at-shape-at .before .before .before .before .before .before .before in
     let at-if1 = at-if2 .before in
     let start = at-if1 .before .before in
     let a = start .args in
@@ -240,7 +240,7 @@ simplify-expr-returns-6 t c =
     let at-all-operands = c .before .before .before .before .before .before .before .before .before .before in
     let at-shape3 = at-all-operands .before .before in
     let at-shape-at = at-shape3 .before .before in
-    let at-if2 = at-shape-at .before .before .before .before .before .before .before .before .before .before .before .before .before in
+    let at-if2 = at-shape-at .before .before .before .before .before .before .before in
     let at-if1 = at-if2 .before in
     let start = at-if1 .before .before in
     let a = start .args in
@@ -259,7 +259,7 @@ simplify-expr-returns-7 t c =
     let at-all-operands2 = c .before .before .before .before .before .before .before .before .before .before in
     let at-shape4 = at-all-operands2 .before .before in
     let at-shape-at = at-shape4 .before .before in
-    let at-if2 = at-shape-at .before .before .before .before .before .before .before .before .before .before .before .before .before in
+    let at-if2 = at-shape-at .before .before .before .before .before .before .before in
     let at-if1 = at-if2 .before in
     let start = at-if1 .before .before in
     let a = start .args in
@@ -276,7 +276,7 @@ simplify-expr-returns-7 t c =
 simplify-expr-returns-8 : (t : ℕ) → simplify-expr-lts.Need-returns-8 (simplify-expr-calls t) (simplify-expr-at t) simplify-expr.Post
 simplify-expr-returns-8 t c =
     let at-shape-at = c .before .before .before in
-    let at-if2 = at-shape-at .before .before .before .before .before .before .before .before .before .before .before .before .before in
+    let at-if2 = at-shape-at .before .before .before .before .before .before .before in
     let at-if1 = at-if2 .before in
     let start = at-if1 .before .before in
     let a = start .args in
@@ -325,26 +325,24 @@ simplify-run-is-literal-requires-2 t c κs =
 
 simplify-run-count-requires : (t : ℕ) → simplify-run-lts.Need-count-requires (simplify-run-calls t) (simplify-run-at t) simplify-run.Post
 simplify-run-count-requires t c κs =
-    let at-if1 = c .before .before .before .before .before .before .before .before .before .before .before .before .before .before .before .before .before .before .before .before .before .before .before .before .before .before .before in
+    let at-if1 = c .before .before .before .before .before .before .before .before .before .before .before .before .before .before .before .before .before .before .before .before .before in
     let start = at-if1 .before .before in
     omega (arith, at-if1 .if1 .left, start .pre .1 .1)
 
-simplify-run-add-t53 : (t : ℕ) → simplify-run-lts.Need-add-t53 (simplify-run-calls t) (simplify-run-at t) simplify-run.Post
-simplify-run-add-t53 t c =
-    let start = c .before .before .before .before .before .before .before .before .before .before .before .before .before .before .before .before .before .before .before .before .before .before .before .before .before .before .before .before .before .before .before in
-    omega (arith, start .pre .1 .0)
+simplify-run-add-t47 : (t : ℕ) → simplify-run-lts.Need-add-t47 (simplify-run-calls t) (simplify-run-at t) simplify-run.Post
+simplify-run-add-t47 t c =
+    omega (arith, c .before .before .before .before .before .before .before .before .before .before .before .before .before .before .before .before .before .before .before .before .before .before .before .before .before .pre .1 .0)
 
-simplify-run-sub-t54 : (t : ℕ) → simplify-run-lts.Need-sub-t54 (simplify-run-calls t) (simplify-run-at t) simplify-run.Post
-simplify-run-sub-t54 t c =
-    let at-if1 = c .before .before .before .before .before .before .before .before .before .before .before .before .before .before .before .before .before .before .before .before .before .before .before .before .before .before .before .before .before in
-    omega (arith, at-if1 .if1 .left)
+simplify-run-sub-t48 : (t : ℕ) → simplify-run-lts.Need-sub-t48 (simplify-run-calls t) (simplify-run-at t) simplify-run.Post
+simplify-run-sub-t48 t c =
+    omega (arith, c .before .before .before .before .before .before .before .before .before .before .before .before .before .before .before .before .before .before .before .before .before .before .before .if1 .left)
 
 simplify-run-simplify-run-requires : (t : ℕ) → simplify-run-lts.Need-simplify-run-requires (simplify-run-calls t) (simplify-run-at t) simplify-run.Post
 simplify-run-simplify-run-requires t c κs =
     let at-count = c .before .before .before .before .before .before .before .before .before in
     let at-is-literal2 = at-count .before in
     let at-is-literal = at-is-literal2 .before in
-    let at-simplify-expr = at-is-literal .before .before .before .before .before .before .before .before .before .before .before .before .before .before in
+    let at-simplify-expr = at-is-literal .before .before .before .before .before .before .before .before in
     let at-at16 = at-simplify-expr .before .before .before .before .before .before .before .before .before in
     let at-if1 = at-at16 .before .before .before in
     let start = at-if1 .before .before in
@@ -369,7 +367,7 @@ simplify-run-returns-2 t c =
     let at-is-literal2 = at-count .before in
     let at-is-literal = at-is-literal2 .before in
     let at-shape-at = at-is-literal .before in
-    let at-simplify-expr = at-shape-at .before .before .before .before .before .before .before .before .before .before .before .before .before in
+    let at-simplify-expr = at-shape-at .before .before .before .before .before .before .before in
     let at-at16 = at-simplify-expr .before .before .before .before .before .before .before .before .before in
     let at-if1 = at-at16 .before .before .before in
     let start = at-if1 .before .before in
@@ -434,8 +432,8 @@ pub +simplify-expr+simplify-run-spec : {M : Type 1} → statement M
     (simplify-run-is-literal-requires t)
     (simplify-run-is-literal-requires-2 t)
     (simplify-run-count-requires t)
-    (simplify-run-add-t53 t)
-    (simplify-run-sub-t54 t)
+    (simplify-run-add-t47 t)
+    (simplify-run-sub-t48 t)
     (simplify-run-simplify-run-requires t)
     (simplify-run-put-back-requires t)
     (simplify-run-returns-2 t)
