@@ -19,8 +19,9 @@
  * MOSSLADDER_OUT bytes there is room for every reply, and one to spare: a return value of less than the number of
  * bytes in `out` says that the reply is whole.
  *
- * A file is a plan file. One that the reader refuses is answered by the refusal, 1 to 5, and the place in the file
- * where the faulty record starts (the file's length if a list item is wanted there), whatever was asked.
+ * A file is a plan file; docs/FORMAT.md has its bytes and those of a listing. One that the reader refuses is answered
+ * by the refusal, 1 to 5, and the place in the file where the faulty record starts (the file's length if a list item is
+ * wanted there), whatever was asked.
  */
 #ifndef MOSSLADDER_H
 #define MOSSLADDER_H

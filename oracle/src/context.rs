@@ -189,7 +189,7 @@ fn optd_join(join_type: JoinType) -> OptdJoin {
     }
 }
 
-/// Every node of a context as a plan, whether or not it keeps 01's sizes.
+/// Every node of a context as a plan, whether or not it keeps the rules' sizes.
 pub fn plan_of(ctx: &QueryContext) -> Plan {
     Plan {
         columns: (0..ctx.column_count())

@@ -1,4 +1,4 @@
-//! Deriving by optd's own `derive_logical_facts`, with the refusals that 01 adds.
+//! Deriving by optd's own `derive_logical_facts`, with the refusals that the rules add.
 
 use std::sync::Arc;
 

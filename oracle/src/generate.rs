@@ -146,7 +146,7 @@ pub fn small_shape(random: &mut Random) -> Shape {
     }
 }
 
-/// A plan that keeps 01's rules, of some size within the shape.
+/// A plan that keeps the rules, of some size within the shape.
 pub fn plan(random: &mut Random, shape: &Shape) -> Plan {
     let mut made = Making {
         items: shape.items,

@@ -1,4 +1,4 @@
-//! The oracle: optd's own Rust, unchanged, asked in the words of 01. See README.md.
+//! The oracle: optd's own Rust, unchanged, asked in the words of docs/FORMAT.md, the rules. See README.md.
 
 pub mod builder;
 pub mod command;

@@ -1,4 +1,4 @@
-//! The bytes of 01's listing.
+//! The bytes of a listing.
 
 use std::fmt::Write;
 

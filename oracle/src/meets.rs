@@ -1,4 +1,4 @@
-//! Whether a row meets facts, written from 01's 'Rows and truth'.
+//! Whether a row meets facts, written from the rules' 'Rows and truth'.
 
 use std::cmp::Ordering;
 

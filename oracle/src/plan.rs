@@ -1,4 +1,4 @@
-//! The plan file of 01: what a plan holds, and a reader from bytes to a plan or a refusal.
+//! The plan file: what a plan holds, and a reader from bytes to a plan or a refusal.
 
 pub const COLUMNS: usize = 64;
 pub const EXPRESSIONS: usize = 1024;
@@ -6,7 +6,7 @@ pub const OPERATORS: usize = 128;
 pub const ITEMS: usize = 2048;
 pub const RESIDUALS: usize = 64;
 
-/// A refusal by its number in 01, with the place that a listing prints: a file offset for 1 to 5,
+/// A refusal by its number, with the place that a listing prints: a file offset for 1 to 5,
 /// otherwise an operator.
 #[derive(Debug, Clone, Copy, PartialEq, Eq)]
 pub struct Refusal {
@@ -257,7 +257,7 @@ impl Plan {
         operands.sum::<usize>() + self.operators.iter().map(Operator::items).sum::<usize>()
     }
 
-    /// Whether some size of 01 is passed.
+    /// Whether some size of the rules is passed.
     pub fn past_room(&self) -> bool {
         self.columns.len() > COLUMNS
             || self.exprs.len() > EXPRESSIONS

@@ -1,4 +1,4 @@
-//! Rows and truth, written from 01: whether an expression is TRUE, FALSE or UNKNOWN on a row.
+//! Rows and truth, written from the rules: whether an expression is TRUE, FALSE or UNKNOWN on a row.
 
 use crate::plan::{BAD_ROW, Comparison, Kind, Literal, NO_SUCH, Nary, Node, Plan, UNTYPED, Unary};
 

@@ -1,4 +1,4 @@
-//! Simplifying by optd's own `ExprSimplify`, with the refusals that 01 adds.
+//! Simplifying by optd's own `ExprSimplify`, with the refusals that the rules add.
 
 use optd_core::door;
 use optd_core::optimize::{ExprSimplify, OperatorRewrite, Rewrite};

@@ -40,7 +40,7 @@ pub trait Subject {
     }
 }
 
-/// The Rust itself, with the reader and the evaluator written from 01.
+/// The Rust itself, with the reader and the evaluator written from the rules.
 pub struct Oracle;
 
 fn on_plan(file: &[u8], answer: impl FnOnce(&Plan) -> String) -> String {

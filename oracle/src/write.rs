@@ -152,7 +152,7 @@ impl Writer {
     }
 }
 
-/// The plan's bytes as it stands, payloads of NaN included. A plan that breaks 01's rules is written
+/// The plan's bytes as it stands, payloads of NaN included. A plan that breaks the rules is written
 /// too: the generators make files that a reader has to refuse.
 pub fn raw(plan: &Plan) -> Vec<u8> {
     let mut writer = Writer::default();

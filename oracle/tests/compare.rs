@@ -12,7 +12,7 @@ use mossladder_oracle::simplify::{Answer, simplify};
 use mossladder_oracle::subject::{Oracle, Subject};
 use mossladder_oracle::write::{canonical, raw};
 
-/// The oracle with one fault, of the kinds that 01 calls easy to get wrong.
+/// The oracle with one fault, of kinds that are easy to get wrong.
 struct Broken(Fault);
 
 #[derive(Clone, Copy, PartialEq)]
@@ -190,7 +190,7 @@ fn a_question_is_its_operation_and_its_input() {
     assert_eq!(unhex("0g"), None);
 }
 
-/// 01: Keep appends nothing, and simplifying a simplified expression gives the same handle.
+/// The rules: Keep appends nothing, and simplifying a simplified expression gives the same handle.
 #[test]
 fn simplifying_twice_keeps() {
     let mut random = Random::new(5);

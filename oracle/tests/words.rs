@@ -1,4 +1,4 @@
-//! What 01 writes out, asked of the Rust itself.
+//! What the rules write out, asked of the Rust itself.
 
 use mossladder_oracle::builder::Builder;
 use mossladder_oracle::plan::Comparison::*;
@@ -169,7 +169,7 @@ fn rows_and_truth() {
     assert_eq!(Oracle.evaluate(&b.file(), never, &row), "false\n");
 }
 
-/// x, y are Int32 columns with lineage, z Int64, b Boolean: the columns of 01's proved cases.
+/// x, y are Int32 columns with lineage, z Int64, b Boolean: the columns of the proved cases (docs/PROMISES.md).
 struct Cases {
     builder: Builder,
     x: u16,

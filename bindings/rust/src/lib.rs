@@ -1,7 +1,8 @@
 //! What must hold of the rows of a query plan: safe functions over Mossladder's proved library.
 //!
-//! A plan comes as the bytes of a plan file. Every function takes any bytes and any numbers: what cannot be answered
-//! is a [`Refusal`]. No call keeps anything from another, so all of them can be made from many threads.
+//! A plan comes as the bytes of a plan file (`docs/FORMAT.md` of the repository). Every function takes any bytes and any
+//! numbers: what cannot be answered is a [`Refusal`]. No call keeps anything from another, so all of them can be made
+//! from many threads.
 //!
 //! What the library answers is proved to equal a definition on every input; this crate only carries bytes to it and
 //! back, and is tested, not proved. The memory that a call needs beside its reply lies on the stack: see [`STACK`].

@@ -166,13 +166,14 @@ fn bound_action(op: BinaryOp, value: usize, literal: ScalarValue) -> Action
 fn reversed_action(op: BinaryOp, value: usize, literal: ScalarValue) -> Action
     ensures { λ r. ⌜ r ≡ reversedAction op value literal ⌝ }
 {
+    let turned = comparison::reversed(op);
     match op {
         BinaryOp::Eq => literal_action(value, literal),
         BinaryOp::NotEq => Action::Residual,
-        BinaryOp::Lt => range_action(BinaryOp::Gt, value, literal),
-        BinaryOp::LtEq => range_action(BinaryOp::GtEq, value, literal),
-        BinaryOp::Gt => range_action(BinaryOp::Lt, value, literal),
-        BinaryOp::GtEq => range_action(BinaryOp::LtEq, value, literal),
+        BinaryOp::Lt => range_action(turned, value, literal),
+        BinaryOp::LtEq => range_action(turned, value, literal),
+        BinaryOp::Gt => range_action(turned, value, literal),
+        BinaryOp::GtEq => range_action(turned, value, literal),
         BinaryOp::IsNotDistinctFrom => Action::Residual,
     }
 }

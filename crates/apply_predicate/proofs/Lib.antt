@@ -1,3 +1,4 @@
 pub mod Collecting
 pub mod Walking
 pub mod Handing
+pub mod Answering

@@ -1,9 +1,13 @@
-// Applying a predicate to a set: its conjuncts are collected some at a time, or all of them without those that repeat, and then applied to the set.
-// A walk is 6 KB, so it is not handed on for a single conjunct.
+// Applying a predicate to facts, after the Rust's `apply_predicate`: its conjuncts are collected some at a time, or all of them without those that repeat,
+// and then applied to the set. A walk is 6 KB, so it is not handed on for a single conjunct.
+use apply_spec::FactsAnswer;
+use apply_spec::LogicalFacts;
 use apply_walk::Move;
 use apply_walk::Walk;
 use constraint_spec::Applied;
 use constraint_spec::ConstraintSet;
+use plan::Expr;
+use plan::Plan;
 ghost use mathlib.Core.Path.{_≡_};
 ghost use mathlib.Core.Bool.{true};
 ghost use mathlib.Core.List.{List, _++_};
@@ -13,6 +17,7 @@ ghost use Rattle.constraint_spec.specs.Sets.{done};
 ghost use Rattle.plan_data.specs.Nodes.{nodeOf};
 ghost use Rattle.apply_spec.specs.Conjuncts.{conjunctsOf};
 ghost use Rattle.apply_spec.specs.Apply.{conjunctApplied, allApplied};
+ghost use Rattle.apply_spec.specs.Entries.{appliedTo, applyPredicate};
 ghost use Rattle.apply_walk.specs.Walks.{isAnd};
 ghost use Rattle.apply_walk.proofs.Rests.{Good, restOf, stepsLeft};
 ghost use Rattle.apply_shared_laws.specs.Given.{orGiven};
@@ -245,7 +250,7 @@ fn apply_and<'a>(
 }
 
 // All conjuncts of the expression e.
-pub fn apply_to<'a>(
+fn apply_to<'a>(
     kind: &'a [u8; 1024],
     code: &'a [u8; 1024],
     a: &'a [u16; 1024],
@@ -271,4 +276,45 @@ pub fn apply_to<'a>(
     }
     let one = apply_conjuncts::apply_one(kind, code, a, b, bits, start, lineage, s, e);
     given_back(s, one)
+}
+
+// All conjuncts of an expression of the plan, applied to facts that keep the rules of facts.
+pub fn apply_to_facts(p: Plan, f: LogicalFacts, e: Expr) -> FactsAnswer
+    ensures { λ r. ⌜ r ≡ appliedTo p f e ⌝ }
+{
+    let x = p.expressions;
+    let t = p.items;
+    let s = f.constraints;
+    let a = apply_to(
+        &x.kind,
+        &x.code,
+        &x.a,
+        &x.b,
+        &x.bits,
+        &x.start,
+        &t.a,
+        &f.lineage,
+        s,
+        e.0,
+    );
+    logical_facts::answer(f, f, a)
+}
+
+// The same for a plan, a handle and facts from outside, which are tested first.
+pub fn apply_predicate(p: Plan, f: LogicalFacts, e: Expr) -> FactsAnswer
+    ensures { λ r. ⌜ r ≡ applyPredicate p f e ⌝ }
+{
+    let x = p.expressions;
+    let n = x.count;
+    let h = e.0;
+    if !plan_rules::plan_ok(p) {
+        return logical_facts::no_such(f);
+    }
+    if n <= h {
+        return logical_facts::no_such(f);
+    }
+    if !logical_facts::facts_ok(p, f) {
+        return logical_facts::no_such(f);
+    }
+    apply_to_facts(p, f, e)
 }

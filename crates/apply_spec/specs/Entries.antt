@@ -34,11 +34,15 @@ answered old f a = cond (a .refused) (refused old Residuals) (accepted (withCons
 unfoldable pub predicateApplied : Plan → List ℕ → ConstraintSet → ℕ → Applied
 predicateApplied p lineage s e = allApplied (conjunctApplied lineage (nodeAt p)) (conjunctsOf (nodeAt p) (p .items .a) e) (done s)
 
+-- to facts, without the tests
+abbrev pub appliedTo : Plan → LogicalFacts → Expr → FactsAnswer
+appliedTo p f e = answered f f (predicateApplied p (f .lineage) (f .constraints) (e .0))
+
 -- 8 where the expression is not in the plan, or the plan or the facts break the rules
 unfoldable pub applyPredicate : Plan → LogicalFacts → Expr → FactsAnswer
 applyPredicate p f e =
     cond (planOk p && (ltb (e .0) (p .expressions .count) && factsOk p f))
-    (answered f f (predicateApplied p (f .lineage) (f .constraints) (e .0)))
+    (appliedTo p f e)
     (refused f NoSuch)
 
 -- ---- `merge_inputs`

@@ -78,7 +78,7 @@ fn in_turn(p: Plan, f: LogicalFacts, predicates: &[u16]) -> InTurn
     let mut k: usize = 0;
     while k < predicates.len() {
         let e = lists::at16(predicates, k);
-        let a = logical_facts::apply_predicate(p, facts, Expr(e));
+        let a = apply_predicate::apply_predicate(p, facts, Expr(e));
         let next = a.facts;
         let o = a.outcome;
         if refusals::outcome_number(o) != 0 {

@@ -5,7 +5,6 @@ use mathlib.Core.List.{List}
 use Prim.Native.Nat.{ℕ, _+_, _-_, _<_, _≤_}
 use native.Mathlib.Numerals.{add-one}
 use borrow.Author.Tests.{lt-ltb}
-use lib.Ieee.{Float}
 use lib.ListN.{getD, set, replicate}
 use Rattle.lists.specs.Ranges.{anyFrom}
 use Rattle.lists.proofs.RangeLaws.{any-step, any-done}
@@ -13,9 +12,7 @@ use Rattle.scalar.specs.Kinds.{isNull}
 use Rattle.scalar.specs.declared.ScalarValue.{ScalarValue}
 use Rattle.value_range.specs.Ranges.{emptyRange}
 use Rattle.value_range.specs.declared.ValueRange.{ValueRange}
-use Rattle.comparison.specs.Operators.{bounding}
-use Rattle.comparison.specs.declared.BinaryOp.{BinaryOp}
-use Rattle.constraint_spec.specs.Sets.{crossCheck, boundsBy, addBound, none, held, noEntry, entryOf, nonNulls, literals, nonNullAt, literalAt}
+use Rattle.constraint_spec.specs.Sets.{crossCheck, none, held, noEntry, entryOf, nonNulls, literals, nonNullAt, literalAt}
 use Rattle.constraint_spec.specs.Sets.{entryAt, canonicalAt, withNonNulls, withLiterals, withRanges, flagIf, clashes, rangeIn, tightenBy, putNonNull}
 use Rattle.constraint_spec.specs.Sets.{putLiteral, layRange, putRange, stepsTo, moveNonNull, moveLiteral, moveRange, nonNullsMoved, literalsMoved}
 use Rattle.constraint_spec.specs.Sets.{rangesMoved, addLiteral, mergeLiteral}
@@ -62,7 +59,7 @@ pub range-put : (t : ConstraintSet) (r : ℕ) (new range : ValueRange) (now : En
 unfolding putRange layRange
 range-put t r new range now empty er en ee = rw (← er, ← en, ← ee)
 
--- what the code of `add_literal` and `add_range` comes to
+-- what the code of `add_literal` comes to
 abbrev pub nullWritten : ConstraintSet → ℕ → ConstraintSet
 nullWritten s r = withNonNulls s (set (nonNulls s) r true)
 
@@ -70,19 +67,6 @@ module _ (s : ConstraintSet) (i : ℕ) (h : i < 128) (r : ℕ) (d : r ≡ canoni
   pub literal-added : (l : ScalarValue) (u q : ConstraintSet) → isNull l ≡ false → u ≡ putLiteral (putNonNull s r) r l → q ≡ crossCheck u → q ≡ addLiteral s i l
   unfolding addLiteral
   literal-added l u q n eu eq = rw (lt-ltb _ _ h, n, ← d) (eq ∙ ap crossCheck eu)
-
-  pub bound-added : (op : BinaryOp) (x : Float) (new range : ValueRange) (now : Entry) (empty : Bool) (q : ConstraintSet) → bounding op ≡ true → new
-      ≡ boundsBy op x → range ≡ tightenBy (rangeIn (entryAt s r)) new
-      → now ≡ entryOf range → empty ≡ emptyRange range → q ≡ crossCheck (flagIf empty (rangeWritten (nullWritten s r) r now)) → q ≡ addBound s i op x
-  unfolding addBound putNonNull
-  bound-added op x new range now empty q b e er en ee eq = rw (lt-ltb _ _ h, b, ← d, ← e)
-      (eq ∙ ap crossCheck (range-put (nullWritten s r) r new range now empty er en ee))
-
-  pub entry-added : (op : BinaryOp) (x : Float) (new range : ValueRange) (now : Entry) → bounding op ≡ false → new ≡ boundsBy op x → range ≡ tightenBy
-      (rangeIn (entryAt s r)) new → now ≡ entryOf range
-      → rangeWritten (nullWritten s r) r now ≡ addBound s i op x
-  unfolding addBound putNonNull
-  entry-added op x new range now b e er en = rw (lt-ltb _ _ h, b, ← d, ← e) (range-lay (nullWritten s r) r new range now er en)
 
 -- ---- the passes of normalize after i identities
 unfoldable pub nullsAfter : ConstraintSet → ℕ → ConstraintSet

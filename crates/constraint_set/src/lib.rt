@@ -6,16 +6,14 @@ ghost use Prim.Native.Nat.{_<_};
 ghost use Rattle.value_classes.specs.Classes.{sameClass};
 ghost use Rattle.constraint_spec.specs.Sets.{held, setOk, canonicalAt, entryOf, clashes, rangeIn, lowerBy, upperBy, tightenBy, outside, crossed};
 ghost use Rattle.constraint_spec.specs.Sets.{crossCheck, nonNullsMoved, literalsMoved, rangesMoved, normalized, putNonNull, putLiteral, unionValues};
-ghost use Rattle.constraint_spec.specs.Sets.{addNonNull, addLiteral, boundsBy, addBound, addRange, addResidual, mergeLiterals};
+ghost use Rattle.constraint_spec.specs.Sets.{addLiteral, boundsBy, mergeLiterals};
 ghost use Rattle.constraint_set.specs.Checked.{Checked};
 ghost use Rattle.constraint_set.specs.Kept.{hasIn, keptBy};
 ghost use Rattle.constraint_set.specs.Settled.{literalOn, literalBad, rangeOn, rangeBad, placeOf};
 use comparison::BinaryOp;
-use constraint_spec::Applied;
 use constraint_spec::ConstraintSet;
 use constraint_spec::Entry;
 use constraint_spec::Holder;
-use constraint_spec::Ranged;
 use scalar::Number;
 use scalar::ScalarValue;
 use value_classes::ValueEquivalenceClasses;
@@ -298,19 +296,6 @@ pub fn union_values(s: ConstraintSet, left: usize, right: usize) -> ConstraintSe
     s
 }
 
-pub fn add_non_null(s: ConstraintSet, value: usize) -> ConstraintSet
-    ensures { λ q. ⌜ q ≡ addNonNull s value ⌝ }
-{
-    if 128 <= value {
-        return s;
-    }
-    let classes = s.equivalence_classes;
-    let r = classes.canonical(value);
-    let mut t = s;
-    t.non_null_values[r] = true;
-    t
-}
-
 // A literal at the representative r, which is then not NULL.
 fn put_literal(s: ConstraintSet, r: usize, literal: ScalarValue) -> ConstraintSet
     requires { ⌜ r < 128 ⌝ }
@@ -398,50 +383,6 @@ pub fn bounds_by(op: BinaryOp, x: f64) -> ValueRange
     }
 }
 
-fn add_bound(s: ConstraintSet, value: usize, op: BinaryOp, x: f64) -> ConstraintSet
-    ensures { λ q. ⌜ q ≡ addBound s value op x ⌝ }
-{
-    if 128 <= value {
-        return s;
-    }
-    let mut t = s;
-    let classes = t.equivalence_classes;
-    let r = classes.canonical(value);
-    let old = t.ranges[r];
-    let new = bounds_by(op, x);
-    let range = tightened(old, new);
-    let e = entry_of(range);
-    t.non_null_values[r] = true;
-    t.ranges[r] = e;
-    if comparison::is_bounding(op) {
-        let empty = range.is_empty();
-        let was = t.contradictory;
-        t.contradictory = was | empty;
-        return cross_check_literals_and_ranges(t);
-    }
-    t
-}
-
-pub fn add_range(s: ConstraintSet, value: usize, op: BinaryOp, literal: ScalarValue) -> Ranged
-    ensures { λ q. ⌜ q ≡ addRange s value op literal ⌝ }
-{
-    let number = scalar::scalar_to_f64(literal);
-    match number {
-        Number::Of(x) => {
-            let t = add_bound(s, value, op, x);
-            let recorded = comparison::is_bounding(op);
-            Ranged {
-                constraints: t,
-                recorded,
-            }
-        }
-        Number::Nothing => Ranged {
-            constraints: s,
-            recorded: false,
-        },
-    }
-}
-
 // ---- residuals
 
 fn has_handle(list: [u16; 64], count: usize, h: u16) -> bool
@@ -481,23 +422,6 @@ pub fn push_handle(list: [u16; 64], count: usize, h: u16) -> Kept
         list: longer,
         count: count + 1,
         refused: false,
-    }
-}
-
-pub fn add_residual(s: ConstraintSet, predicate: u16) -> Applied
-    ensures { λ q. ⌜ q ≡ addResidual s predicate ⌝ }
-{
-    let list = s.residual_predicates;
-    let count = s.residuals;
-    let k = push_handle(list, count, predicate);
-    let refused = k.refused;
-    let longer = k.list;
-    let mut t = s;
-    t.residual_predicates = longer;
-    t.residuals = k.count;
-    Applied {
-        constraints: t,
-        refused,
     }
 }
 

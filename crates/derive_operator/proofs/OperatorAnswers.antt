@@ -3,14 +3,11 @@ use mathlib.Core.Path.{_≡_, refl, sym, ap, _∙_}
 use mathlib.Core.Bool.{Bool, true, false, cond, _&&_}
 use Rattle.constraint_spec.specs.Sets.{emptySet}
 use Rattle.constraint_spec.specs.declared.ConstraintSet.{ConstraintSet}
-use Rattle.constraint_spec.specs.declared.Applied.{Applied}
 use Rattle.plan.specs.declared.Plan.{Plan}
 use Rattle.plan.specs.declared.Operator.{Operator}
 use Rattle.plan_data.specs.Nodes.{nodeAt}
 use Rattle.plan_data.specs.declared.Run.{Run}
 use Rattle.plan_identities.specs.declared.Identities.{Identities}
-use Rattle.apply_spec.specs.Facts.{withConstraints}
-use Rattle.apply_spec.specs.Entries.{answered}
 use Rattle.apply_spec.specs.declared.LogicalFacts.{LogicalFacts}
 use Rattle.apply_spec.specs.declared.FactsAnswer.{FactsAnswer}
 use Rattle.apply_spec.specs.declared.Outcome.the-variants as O
@@ -34,15 +31,7 @@ module _ (d : DeriveAnswer) (make : LogicalFacts → DeriveAnswer) (b : Bool) (t
   unfolding given
   given-stays n = rw (sym t ∙ n)
 
--- ---- what applying said
-module _ (h : Operator) (f : LogicalFacts) (a : Applied) (q : DeriveAnswer) where
-  pub applied-refused : a .refused ≡ true → q ≡ refused (Residuals h) → q ≡ fitted h (answered f f a)
-  applied-refused y e = rw y e
-
-  pub applied-done : a .refused ≡ false → q ≡ accepted (withConstraints f (a .constraints)) → q ≡ fitted h (answered f f a)
-  applied-done n e = rw n e
-
--- ---- what merging said
+-- ---- what applying or merging said
 module _ (h : Operator) (a : FactsAnswer) (q : DeriveAnswer) where
   pub fit-done : a .outcome ≡ O.Accepted → q ≡ accepted (a .facts) → q ≡ fitted h a
   fit-done y e = rw y e

@@ -2,7 +2,6 @@
 use apply_spec::FactsAnswer;
 use apply_spec::LogicalFacts;
 use apply_spec::Outcome;
-use constraint_spec::Applied;
 use constraint_spec::ConstraintSet;
 use derive_spec::ColumnFacts;
 use derive_spec::DeriveAnswer;
@@ -20,7 +19,7 @@ ghost use mathlib.Core.Bool.{true, false};
 ghost use Rattle.constraint_spec.specs.Sets.{emptySet};
 ghost use Rattle.plan_data.specs.Nodes.{nodeAt};
 ghost use Rattle.apply_spec.specs.Facts.{withConstraints};
-ghost use Rattle.apply_spec.specs.Entries.{answered, inputsMerged};
+ghost use Rattle.apply_spec.specs.Entries.{inputsMerged};
 ghost use Rattle.derive_spec.specs.Columns.{noColumns, columnsIn, factsWith, derivedColumn, scanned, derivedColumns, projected, renamed, mapped};
 ghost use Rattle.derive_spec.specs.Operators.{isAccepted, accepted, refused, given, fitted, filtered, joined, grouped, operatorDerived, outerOf, innerOf};
 
@@ -93,7 +92,7 @@ fn accept_with(t: ColumnFacts, s: ConstraintSet) -> DeriveAnswer
     accept(f)
 }
 
-// What merging said is the answer of the operator h.
+// What applying or merging said is the answer of the operator h.
 fn fit(h: Operator, a: FactsAnswer) -> DeriveAnswer
     ensures { λ r. ⌜ r ≡ fitted h a ⌝ }
 {
@@ -106,18 +105,6 @@ fn fit(h: Operator, a: FactsAnswer) -> DeriveAnswer
         Outcome::Residuals => refuse(DeriveOutcome::Residuals(h)),
         Outcome::NoSuch => refuse(DeriveOutcome::NoSuch(h)),
     }
-}
-
-// What applying said is.
-fn fit_applied(h: Operator, f: LogicalFacts, a: Applied) -> DeriveAnswer
-    ensures { λ r. ⌜ r ≡ fitted h (answered f f a) ⌝ }
-{
-    if a.refused {
-        return refuse(DeriveOutcome::Residuals(h));
-    }
-    let s = a.constraints;
-    let g = with_constraints(f, s);
-    accept(g)
 }
 
 // ---- kinds of operators
@@ -142,34 +129,14 @@ fn derived_columns(p: Plan, ids: Identities, columns: Run) -> DeriveAnswer
     accept_with(t, s)
 }
 
-fn filter(p: Plan, h: Operator, e: Expr, f: LogicalFacts) -> DeriveAnswer
-    ensures { λ r. ⌜ r ≡ fitted h (filtered p e f) ⌝ }
-{
-    let x = p.expressions;
-    let t = p.items;
-    let s = f.constraints;
-    let a = apply_predicate::apply_to(
-        &x.kind,
-        &x.code,
-        &x.a,
-        &x.b,
-        &x.bits,
-        &x.start,
-        &t.a,
-        &f.lineage,
-        s,
-        e.0,
-    );
-    fit_applied(h, f, a)
-}
-
 fn selection(p: Plan, h: Operator, predicate: Expr, l: DeriveAnswer) -> DeriveAnswer
     ensures { λ r. ⌜ r ≡ given l (λ f. fitted h (filtered p predicate f)) ⌝ }
 {
     let o = l.outcome;
     if is_accepted(o) {
         let f = l.facts;
-        return filter(p, h, predicate, f);
+        let a = apply_predicate::apply_to_facts(p, f, predicate);
+        return fit(h, a);
     }
     l
 }

@@ -16,7 +16,7 @@ use Rattle.plan_data.specs.declared.OperatorData.the-variants.{Scan, ConstScan,
 use Rattle.plan_data.specs.declared.OperatorData.the-variants.{Limit, Output, CrossProduct, Join}
 use Rattle.plan_identities.specs.declared.Identities.{Identities}
 use Rattle.apply_spec.specs.Facts.{emptyFacts, withConstraints}
-use Rattle.apply_spec.specs.Entries.{answered, predicateApplied, inputsMerged}
+use Rattle.apply_spec.specs.Entries.{appliedTo, inputsMerged}
 use Rattle.apply_spec.specs.declared.LogicalFacts.{LogicalFacts}
 use Rattle.apply_spec.specs.declared.FactsAnswer.{FactsAnswer}
 use Rattle.apply_spec.specs.declared.Outcome.{Outcome}
@@ -68,9 +68,9 @@ fittedBy h f O.NoSuch = refused (NoSuch h)
 abbrev pub fitted : Operator → FactsAnswer → DeriveAnswer
 fitted h a = fittedBy h (a .facts) (a .outcome)
 
--- `apply_predicate` of an expression of the plan
+-- `apply_predicate` of an expression of the plan, to facts that were derived
 unfoldable pub filtered : Plan → Expr → LogicalFacts → FactsAnswer
-filtered p e f = answered f f (predicateApplied p (f .lineage) (f .constraints) (e .0))
+filtered p e f = appliedTo p f e
 
 -- ---- joins of f and g by the operator h; only Inner looks at what it joins on
 abbrev pub joined : Plan → Identities → Operator → Expr → LogicalFacts → LogicalFacts → JoinType → DeriveAnswer

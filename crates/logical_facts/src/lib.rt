@@ -1,19 +1,18 @@
-// Applying a predicate to facts and merging the facts of two inputs, after the Rust's `apply_predicate` and `merge_inputs`. Facts go in by value
-// and come back; what is passed in from outside is tested first.
+// The rules of facts, and the facts of two inputs merged, after the Rust's `merge_inputs`. Facts go in by value and come back; what is passed in from
+// outside is tested first.
 use apply_spec::FactsAnswer;
 use apply_spec::LogicalFacts;
 use apply_spec::Outcome;
 use constraint_spec::Applied;
 use constraint_spec::ConstraintSet;
 use plan::Column;
-use plan::Expr;
 use plan::Plan;
 ghost use mathlib.Core.Path.{_≡_};
 ghost use mathlib.Core.Bool.{cond};
 ghost use Rattle.lists.specs.Ranges.{allFrom};
 ghost use Rattle.constraint_spec.specs.Sets.{done, mergeFrom};
 ghost use Rattle.apply_spec.specs.Facts.{lineageOk, definitionOk, residualOk, factsOk};
-ghost use Rattle.apply_spec.specs.Entries.{answered, refused, overridden, inputsMerged, applyPredicate, mergeInputs};
+ghost use Rattle.apply_spec.specs.Entries.{answered, refused, overridden, inputsMerged, mergeInputs};
 ghost use Rattle.logical_facts.specs.Columns.{valueForColumn, canonicalValueForColumn, overOf, columnsOver};
 
 // The identity of a column, if it has one.
@@ -112,7 +111,7 @@ pub fn facts_ok(p: Plan, f: LogicalFacts) -> bool
 // ---- the public entries
 
 // A refusal hands back the facts that were passed in.
-fn answer(old: LogicalFacts, f: LogicalFacts, a: Applied) -> FactsAnswer
+pub fn answer(old: LogicalFacts, f: LogicalFacts, a: Applied) -> FactsAnswer
     ensures { λ r. ⌜ r ≡ answered old f a ⌝ }
 {
     let s = a.constraints;
@@ -130,44 +129,14 @@ fn answer(old: LogicalFacts, f: LogicalFacts, a: Applied) -> FactsAnswer
     }
 }
 
-fn no_such(f: LogicalFacts) -> FactsAnswer
+// Facts that are refused for what they are.
+pub fn no_such(f: LogicalFacts) -> FactsAnswer
     ensures { λ r. ⌜ r ≡ refused f Outcome.NoSuch ⌝ }
 {
     FactsAnswer {
         facts: f,
         outcome: Outcome::NoSuch,
     }
-}
-
-pub fn apply_predicate(p: Plan, f: LogicalFacts, e: Expr) -> FactsAnswer
-    ensures { λ r. ⌜ r ≡ applyPredicate p f e ⌝ }
-{
-    let x = p.expressions;
-    let t = p.items;
-    let s = f.constraints;
-    let h = e.0;
-    if !plan_rules::plan_ok(p) {
-        return no_such(f);
-    }
-    if x.count <= h {
-        return no_such(f);
-    }
-    if !facts_ok(p, f) {
-        return no_such(f);
-    }
-    let a = apply_predicate::apply_to(
-        &x.kind,
-        &x.code,
-        &x.a,
-        &x.b,
-        &x.bits,
-        &x.start,
-        &t.a,
-        &f.lineage,
-        s,
-        h,
-    );
-    answer(f, f, a)
 }
 
 // What the right has of a column stands.

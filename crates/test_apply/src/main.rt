@@ -5,7 +5,6 @@
 // with its constraints where the code is 1. An application and a merge write the refusal's number, 0 for none.
 use apply_spec::FactsAnswer;
 use apply_spec::LogicalFacts;
-use apply_spec::Outcome;
 use constraint_spec::ConstraintSet;
 use constraint_spec::Entry;
 use constraint_spec::Holder;
@@ -14,7 +13,6 @@ use plan::Plan;
 use plan_kinds::Record;
 use scalar::ScalarValue;
 use value_range::Bound;
-ghost use Prim.Native.Nat.{_<_};
 
 const STEPS: u32 = 4000000;
 
@@ -22,52 +20,6 @@ struct State {
     plan: Plan,
     left: LogicalFacts,
     right: LogicalFacts,
-}
-
-fn byte(s: &[u8], i: usize) -> u8 {
-    lists::at8(s, i)
-}
-
-fn word(high: u8, low: u8) -> u16 {
-    high as u16 * 256 + low as u16
-}
-
-fn long(high: u16, low: u16) -> u64
-    ensures { λ r. ⌜ r < 4294967296 ⌝ }
-{
-    high as u64 * 65536 + low as u64
-}
-
-fn bits(s: &[u8]) -> u64 {
-    let high = long(
-        word(byte(s, 12), byte(s, 13)),
-        word(byte(s, 14), byte(s, 15)),
-    );
-    let low = long(
-        word(byte(s, 16), byte(s, 17)),
-        word(byte(s, 18), byte(s, 19)),
-    );
-    high * 4294967296 + low
-}
-
-fn first(s: &[u8]) -> u16 {
-    word(byte(s, 4), byte(s, 5))
-}
-
-fn second(s: &[u8]) -> u16 {
-    word(byte(s, 6), byte(s, 7))
-}
-
-fn record(s: &[u8]) -> Record {
-    Record {
-        kind: byte(s, 1),
-        code: byte(s, 2),
-        a: first(s),
-        b: second(s),
-        c: 0,
-        d: 0,
-        bits: bits(s),
-    }
 }
 
 fn plain(kind: u8, a: u16) -> Record {
@@ -106,24 +58,10 @@ fn nested(p: Plan, n: u16, e: u16) -> Plan {
 }
 
 fn planned(p: Plan, s: &[u8]) -> Plan {
-    let x = record(s);
-    let what = byte(s, 0);
-    if what == 1 {
-        let r = p.append_column(x);
-        return r.plan;
+    if lists::at8(s, 0) == 4 {
+        return nested(p, test_input::word(s, 4), test_input::word(s, 6));
     }
-    if what == 2 {
-        let r = p.append_expr(x, word(byte(s, 8), byte(s, 9)));
-        return r.plan;
-    }
-    if what == 3 {
-        let r = p.append_item(x);
-        return r.plan;
-    }
-    if what == 4 {
-        return nested(p, first(s), second(s));
-    }
-    p
+    test_input::planned(p, s)
 }
 
 // ---- what is written
@@ -137,8 +75,21 @@ fn end_line() {
     io::write_all(1, b"\n");
 }
 
-fn flag(b: bool) -> u64 {
-    if b { 1 } else { 0 }
+// A word and a number, the beginning of a line.
+fn named(name: &[u8], a: u64) {
+    io::write_all(1, name);
+    say(a);
+}
+
+fn line(name: &[u8], a: u64) {
+    named(name, a);
+    end_line();
+}
+
+fn pair(name: &[u8], a: u64, b: u64) {
+    named(name, a);
+    say(b);
+    end_line();
 }
 
 // The bits, and 1 exclusive or 2 inclusive; 0 and 0 for none.
@@ -152,11 +103,10 @@ fn bound(b: Bound) {
     }
 }
 
-fn list_literal(i: usize, h: Holder) {
+fn list_literal(i: u64, h: Holder) {
     if h.present {
         let v = h.value;
-        io::write_all(1, b"literal");
-        say(i as u64);
+        named(b"literal", i);
         say(scalar::case_of(v) as u64);
         say(scalar::code_of(v) as u64);
         say(scalar::bits_of(v));
@@ -164,33 +114,25 @@ fn list_literal(i: usize, h: Holder) {
     }
 }
 
-fn list_range(i: usize, e: Entry) {
+fn list_range(i: u64, e: Entry) {
     if e.present {
         let range = e.range;
-        let lower = range.lower;
-        let upper = range.upper;
-        io::write_all(1, b"range");
-        say(i as u64);
-        bound(lower);
-        bound(upper);
+        named(b"range", i);
+        bound(range.lower);
+        bound(range.upper);
         end_line();
     }
 }
 
-fn list_member(i: usize, r: usize) {
+fn list_member(i: u64, r: u64) {
     if r != i {
-        io::write_all(1, b"member");
-        say(i as u64);
-        say(r as u64);
-        end_line();
+        pair(b"member", i, r);
     }
 }
 
-fn list_non_null(i: usize, known: bool) {
+fn list_non_null(i: u64, known: bool) {
     if known {
-        io::write_all(1, b"nonnull");
-        say(i as u64);
-        end_line();
+        line(b"nonnull", i);
     }
 }
 
@@ -199,10 +141,11 @@ fn list_identities(s: ConstraintSet) {
     while i < 128 {
         let h = s.literal_equalities[i];
         let e = s.ranges[i];
-        list_member(i, constraint_set::canonical(s, i));
-        list_non_null(i, s.non_null_values[i]);
-        list_literal(i, h);
-        list_range(i, e);
+        let n = i as u64;
+        list_member(n, constraint_set::canonical(s, i) as u64);
+        list_non_null(n, s.non_null_values[i]);
+        list_literal(n, h);
+        list_range(n, e);
         i += 1;
     }
 }
@@ -210,19 +153,14 @@ fn list_identities(s: ConstraintSet) {
 fn list_residuals(list: [u16; 64], count: usize) {
     let mut k: usize = 0;
     while k < count {
-        io::write_all(1, b"residual");
-        say(lists::at16(&list, k) as u64);
-        end_line();
+        line(b"residual", lists::at16(&list, k) as u64);
         k += 1;
     }
 }
 
 fn list_lineage(c: usize, v: u8) {
     if v != 0 {
-        io::write_all(1, b"column");
-        say(c as u64);
-        say(v as u64 - 1);
-        end_line();
+        pair(b"column", c as u64, v as u64 - 1);
     }
 }
 
@@ -238,79 +176,83 @@ fn list(f: LogicalFacts) {
     let s = f.constraints;
     let lineage = f.lineage;
     let residuals = s.residual_predicates;
-    io::write_all(1, b"facts");
-    say(flag(s.contradictory));
-    end_line();
+    line(b"facts", if s.contradictory { 1 } else { 0 });
     list_columns(lineage);
     list_identities(s);
     list_residuals(residuals, s.residuals);
 }
 
-fn number(o: Outcome) -> u64 {
-    match o {
-        Outcome::Accepted => 0,
-        Outcome::Residuals => 7,
-        Outcome::NoSuch => 8,
-    }
-}
-
 fn written(a: FactsAnswer) -> LogicalFacts {
     let o = a.outcome;
-    io::write_all(1, b"refused");
-    say(number(o));
-    end_line();
+    line(b"refused", refusals::outcome_number(o) as u64);
     a.facts
 }
 
 // ---- steps
 
 fn with_lineage(f: LogicalFacts, s: &[u8]) -> LogicalFacts {
-    let c = byte(s, 3) as usize;
+    let c = lists::at8(s, 3) as usize;
     let mut g = f;
     if c < 64 {
-        g.lineage[c] = byte(s, 5);
+        g.lineage[c] = lists::at8(s, 5);
     }
     g
 }
 
+// What the library promises of an answer is known in the next two alone: a function of many branches that knew of it would take longer to prove.
+fn applied(p: Plan, f: LogicalFacts, e: u16) -> LogicalFacts {
+    written(apply_predicate::apply_predicate(p, f, Expr(e)))
+}
+
+fn merged(p: Plan, f: LogicalFacts, g: LogicalFacts, all: bool) -> LogicalFacts {
+    written(logical_facts::merge_inputs(p, f, g, all))
+}
+
 // What a step makes of the left facts.
 fn changed(p: Plan, f: LogicalFacts, g: LogicalFacts, s: &[u8]) -> LogicalFacts {
-    let what = byte(s, 0);
+    let what = lists::at8(s, 0);
     if what == 5 {
         return with_lineage(f, s);
     }
     if what == 6 {
-        return written(logical_facts::apply_predicate(p, f, Expr(first(s))));
+        return applied(p, f, test_input::word(s, 4));
     }
     if what == 7 {
         list(f);
         return f;
     }
     if what == 9 {
-        return written(logical_facts::merge_inputs(p, f, g, byte(s, 2) == 1));
+        return merged(p, f, g, lists::at8(s, 2) == 1);
     }
     f
 }
 
+fn fresh() -> State {
+    State {
+        plan: Plan::empty(),
+        left: LogicalFacts::empty(),
+        right: LogicalFacts::empty(),
+    }
+}
+
+fn exchanged(s: State) -> State {
+    let plan = s.plan;
+    let left = s.right;
+    let right = s.left;
+    State { plan, left, right }
+}
+
 fn step(s: State, buf: &[u8]) -> State {
+    let what = lists::at8(buf, 0);
+    if what == 0 {
+        return fresh();
+    }
+    if what == 8 {
+        return exchanged(s);
+    }
     let p = s.plan;
     let f = s.left;
     let g = s.right;
-    let what = byte(buf, 0);
-    if what == 0 {
-        return State {
-            plan: Plan::empty(),
-            left: LogicalFacts::empty(),
-            right: LogicalFacts::empty(),
-        };
-    }
-    if what == 8 {
-        return State {
-            plan: p,
-            left: g,
-            right: f,
-        };
-    }
     State {
         plan: planned(p, buf),
         left: changed(p, f, g, buf),
@@ -320,11 +262,7 @@ fn step(s: State, buf: &[u8]) -> State {
 
 fn main() {
     let mut buf = [0u8; 20];
-    let mut s = State {
-        plan: Plan::empty(),
-        left: LogicalFacts::empty(),
-        right: LogicalFacts::empty(),
-    };
+    let mut s = fresh();
     for _ in 0..STEPS {
         let n = io::read_full(0, &mut buf);
         if n < 20 {

@@ -8,10 +8,8 @@ use constraint_spec::ConstraintSet;
 use constraint_spec::Entry;
 use constraint_spec::Holder;
 use derive_spec::DeriveAnswer;
-use derive_spec::DeriveOutcome;
 use plan::Operator;
 use plan::Plan;
-use plan_file::Reading;
 use plan_identities::Identities;
 use plan_identities::ValueId;
 use value_range::Bound;
@@ -22,32 +20,7 @@ fn number(n: u64) {
 }
 
 fn flag(b: bool) {
-    if b {
-        number(1);
-    } else {
-        number(0);
-    }
-}
-
-fn outcome(o: DeriveOutcome) {
-    match o {
-        DeriveOutcome::Accepted => {
-            number(0);
-            number(0);
-        }
-        DeriveOutcome::UnsupportedKey(h) => {
-            number(6);
-            number(h.0 as u64);
-        }
-        DeriveOutcome::Residuals(h) => {
-            number(7);
-            number(h.0 as u64);
-        }
-        DeriveOutcome::NoSuch(h) => {
-            number(8);
-            number(h.0 as u64);
-        }
-    }
+    number(if b { 1 } else { 0 });
 }
 
 fn identity(ids: Identities, n: u8) {
@@ -64,8 +37,7 @@ fn identity(ids: Identities, n: u8) {
     }
 }
 
-fn column(ids: Identities, f: LogicalFacts, c: usize) {
-    let v = lists::at8(&f.lineage, c);
+fn column(ids: Identities, c: usize, v: u8) {
     if 0 < v {
         io::write_all(1, b"c ");
         number(c as u64);
@@ -73,8 +45,7 @@ fn column(ids: Identities, f: LogicalFacts, c: usize) {
     }
 }
 
-fn definition(f: LogicalFacts, c: usize) {
-    let v = lists::at16(&f.definitions, c);
+fn definition(c: usize, v: u16) {
     if 0 < v {
         io::write_all(1, b"d ");
         number(c as u64);
@@ -82,8 +53,7 @@ fn definition(f: LogicalFacts, c: usize) {
     }
 }
 
-fn member(ids: Identities, s: ConstraintSet, i: u8) {
-    let r = constraint_set::canonical(s, i as usize);
+fn member(ids: Identities, i: u8, r: usize) {
     if r < i as usize {
         io::write_all(1, b"k ");
         identity(ids, i);
@@ -91,14 +61,10 @@ fn member(ids: Identities, s: ConstraintSet, i: u8) {
     }
 }
 
-fn non_null(ids: Identities, s: ConstraintSet, i: u8) {
-    let known = s.non_null_values;
-    let k = i as usize;
-    if k < 128 {
-        if known[k] {
-            io::write_all(1, b"n ");
-            identity(ids, i);
-        }
+fn non_null(ids: Identities, i: u8, known: bool) {
+    if known {
+        io::write_all(1, b"n ");
+        identity(ids, i);
     }
 }
 
@@ -131,126 +97,96 @@ fn range(ids: Identities, e: Entry, i: u8) {
     }
 }
 
-fn values(ids: Identities, s: ConstraintSet, i: u8) {
-    member(ids, s, i);
-    non_null(ids, s, i);
-    let k = i as usize;
-    if k < 128 {
-        let h = s.literal_equalities[k];
-        let e = s.ranges[k];
-        literal(ids, h, i);
-        range(ids, e, i);
-    }
-}
-
-fn residual(s: ConstraintSet, k: usize) {
-    if k < s.residuals {
-        io::write_all(1, b"e ");
-        number(lists::at16(&s.residual_predicates, k) as u64);
-    }
-}
-
-fn columns(ids: Identities, f: LogicalFacts) {
+fn columns(ids: Identities, lineage: [u8; 64], definitions: [u16; 64]) {
     for c in 0..64 {
-        column(ids, f, c);
-        definition(f, c);
+        column(ids, c, lists::at8(&lineage, c));
+        definition(c, lists::at16(&definitions, c));
     }
 }
 
 fn identities_all(ids: Identities, s: ConstraintSet) {
-    for i in 0..128 {
-        values(ids, s, i);
+    let mut k: usize = 0;
+    while k < 128 {
+        let h = s.literal_equalities[k];
+        let e = s.ranges[k];
+        let i = k as u8;
+        member(ids, i, constraint_set::canonical(s, k));
+        non_null(ids, i, s.non_null_values[k]);
+        literal(ids, h, i);
+        range(ids, e, i);
+        k += 1;
     }
 }
 
-fn residuals(s: ConstraintSet) {
-    for k in 0..64 {
-        residual(s, k);
+fn residual(e: u16) {
+    io::write_all(1, b"e ");
+    number(e as u64);
+}
+
+fn residuals(list: [u16; 64], count: usize) {
+    let mut k: usize = 0;
+    while k < count {
+        residual(lists::at16(&list, k));
+        k += 1;
     }
 }
 
-fn facts(p: Plan, d: DeriveAnswer) {
-    let o = d.outcome;
-    let f = d.facts;
+fn facts(p: Plan, f: LogicalFacts) {
     let s = f.constraints;
+    let lineage = f.lineage;
+    let definitions = f.definitions;
+    let list = s.residual_predicates;
     let ids = plan_identities::identities_of(p);
-    outcome(o);
     flag(s.contradictory);
-    columns(ids, f);
+    columns(ids, lineage, definitions);
     identities_all(ids, s);
-    residuals(s);
+    residuals(list, s.residuals);
     io::write_all(1, b"\n");
 }
 
-fn last_of(p: Plan) -> u16 {
-    let t = p.operators;
-    if 0 < t.count { t.count - 1 } else { 0 }
+// What the library promises of an answer is known here alone: a function of many calls that knew of it would take longer to prove.
+fn derived(p: Plan, h: u16) -> DeriveAnswer {
+    derive_logical_facts::derive_logical_facts(p, Operator(h))
 }
 
-fn derived(p: Plan, last: bool, asked: u16) {
-    let h = if last { last_of(p) } else { asked };
-    let d = derive_logical_facts::derive_logical_facts(p, Operator(h));
-    facts(p, d);
-}
-
-fn is_whole(k: Reading) -> bool {
-    match k {
-        Reading::Whole => true,
-        Reading::Short(_) => false,
-        Reading::Unknown(_) => false,
-        Reading::Room(_) => false,
-        Reading::Handle(_) => false,
-        Reading::ScannedTwice(_) => false,
-    }
+fn answer(p: Plan, h: u16) {
+    let d = derived(p, h);
+    let o = d.outcome;
+    number(refusals::derive_number(o) as u64);
+    number(refusals::derive_place(o) as u64);
+    facts(p, d.facts);
 }
 
 fn one(s: &[u8], last: bool, asked: u16) {
     let a = plan_file::read(s);
     let k = a.reading;
     let p = a.plan;
-    if is_whole(k) {
-        derived(p, last, asked);
-    } else {
+    if refusals::reading_number(k) != 0 {
         io::write_all(1, b"unread\n");
+        return;
     }
-}
-
-fn length_of(head: [u8; 7]) -> usize {
-    let high = lists::at8(&head, 4) as usize;
-    let middle = lists::at8(&head, 5) as usize;
-    let low = lists::at8(&head, 6) as usize;
-    high * 65536 + middle * 256 + low
-}
-
-fn asked_of(head: [u8; 7]) -> u16 {
-    lists::at8(&head, 1) as u16 * 256 + lists::at8(&head, 2) as u16
-}
-
-// The file of n bytes that comes next, read into the buffer.
-fn filled(buf: &mut [u8], n: usize, last: bool, asked: u16) -> bool {
-    if buf.len() < n {
-        return false;
-    }
-    let m = io::read_full(0, &mut buf[..n]);
-    if m < n {
-        return false;
-    }
-    one(&buf[..n], last, asked);
-    true
+    answer(
+        p,
+        if last {
+            refusals::last_operator(p)
+        } else {
+            asked
+        },
+    );
 }
 
 // The next file, if there is a whole one.
 fn next() -> bool {
     let mut head = [0u8; 7];
     let mut body = [0u8; 24576];
-    let got = io::read_full(0, &mut head);
-    if got < 7 {
+    let n = test_input::next(&mut head, 3, &mut body);
+    if 24576 < n {
         return false;
     }
-    let n = length_of(head);
     let last = lists::at8(&head, 0) == 1;
-    let asked = asked_of(head);
-    filled(&mut body, n, last, asked)
+    let asked = test_input::word(&head, 1);
+    one(&body[0..n], last, asked);
+    true
 }
 
 // The bound stands in for the end of the input, which no contract speaks of.

@@ -135,36 +135,16 @@ fn one(s: &[u8]) {
     tables(p);
 }
 
-fn length_of(head: [u8; 4]) -> usize {
-    let high = lists::at8(&head, 1) as usize;
-    let middle = lists::at8(&head, 2) as usize;
-    let low = lists::at8(&head, 3) as usize;
-    high * 65536 + middle * 256 + low
-}
-
-// The file of n bytes that comes next, read into the buffer.
-fn filled(buf: &mut [u8], n: usize) -> bool {
-    if buf.len() < n {
-        return false;
-    }
-    let m = io::read_full(0, &mut buf[..n]);
-    if m < n {
-        return false;
-    }
-    one(&buf[..n]);
-    true
-}
-
 // The next file, if there is a whole one.
 fn next() -> bool {
     let mut head = [0u8; 4];
     let mut body = [0u8; 131072];
-    let got = io::read_full(0, &mut head);
-    if got < 4 {
+    let n = test_input::next(&mut head, 0, &mut body);
+    if 131072 < n {
         return false;
     }
-    let n = length_of(head);
-    filled(&mut body, n)
+    one(&body[0..n]);
+    true
 }
 
 // The bound stands in for the end of the input, which no contract speaks of.

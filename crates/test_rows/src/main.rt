@@ -4,54 +4,14 @@
 // the refusal's number, or T, F or U for TRUE, FALSE and UNKNOWN.
 use plan::Expr;
 use plan::Plan;
-use plan_kinds::Record;
 use rows_spec::Evaluation;
 use rows_spec::Row;
-ghost use Prim.Native.Nat.{_<_};
 
 const STEPS: u32 = 4000000;
 
 struct State {
     plan: Plan,
     row: Row,
-}
-
-fn byte(s: &[u8], i: usize) -> u8 {
-    lists::at8(s, i)
-}
-
-fn word(high: u8, low: u8) -> u16 {
-    high as u16 * 256 + low as u16
-}
-
-fn long(high: u16, low: u16) -> u64
-    ensures { λ r. ⌜ r < 4294967296 ⌝ }
-{
-    high as u64 * 65536 + low as u64
-}
-
-fn bits(s: &[u8]) -> u64 {
-    let high = long(
-        word(byte(s, 12), byte(s, 13)),
-        word(byte(s, 14), byte(s, 15)),
-    );
-    let low = long(
-        word(byte(s, 16), byte(s, 17)),
-        word(byte(s, 18), byte(s, 19)),
-    );
-    high * 4294967296 + low
-}
-
-fn record(s: &[u8]) -> Record {
-    Record {
-        kind: byte(s, 1),
-        code: byte(s, 2),
-        a: word(byte(s, 4), byte(s, 5)),
-        b: word(byte(s, 6), byte(s, 7)),
-        c: 0,
-        d: 0,
-        bits: bits(s),
-    }
 }
 
 fn nulls() -> Row {
@@ -63,32 +23,14 @@ fn nulls() -> Row {
 }
 
 fn with_cell(row: Row, s: &[u8]) -> Row {
-    let c = byte(s, 3) as usize;
+    let c = lists::at8(s, 3) as usize;
     let mut r = row;
     if c < 64 {
-        r.case[c] = byte(s, 1);
-        r.code[c] = byte(s, 2);
-        r.bits[c] = bits(s);
+        r.case[c] = lists::at8(s, 1);
+        r.code[c] = lists::at8(s, 2);
+        r.bits[c] = test_input::bits(s, 12);
     }
     r
-}
-
-fn planned(p: Plan, s: &[u8]) -> Plan {
-    let x = record(s);
-    let what = byte(s, 0);
-    if what == 1 {
-        let r = p.append_column(x);
-        return r.plan;
-    }
-    if what == 2 {
-        let r = p.append_expr(x, word(byte(s, 8), byte(s, 9)));
-        return r.plan;
-    }
-    if what == 3 {
-        let r = p.append_item(x);
-        return r.plan;
-    }
-    p
 }
 
 fn truth_letter(t: u8) {
@@ -120,11 +62,16 @@ fn answer(a: Evaluation) {
     }
 }
 
+// What the library promises of an answer is known here alone: a function of many branches that knew of it would take longer to prove.
+fn evaluated(p: Plan, e: u16, row: Row) -> Evaluation {
+    rows::evaluate(p, Expr(e), row)
+}
+
 // One step, which `buf` has: what it makes of the plan and the row.
 fn step(s: State, buf: &[u8]) -> State {
     let p = s.plan;
     let row = s.row;
-    let what = byte(buf, 0);
+    let what = lists::at8(buf, 0);
     if what == 0 {
         return State {
             plan: Plan::empty(),
@@ -138,11 +85,11 @@ fn step(s: State, buf: &[u8]) -> State {
         };
     }
     if what == 5 {
-        answer(rows::evaluate(p, Expr(word(byte(buf, 4), byte(buf, 5))), row));
+        answer(evaluated(p, test_input::word(buf, 4), row));
         return s;
     }
     State {
-        plan: planned(p, buf),
+        plan: test_input::planned(p, buf),
         row,
     }
 }

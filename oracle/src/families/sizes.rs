@@ -1,4 +1,4 @@
-//! Plans at the sizes of 01: files to be read, room for the simplifier, chains.
+//! Plans at the sizes of the rules: files to be read, room for the simplifier, chains.
 
 use crate::builder::Builder;
 use crate::generate::{self, scattered};

@@ -1,3 +1,7 @@
+use mathlib.Core.Path.{ap, _∙_}
+use Rattle.comparison.specs.Operators.{reversedOp}
+use Rattle.comparison.specs.declared.BinaryOp.{BinaryOp}
+use Rattle.apply_action.specs.Actions.{rangeAction}
 use borrow.Author.Needs.{needs}
 use Rattle.apply_action.proofs.reversed_action.Statement.{statement}
 use Rattle.apply_action.proofs.reversed_action.Tie as tie
@@ -5,6 +9,9 @@ use Rattle.apply_action.proofs.reversed_action.Reads as reads
 use Rattle.apply_action.proofs.reversed_action.Lts as lts
 use Rattle.apply_action.proofs.literal_action.Reads as literal-action-reads
 use Rattle.apply_action.proofs.range_action.Reads as range-action-reads
+
+reversed-requires : tie.Need-reversed-requires
+reversed-requires c κs = search needs
 
 -- src/lib.rt:168:25
 enum-told : tie.Need-enum-told
@@ -64,19 +71,35 @@ returns-2 c = search needs
 
 -- src/lib.rt:164:1
 returns-3 : tie.Need-returns-3
-returns-3 c = rw (c .before .enum-told3 .given .1) (c .range-action .ensures)
+returns-3 c =
+    let at-reversed = c .before .before .before in
+    let args = at-reversed .before .args in
+    rw (c .before .enum-told3 .given .1) (c .range-action .ensures ∙ ap (λ (o : BinaryOp). rangeAction o (args .value) (args .literal))
+    (at-reversed .reversed .ensures ∙ ap reversedOp (c .before .enum-told3 .given .1)))
 
 -- src/lib.rt:164:1
 returns-4 : tie.Need-returns-4
-returns-4 c = rw (c .before .enum-told4 .given .1) (c .range-action2 .ensures)
+returns-4 c =
+    let at-reversed = c .before .before .before in
+    let args = at-reversed .before .args in
+    rw (c .before .enum-told4 .given .1) (c .range-action2 .ensures ∙ ap (λ (o : BinaryOp). rangeAction o (args .value) (args .literal))
+    (at-reversed .reversed .ensures ∙ ap reversedOp (c .before .enum-told4 .given .1)))
 
 -- src/lib.rt:164:1
 returns-5 : tie.Need-returns-5
-returns-5 c = rw (c .before .enum-told5 .given .1) (c .range-action3 .ensures)
+returns-5 c =
+    let at-reversed = c .before .before .before in
+    let args = at-reversed .before .args in
+    rw (c .before .enum-told5 .given .1) (c .range-action3 .ensures ∙ ap (λ (o : BinaryOp). rangeAction o (args .value) (args .literal))
+    (at-reversed .reversed .ensures ∙ ap reversedOp (c .before .enum-told5 .given .1)))
 
 -- src/lib.rt:164:1
 returns-6 : tie.Need-returns-6
-returns-6 c = rw (c .before .enum-told6 .given .1) (c .range-action4 .ensures)
+returns-6 c =
+    let at-reversed = c .before .before .before in
+    let args = at-reversed .before .args in
+    rw (c .before .enum-told6 .given .1) (c .range-action4 .ensures ∙ ap (λ (o : BinaryOp). rangeAction o (args .value) (args .literal))
+    (at-reversed .reversed .ensures ∙ ap reversedOp (c .before .enum-told6 .given .1)))
 
 -- src/lib.rt:164:1
 returns-7 : tie.Need-returns-7
@@ -86,6 +109,7 @@ pub reversed-action-spec : {M : Type 1} → statement M
 reversed-action-spec =
     tie.close
     (tie.spec
+    reversed-requires
     enum-told
     literal-action-requires
     enum-told-2

@@ -10,7 +10,6 @@ use Rattle.boundary.proofs.in_turn.Tie as tie
 use Rattle.boundary.proofs.in_turn.Reads as reads
 use Rattle.boundary.proofs.in_turn.Lts as lts
 use Rattle.lists.proofs.at16.Reads as at16-reads
-use Rattle.logical_facts.proofs.apply_predicate.Reads as apply-predicate-reads
 use Rattle.refusals.proofs.outcome_number.Reads as outcome-number-reads
 
 abbrev Inv-loop : tie.InvT-loop

@@ -1,6 +1,6 @@
 //! Stands in for arrow's crate of the same name: the types of data that optd's lib.rs names.
 
-/// The kinds of 01 (Boolean, Int32, Int64, Float64, Date32), and the further ones that lib.rs names.
+/// The kinds of the plan file (Boolean, Int32, Int64, Float64, Date32), and the further ones that lib.rs names.
 #[derive(Debug, Clone, PartialEq, Eq, PartialOrd, Ord, Hash)]
 pub enum DataType {
     Boolean,
