@@ -48,7 +48,8 @@ abbrev tookOr : Tables → Expressions → Added → Simplified
 tookOr st t (At n) = kept (stOf t (st .items) true) n
 tookOr st t Room = failed (stOf t (st .items) (st .changed))
 
-took-or : (st : Tables) (x : Record) (first : ℕ) → tookOr st (exprAdded (st .exprs) x first .table) (exprAdded (st .exprs) x first .added) ≡ addRecord st x first
+took-or : (st : Tables) (x : Record) (first : ℕ)
+    → tookOr st (exprAdded (st .exprs) x first .table) (exprAdded (st .exprs) x first .added) ≡ addRecord st x first
 unfolding exprAdded
 took-or st x first = go (ltb (st .exprs .count) 1024)
   where

@@ -10,12 +10,12 @@ ghost use Rattle.simplify_spec.specs.Shapes.{sameBool, isLiteral, unaryShape, n
 
 // What the expression at a place is, whose table has its arrays lent one by one.
 pub fn shape_at<'a>(
-    kind: &'a [u8],
-    code: &'a [u8],
-    a: &'a [u16],
-    b: &'a [u16],
-    start: &'a [u16],
-    bits: &'a [u64],
+    kind: &'a [u8; 1024],
+    code: &'a [u8; 1024],
+    a: &'a [u16; 1024],
+    b: &'a [u16; 1024],
+    start: &'a [u16; 1024],
+    bits: &'a [u64; 1024],
     i: usize,
 ) -> Shape
     ensures { λ r. ⌜ r ≡ shapeOf (nodeOf (now (kind .entry)) (now (code .entry)) (now (a .entry)) (now (b .entry)) (now (bits .entry)) (now (start .entry)) i)

@@ -33,7 +33,7 @@ returns c =
     let at-if1 = c .before .before .before .before in
     let at-is-literal = at-if1 .before in
     let at-shape-at = at-is-literal .before .before in
-    let at-at16 = at-shape-at .before .before .before .before .before .before .before .before .before .before .before .before .before .before in
+    let at-at16 = at-shape-at .before .before .before .before .before .before .before .before in
     let start = at-at16 .before .before .before in
     let a = start .args in input-through (a .p) (a .st) (operatorData (a .x) (a .start)) (a .held) (λ (j : ℕ). getD (a .t6) j 0) (a .x) (a .start)
     (at-is-literal .is-literal .result)
@@ -46,7 +46,7 @@ add-operator-requires c κs = search needs
 returns-2 : tie.Need-returns-2
 returns-2 c =
     let at-shape-at = c .before .before .before .before in
-    let at-at16 = at-shape-at .before .before .before .before .before .before .before .before .before .before .before .before .before .before in
+    let at-at16 = at-shape-at .before .before .before .before .before .before .before .before in
     let start = at-at16 .before .before .before in
     let a = start .args in input-other (a .p) (a .st) (operatorData (a .x) (a .start)) (a .held) (λ (j : ℕ). getD (a .t6) j 0) (a .x) (a .start)
     (c .before .before .is-literal .result)

@@ -17,7 +17,8 @@ numbers-requires c κs = search needs
 
 returns : tie.Need-returns
 returns c =
-    rw (← c .before .before .before .kind-of-join .ensures, ← c .before .before .code-of-join-type .ensures, ← c .before .marker-of .ensures) (c .numbers .ensures)
+    rw (← c .before .before .before .kind-of-join .ensures, ← c .before .before .code-of-join-type .ensures, ← c .before .marker-of .ensures)
+    (c .numbers .ensures)
 
 pub join-record-spec : {M : Type 1} → statement M
 join-record-spec =

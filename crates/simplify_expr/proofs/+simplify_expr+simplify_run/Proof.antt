@@ -66,10 +66,44 @@ simplify-run-below t =
     simplify-run.Pre
 
 abbrev simplify-expr-calls : ℕ → simplify-expr-lts.Claims
-simplify-expr-calls t = (refused-reads.Asked, refused-reads.Learnt, same-reads.Asked, same-reads.Learnt, shape-at-reads.Asked, shape-at-reads.Learnt, simplify-expr-below t, simplify-expr.Post, not-step-reads.Asked, not-step-reads.Learnt, compare-step-reads.Asked, compare-step-reads.Learnt, all-operands-reads.Asked, all-operands-reads.Learnt, simplify-run-below t, simplify-run.Post)
+simplify-expr-calls t = (
+  refused-reads.Asked,
+  refused-reads.Learnt,
+  same-reads.Asked,
+  same-reads.Learnt,
+  shape-at-reads.Asked,
+  shape-at-reads.Learnt,
+  simplify-expr-below t,
+  simplify-expr.Post,
+  not-step-reads.Asked,
+  not-step-reads.Learnt,
+  compare-step-reads.Asked,
+  compare-step-reads.Learnt,
+  all-operands-reads.Asked,
+  all-operands-reads.Learnt,
+  simplify-run-below t,
+  simplify-run.Post,
+)
 
 abbrev simplify-run-calls : ℕ → simplify-run-lts.Claims
-simplify-run-calls t = (bottom-reads.Asked, bottom-reads.Learnt, at16-reads.Asked, at16-reads.Learnt, simplify-expr-below t, simplify-expr.Post, shape-at-reads.Asked, shape-at-reads.Learnt, is-literal-reads.Asked, is-literal-reads.Learnt, count-reads.Asked, count-reads.Learnt, simplify-run-below t, simplify-run.Post, put-back-reads.Asked, put-back-reads.Learnt)
+simplify-run-calls t = (
+  bottom-reads.Asked,
+  bottom-reads.Learnt,
+  at16-reads.Asked,
+  at16-reads.Learnt,
+  simplify-expr-below t,
+  simplify-expr.Post,
+  shape-at-reads.Asked,
+  shape-at-reads.Learnt,
+  is-literal-reads.Asked,
+  is-literal-reads.Learnt,
+  count-reads.Asked,
+  count-reads.Learnt,
+  simplify-run-below t,
+  simplify-run.Post,
+  put-back-reads.Asked,
+  put-back-reads.Learnt,
+)
 
 simplify-expr-refused-requires : (t : ℕ) → simplify-expr-lts.Need-refused-requires (simplify-expr-calls t) (simplify-expr-at t) simplify-expr.Post
 simplify-expr-refused-requires t c κs =
@@ -113,7 +147,8 @@ simplify-expr-enum-known-shape t c =
 
 simplify-expr-simplify-expr-requires : (t : ℕ) → simplify-expr-lts.Need-simplify-expr-requires (simplify-expr-calls t) (simplify-expr-at t) simplify-expr.Post
 simplify-expr-simplify-expr-requires t c κs =
-    let at-if2 = c .before .before .before .before .before .before .before .before .before .before .before .before .before .before .before .before .before .before .before .before .before .before .before .before in
+    let at-if2 = c .before .before .before .before .before .before .before .before .before .before .before .before .before .before .before .before
+    .before .before in
     let start = at-if2 .before .before .before in
     (omega (arith, at-if2 .if2 .left, start .pre .0), tt)
 
@@ -125,15 +160,19 @@ simplify-expr-enum-known-shape-2 : (t : ℕ) → simplify-expr-lts.Need-enum-kno
 simplify-expr-enum-known-shape-2 t c =
     search needs
 
-simplify-expr-simplify-expr-requires-2 : (t : ℕ) → simplify-expr-lts.Need-simplify-expr-requires-2 (simplify-expr-calls t) (simplify-expr-at t) simplify-expr.Post
+simplify-expr-simplify-expr-requires-2 : (t : ℕ) → simplify-expr-lts.Need-simplify-expr-requires-2 (simplify-expr-calls t) (simplify-expr-at t)
+    simplify-expr.Post
 simplify-expr-simplify-expr-requires-2 t c κs =
-    let at-if2 = c .before .before .before .before .before .before .before .before .before .before .before .before .before .before .before .before .before .before .before .before .before .before .before .before in
+    let at-if2 = c .before .before .before .before .before .before .before .before .before .before .before .before .before .before .before .before
+    .before .before in
     let start = at-if2 .before .before .before in
     (omega (arith, at-if2 .if2 .left, start .pre .0), tt)
 
-simplify-expr-simplify-expr-requires-3 : (t : ℕ) → simplify-expr-lts.Need-simplify-expr-requires-3 (simplify-expr-calls t) (simplify-expr-at t) simplify-expr.Post
+simplify-expr-simplify-expr-requires-3 : (t : ℕ) → simplify-expr-lts.Need-simplify-expr-requires-3 (simplify-expr-calls t) (simplify-expr-at t)
+    simplify-expr.Post
 simplify-expr-simplify-expr-requires-3 t c κs =
-    let at-if2 = c .before .before .before .before .before .before .before .before .before .before .before .before .before .before .before .before .before .before .before .before .before .before .before .before .before .before .before .before .before .before .before .before .before in
+    let at-if2 = c .before .before .before .before .before .before .before .before .before .before .before .before .before .before .before .before
+    .before .before .before .before .before .before .before .before .before .before .before in
     let start = at-if2 .before .before .before in
     (omega (arith, at-if2 .if2 .left, start .pre .0), tt)
 
@@ -151,11 +190,23 @@ simplify-expr-all-operands-requires t c κs =
 
 simplify-expr-simplify-run-requires : (t : ℕ) → simplify-expr-lts.Need-simplify-run-requires (simplify-expr-calls t) (simplify-expr-at t) simplify-expr.Post
 simplify-expr-simplify-run-requires t c κs =
-    let n : c .before .before .before .before .before .before .before .before .all-operands .result .left ≡ c .before .before .before .before .before .before .before .before .before .before .shape3 .given .0 .1 .0 = ap (λ (x : Walk). x .left) (c .before .before .before .before .before .before .before .before .all-operands .ensures) in
-    let p : c .before .before .before .before .before .before .before .before .all-operands .result .at ≡ c .before .before .before .before .before .before .before .before .before .before .shape3 .given .0 .0 = ap (λ (x : Walk). x .at) (c .before .before .before .before .before .before .before .before .all-operands .ensures) in
-    let z : c .before .before .before .before .before .before .before .before .all-operands .result .tally .kept ≡ 0 = ap (λ (x : Walk). x .tally .kept)
-    (c .before .before .before .before .before .before .before .before .all-operands .ensures) in
-    (omega (arith, n, c .before .before .before .before .before .before .before .before .before .before .before .before .before .before .before .before .before .before .before .before .before .before .before .before .before .if2 .left, c .before .before .before .before .before .before .before .before .before .before .before .before .before .before .before .before .before .before .before .before .before .before .before .before .before .before .before .before .pre .0, c .before .before .before .before .before .before .before .before .before .known-told3 .given), (omega (arith, n, p, c .before .before .before .before .before .before .before .before .before .known-told3 .given), omega (arith, n, z, c .before .before .before .before .before .before .before .before .before .known-told3 .given)))
+    let at-all-operands = c .before .before .before .before .before .before .before .before in
+    let at-known-told3 = at-all-operands .before in
+    let at-shape3 = at-known-told3 .before in
+    let at-if2 = at-shape3 .before .before .before .before .before .before .before .before .before in
+    let start = at-if2 .before .before .before in
+    let n : at-all-operands .all-operands .result .left ≡ at-shape3 .shape3 .given .0 .1 .0 = ap (λ (x : Walk). x .left)
+    (at-all-operands .all-operands .ensures) in
+    let p : at-all-operands .all-operands .result .at ≡ at-shape3 .shape3 .given .0 .0 = ap (λ (x : Walk). x .at) (at-all-operands .all-operands .ensures) in
+    let z : at-all-operands .all-operands .result .tally .kept ≡ 0 = ap (λ (x : Walk). x .tally .kept)
+    (at-all-operands .all-operands .ensures) in (
+      omega (arith, n, at-if2 .if2 .left, start .pre .0, at-known-told3 .known-told3 .given),
+      (
+        omega (arith, n, p, at-known-told3 .known-told3 .given),
+        omega
+            (arith, n, z, at-known-told3 .known-told3 .given),
+      ),
+    )
 
 simplify-expr-enum-known-shape-4 : (t : ℕ) → simplify-expr-lts.Need-enum-known-shape-4 (simplify-expr-calls t) (simplify-expr-at t) simplify-expr.Post
 simplify-expr-enum-known-shape-4 t c =
@@ -167,11 +218,24 @@ simplify-expr-all-operands-requires-2 t c κs =
 
 simplify-expr-simplify-run-requires-2 : (t : ℕ) → simplify-expr-lts.Need-simplify-run-requires-2 (simplify-expr-calls t) (simplify-expr-at t) simplify-expr.Post
 simplify-expr-simplify-run-requires-2 t c κs =
-    let n : c .before .before .before .before .before .before .before .before .all-operands2 .result .left ≡ c .before .before .before .before .before .before .before .before .before .before .shape4 .given .0 .1 .0 = ap (λ (x : Walk). x .left) (c .before .before .before .before .before .before .before .before .all-operands2 .ensures) in
-    let p : c .before .before .before .before .before .before .before .before .all-operands2 .result .at ≡ c .before .before .before .before .before .before .before .before .before .before .shape4 .given .0 .0 = ap (λ (x : Walk). x .at) (c .before .before .before .before .before .before .before .before .all-operands2 .ensures) in
-    let z : c .before .before .before .before .before .before .before .before .all-operands2 .result .tally .kept ≡ 0 = ap (λ (x : Walk). x .tally .kept)
-    (c .before .before .before .before .before .before .before .before .all-operands2 .ensures) in
-    (omega (arith, n, c .before .before .before .before .before .before .before .before .before .before .before .before .before .before .before .before .before .before .before .before .before .before .before .before .before .if2 .left, c .before .before .before .before .before .before .before .before .before .before .before .before .before .before .before .before .before .before .before .before .before .before .before .before .before .before .before .before .pre .0, c .before .before .before .before .before .before .before .before .before .known-told4 .given), (omega (arith, n, p, c .before .before .before .before .before .before .before .before .before .known-told4 .given), omega (arith, n, z, c .before .before .before .before .before .before .before .before .before .known-told4 .given)))
+    let at-all-operands2 = c .before .before .before .before .before .before .before .before in
+    let at-known-told4 = at-all-operands2 .before in
+    let at-shape4 = at-known-told4 .before in
+    let at-if2 = at-shape4 .before .before .before .before .before .before .before .before .before in
+    let start = at-if2 .before .before .before in
+    let n : at-all-operands2 .all-operands2 .result .left ≡ at-shape4 .shape4 .given .0 .1 .0 = ap (λ (x : Walk). x .left)
+    (at-all-operands2 .all-operands2 .ensures) in
+    let p : at-all-operands2 .all-operands2 .result .at ≡ at-shape4 .shape4 .given .0 .0 = ap (λ (x : Walk). x .at)
+    (at-all-operands2 .all-operands2 .ensures) in
+    let z : at-all-operands2 .all-operands2 .result .tally .kept ≡ 0 = ap (λ (x : Walk). x .tally .kept)
+    (at-all-operands2 .all-operands2 .ensures) in (
+      omega (arith, n, at-if2 .if2 .left, start .pre .0, at-known-told4 .known-told4 .given),
+      (
+        omega (arith, n, p, at-known-told4 .known-told4 .given),
+        omega
+            (arith, n, z, at-known-told4 .known-told4 .given),
+      ),
+    )
 
 simplify-expr-enum-told-2 : (t : ℕ) → simplify-expr-lts.Need-enum-told-2 (simplify-expr-calls t) (simplify-expr-at t) simplify-expr.Post
 simplify-expr-enum-told-2 t c =
@@ -184,7 +248,7 @@ simplify-expr-same-requires-3 t c κs =
 simplify-expr-returns-3 : (t : ℕ) → simplify-expr-lts.Need-returns-3 (simplify-expr-calls t) (simplify-expr-at t) simplify-expr.Post
 simplify-expr-returns-3 t c =
     let at-shape-at = c .before .before .before in
-    let at-if2 = at-shape-at .before .before .before .before .before .before .before .before .before .before .before .before .before in
+    let at-if2 = at-shape-at .before .before .before .before .before .before .before in
     let at-if1 = at-if2 .before in
     let start = at-if1 .before .before in
     let a = start .args in
@@ -198,7 +262,7 @@ simplify-expr-returns-4 t c =
     let at-simplify-expr = c .before .before .before .before .before .before .before in
     let at-shape = at-simplify-expr .before .before .before .before .before .before .before .before .before .before in
     let at-shape-at = at-shape .before .before in
-    let at-if2 = at-shape-at .before .before .before .before .before .before .before .before .before .before .before .before .before in
+    let at-if2 = at-shape-at .before .before .before .before .before .before .before in
     let at-if1 = at-if2 .before in
     let start = at-if1 .before .before in
     let a = start .args in
@@ -217,7 +281,7 @@ simplify-expr-returns-5 t c =
     let at-simplify-expr2 = at-simplify-expr3 .before .before .before .before .before .before .before .before .before in
     let at-shape2 = at-simplify-expr2 .before .before .before .before .before .before .before .before .before .before in
     let at-shape-at = at-shape2 .before .before in
-    let at-if2 = at-shape-at .before .before .before .before .before .before .before .before .before .before .before .before .before in
+    let at-if2 = at-shape-at .before .before .before .before .before .before .before in
     let at-if1 = at-if2 .before in
     let start = at-if1 .before .before in
     let a = start .args in
@@ -240,7 +304,7 @@ simplify-expr-returns-6 t c =
     let at-all-operands = c .before .before .before .before .before .before .before .before .before .before in
     let at-shape3 = at-all-operands .before .before in
     let at-shape-at = at-shape3 .before .before in
-    let at-if2 = at-shape-at .before .before .before .before .before .before .before .before .before .before .before .before .before in
+    let at-if2 = at-shape-at .before .before .before .before .before .before .before in
     let at-if1 = at-if2 .before in
     let start = at-if1 .before .before in
     let a = start .args in
@@ -259,7 +323,7 @@ simplify-expr-returns-7 t c =
     let at-all-operands2 = c .before .before .before .before .before .before .before .before .before .before in
     let at-shape4 = at-all-operands2 .before .before in
     let at-shape-at = at-shape4 .before .before in
-    let at-if2 = at-shape-at .before .before .before .before .before .before .before .before .before .before .before .before .before in
+    let at-if2 = at-shape-at .before .before .before .before .before .before .before in
     let at-if1 = at-if2 .before in
     let start = at-if1 .before .before in
     let a = start .args in
@@ -276,7 +340,7 @@ simplify-expr-returns-7 t c =
 simplify-expr-returns-8 : (t : ℕ) → simplify-expr-lts.Need-returns-8 (simplify-expr-calls t) (simplify-expr-at t) simplify-expr.Post
 simplify-expr-returns-8 t c =
     let at-shape-at = c .before .before .before in
-    let at-if2 = at-shape-at .before .before .before .before .before .before .before .before .before .before .before .before .before in
+    let at-if2 = at-shape-at .before .before .before .before .before .before .before in
     let at-if1 = at-if2 .before in
     let start = at-if1 .before .before in
     let a = start .args in
@@ -325,18 +389,21 @@ simplify-run-is-literal-requires-2 t c κs =
 
 simplify-run-count-requires : (t : ℕ) → simplify-run-lts.Need-count-requires (simplify-run-calls t) (simplify-run-at t) simplify-run.Post
 simplify-run-count-requires t c κs =
-    let at-if1 = c .before .before .before .before .before .before .before .before .before .before .before .before .before .before .before .before .before .before .before .before .before .before .before .before .before .before .before in
+    let at-if1 = c .before .before .before .before .before .before .before .before .before .before .before .before .before .before .before .before
+    .before .before .before .before .before in
     let start = at-if1 .before .before in
     omega (arith, at-if1 .if1 .left, start .pre .1 .1)
 
-simplify-run-add-t53 : (t : ℕ) → simplify-run-lts.Need-add-t53 (simplify-run-calls t) (simplify-run-at t) simplify-run.Post
-simplify-run-add-t53 t c =
-    let start = c .before .before .before .before .before .before .before .before .before .before .before .before .before .before .before .before .before .before .before .before .before .before .before .before .before .before .before .before .before .before .before in
+simplify-run-add-t47 : (t : ℕ) → simplify-run-lts.Need-add-t47 (simplify-run-calls t) (simplify-run-at t) simplify-run.Post
+simplify-run-add-t47 t c =
+    let start = c .before .before .before .before .before .before .before .before .before .before .before .before .before .before .before .before
+    .before .before .before .before .before .before .before .before .before in
     omega (arith, start .pre .1 .0)
 
-simplify-run-sub-t54 : (t : ℕ) → simplify-run-lts.Need-sub-t54 (simplify-run-calls t) (simplify-run-at t) simplify-run.Post
-simplify-run-sub-t54 t c =
-    let at-if1 = c .before .before .before .before .before .before .before .before .before .before .before .before .before .before .before .before .before .before .before .before .before .before .before .before .before .before .before .before .before in
+simplify-run-sub-t48 : (t : ℕ) → simplify-run-lts.Need-sub-t48 (simplify-run-calls t) (simplify-run-at t) simplify-run.Post
+simplify-run-sub-t48 t c =
+    let at-if1 = c .before .before .before .before .before .before .before .before .before .before .before .before .before .before .before .before
+    .before .before .before .before .before .before .before in
     omega (arith, at-if1 .if1 .left)
 
 simplify-run-simplify-run-requires : (t : ℕ) → simplify-run-lts.Need-simplify-run-requires (simplify-run-calls t) (simplify-run-at t) simplify-run.Post
@@ -344,7 +411,7 @@ simplify-run-simplify-run-requires t c κs =
     let at-count = c .before .before .before .before .before .before .before .before .before in
     let at-is-literal2 = at-count .before in
     let at-is-literal = at-is-literal2 .before in
-    let at-simplify-expr = at-is-literal .before .before .before .before .before .before .before .before .before .before .before .before .before .before in
+    let at-simplify-expr = at-is-literal .before .before .before .before .before .before .before .before in
     let at-at16 = at-simplify-expr .before .before .before .before .before .before .before .before .before in
     let at-if1 = at-at16 .before .before .before in
     let start = at-if1 .before .before in
@@ -369,7 +436,7 @@ simplify-run-returns-2 t c =
     let at-is-literal2 = at-count .before in
     let at-is-literal = at-is-literal2 .before in
     let at-shape-at = at-is-literal .before in
-    let at-simplify-expr = at-shape-at .before .before .before .before .before .before .before .before .before .before .before .before .before in
+    let at-simplify-expr = at-shape-at .before .before .before .before .before .before .before in
     let at-at16 = at-simplify-expr .before .before .before .before .before .before .before .before .before in
     let at-if1 = at-at16 .before .before .before in
     let start = at-if1 .before .before in
@@ -434,8 +501,8 @@ pub +simplify-expr+simplify-run-spec : {M : Type 1} → statement M
     (simplify-run-is-literal-requires t)
     (simplify-run-is-literal-requires-2 t)
     (simplify-run-count-requires t)
-    (simplify-run-add-t53 t)
-    (simplify-run-sub-t54 t)
+    (simplify-run-add-t47 t)
+    (simplify-run-sub-t48 t)
     (simplify-run-simplify-run-requires t)
     (simplify-run-put-back-requires t)
     (simplify-run-returns-2 t)

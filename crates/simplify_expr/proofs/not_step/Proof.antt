@@ -14,7 +14,8 @@ refused-requires c κs = search needs
 returns : tie.Need-returns
 returns c =
     let start = c .before .before .before in
-    let a = start .args in λ ia ib. off (now (a .kind)) (now (a .code)) (now (a .a)) (now (a .b)) (now (a .start)) (now (a .bits)) ia ib (c .refused .result)
+    let a = start .args in
+    λ ia ib. off (now (a .kind)) (now (a .code)) (now (a .a)) (now (a .b)) (now (a .start)) (now (a .bits)) ia ib (c .refused .result)
     (a .r) (c .refused .ensures) ∙ not-off (a .h) (a .e) (resultOf (now (a .kind)) (now (a .code)) (now (a .a)) (now (a .b)) (now (a .start))
     (now (a .bits)) ia ib (a .r)) (not-true _ (c .before .if1 .taken))
 
@@ -64,30 +65,32 @@ returns-2 : tie.Need-returns-2
 returns-2 c =
     let at-shape = c .before .before .before .before .before .before .before .before in
     let at-shape-at = at-shape .before .before in
-    let at-if1 = at-shape-at .before .before .before .before .before .before .before .before .before .before .before .before .before .before in
+    let at-if1 = at-shape-at .before .before .before .before .before .before .before .before in
     let start = at-if1 .before .before in
-    let a = start .args in λ ia ib. not-way (a .h) (a .e) (resultOf (now (a .kind)) (now (a .code)) (now (a .a)) (now (a .b)) (now (a .start)) (now (a .bits))
+    let a = start .args in
+    λ ia ib. not-way (a .h) (a .e) (resultOf (now (a .kind)) (now (a .code)) (now (a .a)) (now (a .b)) (now (a .start)) (now (a .bits))
     ia ib (a .r)) (not-false _ (at-if1 .if1 .left)) (at-shape-at .shape-at .result) (Boolean (at-shape .shape .given .0 .0))
     (at-shape-at .shape-at .ensures) (at-shape .shape .given .1) _ (c .add-literal .ensures ia ib)
 
 returns-3 : tie.Need-returns-3
 returns-3 c =
-    let at-shape2 = c .before .before in
-    let at-shape-at = at-shape2 .before .before in
-    let at-if1 = at-shape-at .before .before .before .before .before .before .before .before .before .before .before .before .before .before in
+    let at-shape-at = c .before .before .before .before in
+    let at-if1 = at-shape-at .before .before .before .before .before .before .before .before in
     let start = at-if1 .before .before in
-    let a = start .args in λ ia ib. not-way (a .h) (a .e) (resultOf (now (a .kind)) (now (a .code)) (now (a .a)) (now (a .b)) (now (a .start)) (now (a .bits))
-    ia ib (a .r)) (not-false _ (at-if1 .if1 .left)) (at-shape-at .shape-at .result) (Not (at-shape2 .shape2 .given .0 .0))
-    (at-shape-at .shape-at .ensures) (at-shape2 .shape2 .given .1) _ (there (now (a .kind)) (now (a .code)) (now (a .a)) (now (a .b)) (now (a .start))
-    (now (a .bits)) ia ib (c .other .result) (a .r) (at-shape2 .shape2 .given .0 .0 .0) (c .other .ensures))
+    let a = start .args in
+    λ ia ib. not-way (a .h) (a .e) (resultOf (now (a .kind)) (now (a .code)) (now (a .a)) (now (a .b)) (now (a .start)) (now (a .bits))
+    ia ib (a .r)) (not-false _ (at-if1 .if1 .left)) (at-shape-at .shape-at .result) (Not (c .before .before .shape2 .given .0 .0))
+    (at-shape-at .shape-at .ensures) (c .before .before .shape2 .given .1) _ (there (now (a .kind)) (now (a .code)) (now (a .a)) (now (a .b)) (now (a .start))
+    (now (a .bits)) ia ib (c .other .result) (a .r) (c .before .before .shape2 .given .0 .0 .0) (c .other .ensures))
 
 returns-4 : tie.Need-returns-4
 returns-4 c =
     let at-enum-told = c .before .before .before .before .before .before .before in
     let at-shape-at = at-enum-told .before .before in
-    let at-if1 = at-shape-at .before .before .before .before .before .before .before .before .before .before .before .before .before .before in
+    let at-if1 = at-shape-at .before .before .before .before .before .before .before .before in
     let start = at-if1 .before .before in
-    let a = start .args in λ ia ib. not-way (a .h) (a .e) (resultOf (now (a .kind)) (now (a .code)) (now (a .a)) (now (a .b)) (now (a .start)) (now (a .bits))
+    let a = start .args in
+    λ ia ib. not-way (a .h) (a .e) (resultOf (now (a .kind)) (now (a .code)) (now (a .a)) (now (a .b)) (now (a .start)) (now (a .bits))
     ia ib (a .r)) (not-false _ (at-if1 .if1 .left)) (at-shape-at .shape-at .result) _ (at-shape-at .shape-at .ensures) (at-enum-told .enum-told .given .1)
     _ (c .not-other .ensures ia ib)
 
@@ -95,9 +98,10 @@ returns-5 : tie.Need-returns-5
 returns-5 c =
     let at-enum-told2 = c .before .before .before .before .before .before .before in
     let at-shape-at = at-enum-told2 .before .before in
-    let at-if1 = at-shape-at .before .before .before .before .before .before .before .before .before .before .before .before .before .before in
+    let at-if1 = at-shape-at .before .before .before .before .before .before .before .before in
     let start = at-if1 .before .before in
-    let a = start .args in λ ia ib. not-way (a .h) (a .e) (resultOf (now (a .kind)) (now (a .code)) (now (a .a)) (now (a .b)) (now (a .start)) (now (a .bits))
+    let a = start .args in
+    λ ia ib. not-way (a .h) (a .e) (resultOf (now (a .kind)) (now (a .code)) (now (a .a)) (now (a .b)) (now (a .start)) (now (a .bits))
     ia ib (a .r)) (not-false _ (at-if1 .if1 .left)) (at-shape-at .shape-at .result) _ (at-shape-at .shape-at .ensures)
     (at-enum-told2 .enum-told2 .given .1) _ (c .not-other2 .ensures ia ib)
 
@@ -105,9 +109,10 @@ returns-6 : tie.Need-returns-6
 returns-6 c =
     let at-enum-told3 = c .before .before .before .before .before .before .before in
     let at-shape-at = at-enum-told3 .before .before in
-    let at-if1 = at-shape-at .before .before .before .before .before .before .before .before .before .before .before .before .before .before in
+    let at-if1 = at-shape-at .before .before .before .before .before .before .before .before in
     let start = at-if1 .before .before in
-    let a = start .args in λ ia ib. not-way (a .h) (a .e) (resultOf (now (a .kind)) (now (a .code)) (now (a .a)) (now (a .b)) (now (a .start)) (now (a .bits))
+    let a = start .args in
+    λ ia ib. not-way (a .h) (a .e) (resultOf (now (a .kind)) (now (a .code)) (now (a .a)) (now (a .b)) (now (a .start)) (now (a .bits))
     ia ib (a .r)) (not-false _ (at-if1 .if1 .left)) (at-shape-at .shape-at .result) _ (at-shape-at .shape-at .ensures)
     (at-enum-told3 .enum-told3 .given .1) _ (c .not-other3 .ensures ia ib)
 
@@ -115,9 +120,10 @@ returns-7 : tie.Need-returns-7
 returns-7 c =
     let at-enum-told4 = c .before .before .before .before .before .before .before in
     let at-shape-at = at-enum-told4 .before .before in
-    let at-if1 = at-shape-at .before .before .before .before .before .before .before .before .before .before .before .before .before .before in
+    let at-if1 = at-shape-at .before .before .before .before .before .before .before .before in
     let start = at-if1 .before .before in
-    let a = start .args in λ ia ib. not-way (a .h) (a .e) (resultOf (now (a .kind)) (now (a .code)) (now (a .a)) (now (a .b)) (now (a .start)) (now (a .bits))
+    let a = start .args in
+    λ ia ib. not-way (a .h) (a .e) (resultOf (now (a .kind)) (now (a .code)) (now (a .a)) (now (a .b)) (now (a .start)) (now (a .bits))
     ia ib (a .r)) (not-false _ (at-if1 .if1 .left)) (at-shape-at .shape-at .result) _ (at-shape-at .shape-at .ensures)
     (at-enum-told4 .enum-told4 .given .1) _ (c .not-other4 .ensures ia ib)
 

@@ -18,7 +18,7 @@ shape-of-requires c κs = search needs
 
 returns : tie.Need-returns
 returns c =
-    c .shape-of .ensures ∙ ap₂ (λ (x : Record) (st : ℕ). shapeOf (exprData x st)) (c .before .before .expr-record .ensures) (c .before .at16 .ensures)
+    c .shape-of .ensures ∙ ap₂ (λ (x : Record) (st : ℕ). shapeOf (exprData x st)) (c .before .before .before .expr-record .ensures) (c .before .at16 .ensures)
 
 pub shape-at-spec : {M : Type 1} → statement M
 shape-at-spec = tie.close (tie.spec expr-record-requires at16-requires shape-of-requires returns)
