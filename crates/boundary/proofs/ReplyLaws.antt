@@ -7,16 +7,14 @@ use mathlib.Core.List.{List, [], _∷_, _++_}
 use lib.Dec.{eqb}
 use lib.ListN.{getD, set, replicate, length, drop, drop-of-length-le}
 use lib.Seq.{drop-cons}
-use borrow.Author.Tests.{ne-eqb}
+use borrow.Author.Tests.{ne-eqb, eq-eqb}
 use Rattle.plan.specs.declared.Plan.{Plan}
 use Rattle.plan_file.specs.Answers as Files
 use Rattle.plan_file.specs.declared.Answer.{Answer}
-use Rattle.plan_identities.specs.Identities.{identitiesOf}
 use Rattle.plan_identities.specs.declared.Identities.{Identities}
 use Rattle.listing.specs.Listing.{listingText}
-use Rattle.derive_spec.specs.Operators as Deriving
-use Rattle.derive_spec.specs.Deriving.{deriveOf}
-use Rattle.derive_spec.specs.declared.DeriveAnswer.{DeriveAnswer}
+use Rattle.file_facts.specs.Known.{nothingKnown, planKnown, answerKnown}
+use Rattle.file_facts.specs.declared.Known.{Known}
 use Rattle.apply_spec.specs.Facts as Applying
 use Rattle.apply_spec.specs.Entries.{applyPredicate}
 use Rattle.apply_spec.specs.declared.LogicalFacts.{LogicalFacts}
@@ -29,7 +27,7 @@ use Rattle.rows_spec.specs.declared.Row.{Row}
 use Rattle.rows_spec.specs.declared.Evaluation.{Evaluation}
 use Rattle.simplify_spec.specs.OneOperator as Simplifying
 use Rattle.simplify_spec.specs.declared.Rewritten.{Rewritten}
-use Rattle.boundary.specs.Replies.{headOf, readReply, onPlan, evaluateReply, rewriteReply, simplifyReply, cellsTo, derivedReply, deriveReply}
+use Rattle.boundary.specs.Replies.{headOf, readReply, onPlan, evaluateReply, rewriteReply, simplifyReply, cellsTo, knownReply, derivedReply, deriveReply}
 use Rattle.boundary.specs.Replies.{factsReply, turnBy, inTurn, turnReply, appliedReply, applyReply}
 use Rattle.boundary.specs.declared.InTurn.{InTurn}
 
@@ -49,46 +47,67 @@ module _ (f : Plan → List ℕ) (a b : Answer) (ea : a ≡ b) (n : ℕ) (en : n
       chosen : onPlan f a ≡ f (a .plan)
       chosen = let e : Files.refusalOf (a .reading) ≡ 0 = sym en ∙ z in rw e
 
--- ---- deriving
-module _ (p : Plan) (h : ℕ) (d : DeriveAnswer) (ed : d ≡ deriveOf p h) (n : ℕ) (en : n ≡ Deriving.refusalOf (d .outcome)) where
-  told : derivedReply p h d ≡ deriveReply h p
-  unfolding deriveReply
-  told = ap (derivedReply p h) ed
+-- ---- what is known of an operator
+module _ (k : Known) where
+  pub known-refused : (k .number ≡ 0 → ⊥) → headOf (k .number) (k .place) ≡ knownReply k
+  unfolding knownReply
+  known-refused z = rw (ne-eqb (k .number) 0 z)
 
-  pub derive-refused : (n ≡ 0 → ⊥) → headOf (Deriving.refusalOf (d .outcome)) (Deriving.refuserOf (d .outcome)) ≡ deriveReply h p
-  unfolding derivedReply
-  derive-refused z = sym chosen ∙ told
+  pub known-listed : k .number ≡ 0 → headOf (k .number) (k .place) ++ listingText (k .operator) (k .identities) (k .facts) ≡ knownReply k
+  unfolding knownReply
+  known-listed z = sym chosen
     where
-      chosen : derivedReply p h d ≡ headOf (Deriving.refusalOf (d .outcome)) (Deriving.refuserOf (d .outcome))
-      chosen = rw (ne-eqb (Deriving.refusalOf (d .outcome)) 0 (λ y. z (en ∙ y)))
+      chosen : knownReply k ≡ headOf (k .number) (k .place) ++ listingText (k .operator) (k .identities) (k .facts)
+      chosen = ap
+          (λ (b : Bool). cond b (headOf (k .number) (k .place) ++ listingText (k .operator) (k .identities) (k .facts)) (headOf (k .number) (k .place)))
+          (eq-eqb (k .number) 0 z)
 
-  pub derive-listed : (ids : Identities) → ids ≡ identitiesOf p → n ≡ 0
-      → headOf (Deriving.refusalOf (d .outcome)) (Deriving.refuserOf (d .outcome)) ++ listingText h ids (d .facts) ≡ deriveReply h p
-  unfolding derivedReply
-  derive-listed ids ei z = ap (λ (i : Identities). headOf (Deriving.refusalOf (d .outcome)) (Deriving.refuserOf (d .outcome)) ++ listingText h i (d .facts))
-      ei ∙ sym chosen ∙ told
-    where
-      chosen : derivedReply p h d ≡ headOf (Deriving.refusalOf (d .outcome)) (Deriving.refuserOf (d .outcome)) ++ listingText h (identitiesOf p) (d .facts)
-      chosen = let e : Deriving.refusalOf (d .outcome) ≡ 0 = sym en ∙ z in rw e
+-- reading first: f is the reply for a plan
+known-on : (f : Plan → List ℕ) (h : ℕ) (a : Answer) → knownReply (planKnown h (a .plan)) ≡ f (a .plan) → knownReply (answerKnown h a) ≡ onPlan f a
+unfolding onPlan answerKnown nothingKnown knownReply
+known-on f h a e = go (eqb (Files.refusalOf (a .reading)) 0) refl
+  where
+    go : (b : Bool) → eqb (Files.refusalOf (a .reading)) 0 ≡ b
+        → knownReply (cond b (planKnown h (a .plan)) (nothingKnown (Files.refusalOf (a .reading)) (Files.placeOf (a .reading))))
+        ≡ cond b (f (a .plan)) (headOf (Files.refusalOf (a .reading)) (Files.placeOf (a .reading)))
+    go true z = e
+    go false z =
+        ap
+        (λ (b : Bool). cond b
+        (headOf (Files.refusalOf (a .reading)) (Files.placeOf (a .reading)) ++ listingText 0 (nothingKnown 0 0 .identities) (nothingKnown 0 0 .facts))
+        (headOf (Files.refusalOf (a .reading)) (Files.placeOf (a .reading)))) z
 
-  pub apply-refused : (es : List ℕ) → (n ≡ 0 → ⊥) → headOf (Deriving.refusalOf (d .outcome)) (Deriving.refuserOf (d .outcome)) ≡ applyReply h es p
-  unfolding applyReply appliedReply
-  apply-refused es z = sym chosen ∙ ap (appliedReply p h es) ed
-    where
-      chosen : appliedReply p h es d ≡ headOf (Deriving.refusalOf (d .outcome)) (Deriving.refuserOf (d .outcome))
-      chosen = rw (ne-eqb (Deriving.refusalOf (d .outcome)) 0 (λ y. z (en ∙ y)))
+derived-known : (h : ℕ) (p : Plan) → knownReply (planKnown h p) ≡ deriveReply h p
+unfolding knownReply planKnown deriveReply derivedReply
+derived-known h p = refl
 
-  pub apply-listed : (es : List ℕ) (t : InTurn) → t ≡ inTurn p (d .facts) es 0 → n ≡ 0 → turnReply p h t ≡ applyReply h es p
-  unfolding applyReply appliedReply
-  apply-listed es t et z = ap (turnReply p h) et ∙ sym chosen ∙ ap (appliedReply p h es) ed
-    where
-      chosen : appliedReply p h es d ≡ turnReply p h (inTurn p (d .facts) es 0)
-      chosen = let e : Deriving.refusalOf (d .outcome) ≡ 0 = sym en ∙ z in rw e
+pub derive-said : (h : ℕ) (a : Answer) (k : Known) → k ≡ answerKnown h a → knownReply k ≡ onPlan (deriveReply h) a
+derive-said h a k e = ap knownReply e ∙ known-on (deriveReply h) h a (derived-known h (a .plan))
 
--- the last operator
-pub facts-last : (p : Plan) (h : ℕ) → h ≡ lastOf p → deriveReply h p ≡ factsReply p
+pub facts-said : (a : Answer) (k : Known) → k ≡ answerKnown (lastOf (a .plan)) a → knownReply k ≡ onPlan factsReply a
 unfolding factsReply
-facts-last p h e = ap (λ (k : ℕ). deriveReply k p) e
+facts-said a k e = ap knownReply e ∙ known-on factsReply (lastOf (a .plan)) a (derived-known (lastOf (a .plan)) (a .plan))
+
+-- ---- from what is known of the operator h on
+module _ (p : Plan) (h : ℕ) (es : List ℕ) (k : Known) (ek : k ≡ planKnown h p) where
+  abbrev by : Known → List ℕ
+  by d = cond (eqb (d .number) 0) (turnReply (d .identities) h (inTurn p (d .facts) es 0)) (headOf (d .number) (d .place))
+
+  told : by k ≡ applyReply h es p
+  unfolding planKnown applyReply appliedReply
+  told = ap by ek
+
+  pub apply-refused : (k .number ≡ 0 → ⊥) → headOf (k .number) (k .place) ≡ applyReply h es p
+  apply-refused z = sym chosen ∙ told
+    where
+      chosen : by k ≡ headOf (k .number) (k .place)
+      chosen = rw (ne-eqb (k .number) 0 z)
+
+  pub apply-listed : (t : InTurn) → t ≡ inTurn p (k .facts) es 0 → k .number ≡ 0 → turnReply (k .identities) h t ≡ applyReply h es p
+  apply-listed t et z = ap (turnReply (k .identities) h) et ∙ sym chosen ∙ told
+    where
+      chosen : by k ≡ turnReply (k .identities) h (inTurn p (k .facts) es 0)
+      chosen = ap (λ (b : Bool). cond b (turnReply (k .identities) h (inTurn p (k .facts) es 0)) (headOf (k .number) (k .place))) (eq-eqb (k .number) 0 z)
 
 -- ---- predicates in turn: those from the k-th on
 module _ (p : Plan) (l : List ℕ) where
@@ -136,10 +155,10 @@ pub simplify-said : (p : Plan) (o : ℕ) (r : Rewritten) (n s : ℕ) → r ≡ S
 unfolding simplifyReply rewriteReply
 simplify-said p o r n s er en es = (λ i. headOf (en i) (es i) ++ writtenOf (r .plan)) ∙ ap rewriteReply er
 
-pub turn-said : (p : Plan) (h : ℕ) (t : InTurn) (ids : Identities) (n : ℕ) → ids ≡ identitiesOf p → n ≡ Applying.refusalOf (t .outcome)
-    → headOf n (t .place) ++ listingText h ids (t .facts) ≡ turnReply p h t
+pub turn-said : (h : ℕ) (t : InTurn) (ids : Identities) (n : ℕ) → n ≡ Applying.refusalOf (t .outcome)
+    → headOf n (t .place) ++ listingText h ids (t .facts) ≡ turnReply ids h t
 unfolding turnReply
-turn-said p h t ids n ei en = λ i. headOf (en i) (t .place) ++ listingText h (ei i) (t .facts)
+turn-said h t ids n en = λ i. headOf (en i) (t .place) ++ listingText h ids (t .facts)
 
 -- ---- cells
 pub cells-none : (s : List ℕ) → replicate 64 0 ≡ cellsTo s 0

@@ -13,6 +13,7 @@ use Rattle.plan_file_write.specs.Written.{writtenOf}
 use Rattle.plan_identities.specs.Identities.{identitiesOf}
 use Rattle.rows_spec.specs.Evaluate as Evaluating
 use Rattle.rows_spec.specs.declared.Row.{Row}
+use Rattle.plan_identities.specs.declared.Identities.{Identities}
 use Rattle.apply_spec.specs.Facts as Applying
 use Rattle.apply_spec.specs.Entries.{applyPredicate}
 use Rattle.apply_spec.specs.declared.LogicalFacts.{LogicalFacts}
@@ -24,6 +25,7 @@ use Rattle.derive_spec.specs.Deriving.{deriveOf}
 use Rattle.derive_spec.specs.declared.DeriveAnswer.{DeriveAnswer}
 use Rattle.simplify_spec.specs.OneOperator as Simplifying
 use Rattle.simplify_spec.specs.declared.Rewritten.{Rewritten}
+use Rattle.file_facts.specs.declared.Known.{Known}
 use Rattle.refusals.specs.Numbers.{lastOf, standingOf, truthFound}
 use Rattle.boundary.specs.declared.InTurn.{InTurn}
 
@@ -39,6 +41,12 @@ readReply a = headOf (Files.refusalOf (a .reading)) (Files.placeOf (a .reading))
 unfoldable pub onPlan : (Plan → List ℕ) → Answer → List ℕ
 onPlan f a =
     cond (eqb (Files.refusalOf (a .reading)) 0) (f (a .plan)) (headOf (Files.refusalOf (a .reading)) (Files.placeOf (a .reading)))
+
+-- ---- what is known of an operator: the refusal and its place, or the listing
+unfoldable pub knownReply : Known → List ℕ
+knownReply k =
+    cond (eqb (k .number) 0) (headOf (k .number) (k .place) ++ listingText (k .operator) (k .identities) (k .facts))
+    (headOf (k .number) (k .place))
 
 -- ---- deriving: the refusal and the operator that refused, or the listing
 unfoldable pub derivedReply : Plan → ℕ → DeriveAnswer → List ℕ
@@ -63,13 +71,13 @@ inTurn p f [] k = record { facts = f; outcome = O.Accepted; place = 0 }
 inTurn p f (e ∷ es) k = turnBy (applyPredicate p f (record { 0 = e })) k (λ g. inTurn p g es (suc k))
 
 -- the refusal and which predicate was refused, and the listing of the facts that are handed back
-unfoldable pub turnReply : Plan → ℕ → InTurn → List ℕ
-turnReply p h t = headOf (Applying.refusalOf (t .outcome)) (t .place) ++ listingText h (identitiesOf p) (t .facts)
+unfoldable pub turnReply : Identities → ℕ → InTurn → List ℕ
+turnReply ids h t = headOf (Applying.refusalOf (t .outcome)) (t .place) ++ listingText h ids (t .facts)
 
 -- from the facts of the operator h on; where deriving those is refused, as that replies
 unfoldable pub appliedReply : Plan → ℕ → List ℕ → DeriveAnswer → List ℕ
 appliedReply p h es d =
-    cond (eqb (Deriving.refusalOf (d .outcome)) 0) (turnReply p h (inTurn p (d .facts) es 0))
+    cond (eqb (Deriving.refusalOf (d .outcome)) 0) (turnReply (identitiesOf p) h (inTurn p (d .facts) es 0))
     (headOf (Deriving.refusalOf (d .outcome)) (Deriving.refuserOf (d .outcome)))
 
 unfoldable pub applyReply : ℕ → List ℕ → Plan → List ℕ

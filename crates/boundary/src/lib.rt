@@ -3,13 +3,14 @@
 // answers where that ended. Every input has a reply.
 use apply_spec::LogicalFacts;
 use apply_spec::Outcome;
-use derive_spec::DeriveOutcome;
+use file_facts::Known;
 use plan::Expr;
 use plan::Operator;
 use plan::Plan;
 use plan_file::Reading;
 use rows_spec::Evaluation;
 use rows_spec::Row;
+use plan_identities::Identities;
 use simplify_spec::Rewrite;
 ghost use mathlib.Core.Path.{_≡_};
 ghost use mathlib.Core.List.{[]};
@@ -17,10 +18,9 @@ ghost use Rattle.plan_file.specs.Answers as Files;
 ghost use Rattle.plan_file.specs.Steps.{readOf};
 ghost use Rattle.rows_spec.specs.Evaluate as Evaluating;
 ghost use Rattle.apply_spec.specs.Facts as Applying;
-ghost use Rattle.derive_spec.specs.Operators as Deriving;
 ghost use Rattle.simplify_spec.specs.OneOperator as Simplifying;
 ghost use Rattle.writing.specs.Text.{Wrote};
-ghost use Rattle.boundary.specs.Replies.{headOf, readReply, onPlan, deriveReply, factsReply, inTurn, turnReply, applyReply, simplifyReply};
+ghost use Rattle.boundary.specs.Replies.{headOf, readReply, onPlan, knownReply, deriveReply, factsReply, inTurn, turnReply, applyReply, simplifyReply};
 ghost use Rattle.boundary.specs.Replies.{evaluateReply, cellsTo, rowIn};
 
 // Predicates applied in turn: the facts, and what came of the last one that was applied.
@@ -47,27 +47,20 @@ fn refused_reading(out: &mut [u8], r: Reading) -> usize
     head(out, n, place as u64)
 }
 
-fn refused_deriving(out: &mut [u8], o: DeriveOutcome) -> usize
-    ensures { λ n. ⌜ Wrote (now (out .entry)) 0 (now (out .exit)) n (headOf (Deriving.refusalOf o) (Deriving.refuserOf o)) ⌝ }
+// The listing, or the refusal.
+fn known_reply(out: &mut [u8], k: Known) -> usize
+    ensures { λ r. ⌜ Wrote (now (out .entry)) 0 (now (out .exit)) r (knownReply k) ⌝ }
 {
-    let n = refusals::derive_number(o);
-    let place = refusals::derive_place(o);
-    head(out, n, place as u64)
-}
-
-// The listing of the operator h, or who refused.
-fn derive_plan(out: &mut [u8], p: Plan, h: u16) -> usize
-    ensures { λ r. ⌜ Wrote (now (out .entry)) 0 (now (out .exit)) r (deriveReply h p) ⌝ }
-{
-    let d = derive_logical_facts::derive_logical_facts(p, Operator(h));
-    let o = d.outcome;
-    let q = refused_deriving(out, o);
-    if refusals::derive_number(o) != 0 {
+    let n = k.number;
+    let h = k.operator as usize;
+    let place = k.place;
+    let q = head(out, n, place as u64);
+    if n != 0 {
         return q;
     }
-    let ids = plan_identities::identities_of(p);
-    let f = d.facts;
-    listing::listing(out, q, h as usize, ids, f)
+    let ids = k.identities;
+    let f = k.facts;
+    listing::listing(out, q, h, ids, f)
 }
 
 // Predicates applied to the facts f one after the other; the first that is refused ends it.
@@ -98,14 +91,13 @@ fn in_turn(p: Plan, f: LogicalFacts, predicates: &[u16]) -> InTurn
     }
 }
 
-fn turn_reply(out: &mut [u8], p: Plan, h: u16, t: InTurn) -> usize
-    ensures { λ r. ⌜ Wrote (now (out .entry)) 0 (now (out .exit)) r (turnReply p h t) ⌝ }
+fn turn_reply(out: &mut [u8], ids: Identities, h: u16, t: InTurn) -> usize
+    ensures { λ r. ⌜ Wrote (now (out .entry)) 0 (now (out .exit)) r (turnReply ids h t) ⌝ }
 {
     let o = t.outcome;
     let n = refusals::outcome_number(o);
     let place = t.place;
     let q = head(out, n, place as u64);
-    let ids = plan_identities::identities_of(p);
     let f = t.facts;
     listing::listing(out, q, h as usize, ids, f)
 }
@@ -113,14 +105,16 @@ fn turn_reply(out: &mut [u8], p: Plan, h: u16, t: InTurn) -> usize
 fn apply_plan(out: &mut [u8], p: Plan, h: u16, predicates: &[u16]) -> usize
     ensures { λ r. ⌜ Wrote (now (out .entry)) 0 (now (out .exit)) r (applyReply h (now (predicates .entry)) p) ⌝ }
 {
-    let d = derive_logical_facts::derive_logical_facts(p, Operator(h));
-    let o = d.outcome;
-    if refusals::derive_number(o) != 0 {
-        return refused_deriving(out, o);
+    let k = file_facts::of_plan(p, h);
+    let n = k.number;
+    let place = k.place;
+    if n != 0 {
+        return head(out, n, place as u64);
     }
-    let f = d.facts;
+    let f = k.facts;
+    let ids = k.identities;
     let t = in_turn(p, f, predicates);
-    turn_reply(out, p, h, t)
+    turn_reply(out, ids, h, t)
 }
 
 fn simplify_plan(out: &mut [u8], p: Plan, o: u16) -> usize
@@ -199,13 +193,8 @@ pub extern "C" fn mossladder_read(file: &[u8], out: &mut [u8]) -> usize
 pub extern "C" fn mossladder_derive(file: &[u8], operator: u16, out: &mut [u8]) -> usize
     ensures { λ r. ⌜ Wrote (now (out .entry)) 0 (now (out .exit)) r (onPlan (deriveReply operator) (readOf (now (file .entry)))) ⌝ }
 {
-    let a = plan_file::read(file);
-    let k = a.reading;
-    if refusals::reading_number(k) != 0 {
-        return refused_reading(out, k);
-    }
-    let p = a.plan;
-    derive_plan(out, p, operator)
+    let k = file_facts::of_operator(file, operator);
+    known_reply(out, k)
 }
 
 // Lists the facts of the last operator of a plan file.
@@ -213,14 +202,8 @@ pub extern "C" fn mossladder_derive(file: &[u8], operator: u16, out: &mut [u8]) 
 pub extern "C" fn mossladder_facts(file: &[u8], out: &mut [u8]) -> usize
     ensures { λ r. ⌜ Wrote (now (out .entry)) 0 (now (out .exit)) r (onPlan factsReply (readOf (now (file .entry)))) ⌝ }
 {
-    let a = plan_file::read(file);
-    let k = a.reading;
-    if refusals::reading_number(k) != 0 {
-        return refused_reading(out, k);
-    }
-    let p = a.plan;
-    let h = refusals::last_operator(p);
-    derive_plan(out, p, h)
+    let k = file_facts::of_last(file);
+    known_reply(out, k)
 }
 
 // Applies predicates, one after the other, to the facts of an operator, and lists what is then known.

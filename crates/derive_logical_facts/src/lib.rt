@@ -6,12 +6,20 @@ use plan::Operator;
 use plan::Operators;
 use plan::Plan;
 use plan_data::OperatorData;
+use plan_identities::Identities;
 ghost use mathlib.Core.Path.{_≡_};
 ghost use Prim.Native.Nat.{_<_, min};
 ghost use lib.ListN.{getD};
 ghost use Rattle.plan.specs.Records.{operatorRecordOf};
 ghost use Rattle.plan_data.specs.Nodes.{operatorData};
+ghost use Rattle.plan_identities.specs.Identities.{identitiesOf};
 ghost use Rattle.derive_spec.specs.Deriving.{answerOf, deriveOf};
+
+// The answer for an operator, and the identities of its plan's values, by which it is listed: numbering them takes a pass over all operators.
+pub struct Numbered {
+    pub answer: DeriveAnswer,
+    pub identities: Identities,
+}
 
 // The number i, and h where i is not below it: the entry h is still empty when h is derived.
 fn earlier(i: u16, h: u16) -> usize
@@ -30,12 +38,12 @@ fn operator_at(t: Operators, h: u16) -> OperatorData
 }
 
 // The operators up to h, which is among the plan's.
-fn derive_to(p: Plan, h: u16) -> DeriveAnswer
+fn derive_to(p: Plan, ids: Identities, h: u16) -> DeriveAnswer
     requires { ⌜ h < 128 ⌝ }
+    requires { ⌜ ids ≡ identitiesOf p ⌝ }
     ensures { λ r. ⌜ r ≡ answerOf p h ⌝ }
 {
     let operators = p.operators;
-    let ids = plan_identities::identities_of(p);
     let none = derive_operator::refuse(DeriveOutcome::NoSuch(Operator(0)));
     let mut table = [none; 128];
     let mut k: u16 = 0;
@@ -55,11 +63,11 @@ fn derive_to(p: Plan, h: u16) -> DeriveAnswer
     d
 }
 
-// The facts of an operator of the plan.
-pub fn derive_logical_facts(p: Plan, o: Operator) -> DeriveAnswer
-    ensures { λ r. ⌜ r ≡ deriveOf p (o .0) ⌝ }
+// The facts of the operator h, if it is among those of a plan that keeps the rules.
+fn derive_with(p: Plan, ids: Identities, h: u16) -> DeriveAnswer
+    requires { ⌜ ids ≡ identitiesOf p ⌝ }
+    ensures { λ r. ⌜ r ≡ deriveOf p h ⌝ }
 {
-    let h = o.0;
     let operators = p.operators;
     if !plan_rules::plan_ok(p) {
         return derive_operator::refuse(DeriveOutcome::NoSuch(Operator(h)));
@@ -67,5 +75,24 @@ pub fn derive_logical_facts(p: Plan, o: Operator) -> DeriveAnswer
     if operators.count <= h {
         return derive_operator::refuse(DeriveOutcome::NoSuch(Operator(h)));
     }
-    derive_to(p, h)
+    derive_to(p, ids, h)
+}
+
+// The facts of an operator of the plan, with the plan's identities.
+pub fn derive_numbered(p: Plan, o: Operator) -> Numbered
+    ensures { λ r. ⌜ r .answer ≡ deriveOf p (o .0) ⌝ }
+    ensures { λ r. ⌜ r .identities ≡ identitiesOf p ⌝ }
+{
+    let identities = plan_identities::identities_of(p);
+    let answer = derive_with(p, identities, o.0);
+    Numbered { answer, identities }
+}
+
+// The facts of an operator of the plan.
+pub fn derive_logical_facts(p: Plan, o: Operator) -> DeriveAnswer
+    ensures { λ r. ⌜ r ≡ deriveOf p (o .0) ⌝ }
+{
+    let n = derive_numbered(p, o);
+    let d = n.answer;
+    d
 }
