@@ -12,48 +12,114 @@ enter-requires : tie.Need-enter-requires
 enter-requires c κs = search needs
 
 next-conjuncts-requires : tie.Need-next-conjuncts-requires
-next-conjuncts-requires c κs =
-    let at-enter = c .before .before .before .before .before in
-    let at-empty = at-enter .before in
-    let start = at-empty .before .before .before in
-    let args = start .args in (
-      search needs,
-      start-ready (now (args .kind)) (now (args .code)) (now (args .a)) (now (args .b)) (now (args .bits)) (now (args .start))
-          (now (args .items)) (now (args .lineage)) (search needs) (search needs) (args .e) (start .pre) (at-empty .empty .result) (at-enter .enter .result)
-          (at-empty .empty .ensures) (at-enter .enter .ensures),
-    )
+next-conjuncts-requires c κs = (
+  search needs,
+  start-ready (now (c .before .before .before .before .before .before .before .before .before .args .kind))
+      (now (c .before .before .before .before .before .before .before .before .before .args .code))
+      (now (c .before .before .before .before .before .before .before .before .before .args .a))
+      (now (c .before .before .before .before .before .before .before .before .before .args .b))
+      (now (c .before .before .before .before .before .before .before .before .before .args .bits))
+      (now (c .before .before .before .before .before .before .before .before .before .args .start))
+      (now (c .before .before .before .before .before .before .before .before .before .args .items))
+      (now (c .before .before .before .before .before .before .before .before .before .args .lineage)) (search needs) (search needs)
+      (c .before .before .before .before .before .before .before .before .before .args .e)
+      (c .before .before .before .before .before .before .before .before .before .pre) (c .before .before .before .before .before .before .empty .result)
+      (c .before .before .before .before .before .enter .result) (c .before .before .before .before .before .before .empty .ensures)
+      (c .before .before .before .before .before .enter .ensures),
+)
 
 apply-handles-requires : tie.Need-apply-handles-requires
 apply-handles-requires c κs = search needs
 
 returns : tie.Need-returns
-returns c =
-    let at-if1 = c .before .before .before .before .before .before .before .before .before in
-    let at-next-conjuncts = at-if1 .before in
-    let at-enter = at-next-conjuncts .before .before .before .before .before .before in
-    let at-empty = at-enter .before in
-    let start = at-empty .before .before .before in
-    let args = start .args in
-    found-all (now (args .kind)) (now (args .code)) (now (args .a)) (now (args .b)) (now (args .bits)) (now (args .start)) (now (args .items))
-    (now (args .lineage)) (args .e) (args .s) (at-enter .enter .result) (at-next-conjuncts .next-conjuncts .result .walk) _ (search needs)
-    (start-whole (now (args .kind)) (now (args .code)) (now (args .a)) (now (args .b)) (now (args .bits)) (now (args .start)) (now (args .items))
-    (now (args .lineage)) (search needs) (search needs) (args .e) (start .pre) (at-empty .empty .result) (at-enter .enter .result)
-    (at-empty .empty .ensures) (at-enter .enter .ensures)) (at-next-conjuncts .next-conjuncts .ensures .1 .1 .0 (now (args .b)) (now (args .bits)))
-    (at-if1 .if1 .taken) (c .apply-handles .result) (c .apply-handles .ensures)
+returns c = found-all
+    (now (c .before .before .before .before .before .before .before .before .before .before .before .before .before .before .before .before .before .before
+    .before .before .args .kind))
+    (now (c .before .before .before .before .before .before .before .before .before .before .before .before .before .before .before .before .before .before
+    .before .before .args .code))
+    (now (c .before .before .before .before .before .before .before .before .before .before .before .before .before .before .before .before .before .before
+    .before .before .args .a))
+    (now (c .before .before .before .before .before .before .before .before .before .before .before .before .before .before .before .before .before .before
+    .before .before .args .b))
+    (now (c .before .before .before .before .before .before .before .before .before .before .before .before .before .before .before .before .before .before
+    .before .before .args .bits))
+    (now (c .before .before .before .before .before .before .before .before .before .before .before .before .before .before .before .before .before .before
+    .before .before .args .start))
+    (now (c .before .before .before .before .before .before .before .before .before .before .before .before .before .before .before .before .before .before
+    .before .before .args .items))
+    (now (c .before .before .before .before .before .before .before .before .before .before .before .before .before .before .before .before .before .before
+    .before .before .args .lineage))
+    (c .before .before .before .before .before .before .before .before .before .before .before .before .before .before .before .before .before .before .before
+    .before .args .e)
+    (c .before .before .before .before .before .before .before .before .before .before .before .before .before .before .before .before .before .before .before
+    .before .args .s)
+    (c .before .before .before .before .before .before .before .before .before .before .before .before .before .before .before .before .enter .result)
+    (c .before .before .before .before .before .before .before .before .before .before .next-conjuncts .result .walk) _ (search needs)
+    (start-whole
+    (now (c .before .before .before .before .before .before .before .before .before .before .before .before .before .before .before .before .before .before
+    .before .before .args .kind))
+    (now (c .before .before .before .before .before .before .before .before .before .before .before .before .before .before .before .before .before .before
+    .before .before .args .code))
+    (now (c .before .before .before .before .before .before .before .before .before .before .before .before .before .before .before .before .before .before
+    .before .before .args .a))
+    (now (c .before .before .before .before .before .before .before .before .before .before .before .before .before .before .before .before .before .before
+    .before .before .args .b))
+    (now (c .before .before .before .before .before .before .before .before .before .before .before .before .before .before .before .before .before .before
+    .before .before .args .bits))
+    (now (c .before .before .before .before .before .before .before .before .before .before .before .before .before .before .before .before .before .before
+    .before .before .args .start))
+    (now (c .before .before .before .before .before .before .before .before .before .before .before .before .before .before .before .before .before .before
+    .before .before .args .items))
+    (now (c .before .before .before .before .before .before .before .before .before .before .before .before .before .before .before .before .before .before
+    .before .before .args .lineage)) (search needs) (search needs)
+    (c .before .before .before .before .before .before .before .before .before .before .before .before .before .before .before .before .before .before .before
+    .before .args .e)
+    (c .before .before .before .before .before .before .before .before .before .before .before .before .before .before .before .before .before .before .before
+    .before .pre)
+    (c .before .before .before .before .before .before .before .before .before .before .before .before .before .before .before .before .before .empty .result)
+    (c .before .before .before .before .before .before .before .before .before .before .before .before .before .before .before .before .enter .result)
+    (c .before .before .before .before .before .before .before .before .before .before .before .before .before .before .before .before .before .empty
+    .ensures)
+    (c .before .before .before .before .before .before .before .before .before .before .before .before .before .before .before .before .enter .ensures))
+    (c .before .before .before .before .before .before .before .before .before .before .next-conjuncts .ensures .1 .1 .0
+    (now (c .before .before .before .before .before .before .before .before .before .before .before .before .before .before .before .before .before .before
+    .before .before .args .b))
+    (now (c .before .before .before .before .before .before .before .before .before .before .before .before .before .before .before .before .before .before
+    .before .before .args .bits))) (c .before .before .before .before .before .before .before .before .before .if1 .taken) (c .apply-handles .result)
+    (c .apply-handles .ensures)
 
 apply-many-requires : tie.Need-apply-many-requires
-apply-many-requires c κs =
-    let at-enter = c .before .before .before .before .before .before .before in
-    let at-empty = at-enter .before in
-    let start = at-empty .before .before .before in
-    let args = start .args in (
-      start-ready (now (args .kind)) (now (args .code)) (now (args .a)) (now (args .b)) (now (args .bits)) (now (args .start)) (now (args .items))
-          (now (args .lineage)) (search needs) (search needs) (args .e) (start .pre) (at-empty .empty .result) (at-enter .enter .result)
-          (at-empty .empty .ensures) (at-enter .enter .ensures),
-      start-whole (now (args .kind)) (now (args .code)) (now (args .a)) (now (args .b))
-          (now (args .bits)) (now (args .start)) (now (args .items)) (now (args .lineage)) (search needs) (search needs) (args .e) (start .pre)
-          (at-empty .empty .result) (at-enter .enter .result) (at-empty .empty .ensures) (at-enter .enter .ensures),
-    )
+apply-many-requires c κs = (
+  start-ready (now (c .before .before .before .before .before .before .before .before .before .before .before .args .kind))
+      (now (c .before .before .before .before .before .before .before .before .before .before .before .args .code))
+      (now (c .before .before .before .before .before .before .before .before .before .before .before .args .a))
+      (now (c .before .before .before .before .before .before .before .before .before .before .before .args .b))
+      (now (c .before .before .before .before .before .before .before .before .before .before .before .args .bits))
+      (now (c .before .before .before .before .before .before .before .before .before .before .before .args .start))
+      (now (c .before .before .before .before .before .before .before .before .before .before .before .args .items))
+      (now (c .before .before .before .before .before .before .before .before .before .before .before .args .lineage)) (search needs) (search needs)
+      (c .before .before .before .before .before .before .before .before .before .before .before .args .e)
+      (c .before .before .before .before .before .before .before .before .before .before .before .pre)
+      (c .before .before .before .before .before .before .before .before .empty .result)
+      (c .before .before .before .before .before .before .before .enter .result)
+      (c .before .before .before .before .before .before .before .before .empty .ensures)
+      (c .before .before .before .before .before .before .before .enter .ensures),
+  start-whole
+      (now (c .before .before .before .before .before .before .before .before .before .before .before .args .kind))
+      (now (c .before .before .before .before .before .before .before .before .before .before .before .args .code))
+      (now (c .before .before .before .before .before .before .before .before .before .before .before .args .a))
+      (now (c .before .before .before .before .before .before .before .before .before .before .before .args .b))
+      (now (c .before .before .before .before .before .before .before .before .before .before .before .args .bits))
+      (now (c .before .before .before .before .before .before .before .before .before .before .before .args .start))
+      (now (c .before .before .before .before .before .before .before .before .before .before .before .args .items))
+      (now (c .before .before .before .before .before .before .before .before .before .before .before .args .lineage)) (search needs) (search needs)
+      (c .before .before .before .before .before .before .before .before .before .before .before .args .e)
+      (c .before .before .before .before .before .before .before .before .before .before .before .pre)
+      (c .before .before .before .before .before .before .before .before .empty .result)
+      (c .before .before .before .before .before .before .before .enter .result)
+      (c .before .before .before .before .before .before .before .before .empty .ensures)
+      (c .before .before .before .before .before .before .before .enter .ensures),
+)
 
 returns-2 : tie.Need-returns-2
 returns-2 c = search needs
