@@ -20,7 +20,7 @@ WIDTH = 120
 
 # the rooms, the highest first: a crate belongs to the room that names it, else to the one whose prefix it has
 ROOMS = [
-    ("outside", ["facts", "facts_text", "boundary", "refusals"]),
+    ("outside", ["facts", "facts_text", "file_facts", "boundary", "refusals"]),
     ("cases", ["cases"]),
     ("listing", ["listing", "writing"]),
     ("simplify", ["expr_simplify"]),

@@ -20,10 +20,10 @@ use Rattle.value_range.specs.Ranges.{unboundedRange, emptyRange}
 use Rattle.value_range.specs.declared.ValueRange.{ValueRange}
 use Rattle.comparison.specs.Operators.{bounding}
 use Rattle.comparison.specs.declared.BinaryOp.{BinaryOp}
-use Rattle.constraint_spec.specs.Sets.{none, blank, held, entryOf, nonNulls, literals, handles, nonNullAt, literalAt, entryAt, withFlag}
+use Rattle.constraint_spec.specs.Sets.{none, blank, held, entryOf, classesOf, nonNulls, literals, handles, nonNullAt, literalAt, entryAt, withValues, withFlag}
 use Rattle.constraint_spec.specs.Sets.{withResiduals, flagIf, clashes, rangeIn, tightenBy, outside, crossed, crossedAt, crossCheck, canonicalAt}
 use Rattle.constraint_spec.specs.Sets.{putNonNull, putLiteral, putRange, layRange, boundsBy, unionValues, addNonNull, addLiteral, addBound}
-use Rattle.constraint_spec.specs.Sets.{addResidual, done}
+use Rattle.constraint_spec.specs.Sets.{addResidual, appliedOf, done}
 use Rattle.constraint_spec.specs.declared.Holder.{Holder}
 use Rattle.constraint_spec.specs.declared.Entry as En
 use Rattle.constraint_spec.specs.declared.ConstraintSet.{ConstraintSet}
@@ -129,17 +129,7 @@ module _ (u : ConstraintSet) (r : ℕ) where
 
   -- the set with other lists and another flag
   abbrev rest : List Bool → List Holder → List En.Entry → Bool → ConstraintSet
-  rest n l e f =
-      record {
-        «equivalence_classes» = u .«equivalence_classes»;
-        «non_null_values» = n;
-        «literal_equalities» = l;
-        ranges = e;
-        «residual_predicates» = handles
-            u;
-        residuals = u .residuals;
-        contradictory = f;
-      }
+  rest n l e f = withValues u (classesOf u) n l e f
 
   pub cell-same : withCell u r (cellOf u r) ≡ u
   unfolding withCell
@@ -302,15 +292,15 @@ module _ (act : Action) (p : Proper act) (h : ℕ) (checked : Bool) (q u w : Con
   w-is : w ≡ recordedIn act u
   w-is = ew ∙ written-is checked u long c act r p low er
 
-  pub turned : record { constraints = withResiduals w (k .list) (k .count); refused = k .refused } ≡ acted act q h
+  pub turned : appliedOf (withResiduals w (k .list) (k .count)) (k .refused) ≡ acted act q h
   turned = go (isResidual act) refl ∙ sym (acted-is act q h)
     where
       go : (b : Bool) → isResidual act ≡ b
-          → record { constraints = withResiduals w (k .list) (k .count); refused = k .refused }
+          → appliedOf (withResiduals w (k .list) (k .count)) (k .refused)
           ≡ cond (isResidual act) (addResidual (recordedIn act (joinedBy act q)) h) (done (recordedIn act (joinedBy act q)))
       go true e = rw e (residual-added w h k (ek ∙ rw e) ∙ ap (λ (t : ConstraintSet). addResidual t h) (w-is ∙ ap (recordedIn act) eu))
       go false e = rw e
-          (ap (λ (x : Kept). record { constraints = withResiduals w (x .list) (x .count); refused = x .refused }) (ek ∙ rw e) ∙ ap done
+          (ap (λ (x : Kept). appliedOf (withResiduals w (x .list) (x .count)) (x .refused)) (ek ∙ rw e) ∙ ap done
           (w-is ∙ ap (recordedIn act) eu))
 
   pub turned-checked : (checked || isChecking act) ≡ true → Checked (withResiduals w (k .list) (k .count))

@@ -11,8 +11,8 @@ use lib.ListN.{getD, set, length-set}
 use lib.Seq.{getD-set-same, getD-set-other}
 use Rattle.value_range.specs.Ranges.{unboundedRange}
 use Rattle.value_range.specs.declared.ValueRange.{ValueRange}
-use Rattle.value_classes.proofs.RootLaws.{falls, root-idempotent}
-use Rattle.constraint_spec.specs.Sets.{none, held, noEntry, blank, entryOf, parentsOf, nonNulls, literals, literalAt, entryAt, canonicalAt}
+use Rattle.value_classes.proofs.ClassLaws.{falling, canonical-idempotent}
+use Rattle.constraint_spec.specs.Sets.{none, held, noEntry, blank, entryOf, classesOf, nonNulls, literals, literalAt, entryAt, canonicalAt}
 use Rattle.constraint_spec.specs.Sets.{withResiduals, rangeIn, boundsBy}
 use Rattle.constraint_spec.specs.declared.Entry as En
 use Rattle.constraint_spec.specs.declared.ConstraintSet.{ConstraintSet}
@@ -121,7 +121,7 @@ module _ (u : ConstraintSet) (g : Settled u) (act : Action) (p : Proper act) (r 
   long = (g .equal .long, g .within .long)
 
   own : canonicalAt u r ≡ r
-  own = subst (λ (k : ℕ). canonicalAt u k ≡ k) (sym er) (root-idempotent (parentsOf u) (falls (parentsOf u) (g .ok)) (firstOf act))
+  own = subst (λ (k : ℕ). canonicalAt u k ≡ k) (sym er) (canonical-idempotent (classesOf u) (falling (classesOf u) (g .ok)) (firstOf act))
 
   is : withCell u r (cellAfter (cellOf u r) act) ≡ recordedIn act u
   is = written-is true u long (λ e. g .checked) act r p low er

@@ -7,7 +7,7 @@ use Rattle.scalar.specs.declared.ScalarValue.{ScalarValue}
 use Rattle.value_range.specs.Ranges.{unboundedRange, emptyRange}
 use Rattle.value_range.specs.declared.ValueRange.{ValueRange}
 use Rattle.comparison.specs.declared.BinaryOp.{BinaryOp}
-use Rattle.constraint_spec.specs.Sets.{held, entryOf, nonNulls, literals, handles, nonNullAt, literalAt, entryAt, clashes, rangeIn, tightenBy}
+use Rattle.constraint_spec.specs.Sets.{held, entryOf, classesOf, nonNulls, literals, nonNullAt, literalAt, entryAt, withValues, clashes, rangeIn, tightenBy}
 use Rattle.constraint_spec.specs.Sets.{crossed, boundsBy}
 use Rattle.constraint_spec.specs.declared.ConstraintSet.{ConstraintSet}
 use Rattle.apply_action.specs.declared.Action.{Action}
@@ -21,15 +21,7 @@ cellOf s r = record { «non_null» = nonNullAt s r; literal = literalAt s r; ent
 -- s with that anew
 unfoldable pub withCell : ConstraintSet → ℕ → Cell → ConstraintSet
 withCell s r c =
-    record {
-      «equivalence_classes» = s .«equivalence_classes»;
-      «non_null_values» = set (nonNulls s) r (c .«non_null»);
-      «literal_equalities» = set (literals s) r (c .literal);
-      ranges = set (s .ranges) r (c .entry);
-      «residual_predicates» = handles s;
-      residuals = s .residuals;
-      contradictory = c .contradictory;
-    }
+    withValues s (classesOf s) (set (nonNulls s) r (c .«non_null»)) (set (literals s) r (c .literal)) (set (s .ranges) r (c .entry)) (c .contradictory)
 
 -- not NULL
 abbrev pub nonNullCell : Cell → Cell

@@ -11,8 +11,8 @@ use lib.Seq.{take-all}
 use borrow.Author.Tests.{eqb-true, eqb-false, eq-eqb, not-false}
 use Rattle.value_classes.specs.Classes.{canonicalOf, sameClass}
 use Rattle.value_classes.specs.declared.ValueEquivalenceClasses.{ValueEquivalenceClasses}
-use Rattle.value_classes.proofs.RootLaws.{root-below}
-use Rattle.constraint_spec.specs.Sets.{done, parentsOf, canonicalAt, unionValues, crossCheck, handles, withResiduals}
+use Rattle.value_classes.proofs.ClassLaws.{canonical-small}
+use Rattle.constraint_spec.specs.Sets.{appliedOf, done, classesOf, canonicalAt, unionValues, crossCheck, handles, withResiduals}
 use Rattle.constraint_spec.specs.declared.ConstraintSet.{ConstraintSet}
 use Rattle.constraint_spec.specs.declared.Applied.{Applied}
 use Rattle.constraint_spec.proofs.Operations.{union-one}
@@ -28,7 +28,6 @@ use Rattle.apply_action.specs.declared.Cell.{Cell}
 use Rattle.apply_action.proofs.Acts.{acts, proper}
 use Rattle.apply_action.proofs.CellLaws.{joinedBy, joined-apart, joined-together, first-low, second-low, turned}
 use Rattle.apply_conjuncts.proofs.Wides.{Wide, union-wide}
-use Rattle.apply_conjuncts.proofs.Applying.{appliedOf}
 
 -- ---- one identity is in one class
 pub never-apart : (k : ValueEquivalenceClasses) (i j : ℕ) → i ≡ j → false ≡ not (sameClass k i j)
@@ -70,7 +69,7 @@ module _ (lineage : List ℕ) (node : ℕ → ExprData) (h : ℕ) (act : Action)
 
     -- its representative is an identity
     pub alone-low : r < 128
-    alone-low = root-below (parentsOf u) 128 i r (u-wide .0) er (omega (arith, ei, first-below))
+    alone-low = canonical-small (classesOf u) i r (u-wide .0) er (omega (arith, ei, first-below))
 
     -- a cell is written, and held against the others where that is asked for
     module _ (new : Cell) (en : new ≡ cellAfter (cellOf u r) act) (w : ConstraintSet) where

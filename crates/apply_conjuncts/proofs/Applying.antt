@@ -10,12 +10,13 @@ use lib.ListN.{length, getD, take, drop, drop-of-length-le}
 use lib.Seq.{drop-cons, length-take-le}
 use borrow.Author.Tests.{ltb-true, ltb-false, not-true}
 use Rattle.lists.proofs.RangeLaws.{and-left, and-right}
-use Rattle.value_classes.specs.Parents.{rootOf, parentsOk}
+use Rattle.value_classes.specs.Classes.{Whole, classesOk, canonicalOf}
 use Rattle.value_classes.specs.Listed.{rootsOf}
 use Rattle.value_classes.specs.declared.Roots.{Roots}
 use Rattle.value_classes.specs.declared.ValueEquivalenceClasses.{ValueEquivalenceClasses}
-use Rattle.value_classes.proofs.RootLaws.{each-at, root-small}
-use Rattle.constraint_spec.specs.Sets.{done, parentsOf, canonicalAt, unionValues, normalized, crossCheck, handles, withResiduals}
+use Rattle.value_classes.proofs.ClassLaws.{canonical-small}
+use Rattle.value_classes.proofs.MemberLaws.{roots-at}
+use Rattle.constraint_spec.specs.Sets.{appliedOf, done, classesOf, canonicalAt, unionValues, normalized, crossCheck, handles, withResiduals}
 use Rattle.constraint_spec.specs.declared.ConstraintSet.{ConstraintSet}
 use Rattle.constraint_spec.specs.declared.Applied.{Applied}
 use Rattle.constraint_spec.proofs.Operations.{union-two}
@@ -35,9 +36,6 @@ use Rattle.apply_conjuncts.proofs.Wides.{Wide, union-wide, cell-wide}
 use Rattle.apply_action.proofs.CellLaws.{joinedBy, joined-apart, joined-together, first-low, second-low, written, turned, turned-checked}
 use Rattle.apply_action.proofs.Settles.{turned-settled}
 use Rattle.apply_conjuncts.proofs.Joins.{union-settles}
-
-abbrev pub appliedOf : ConstraintSet → Bool → Applied
-appliedOf q refused = record { constraints = q; refused = refused }
 
 -- what the loop knows after k of the handles hs
 pub record Turning (apply : ConstraintSet → ℕ → Applied) (hs : List ℕ) (s q : ConstraintSet) (roots : Roots) (settled checked refused : Bool) (k : ℕ) : Type 0
@@ -79,13 +77,12 @@ module _ (apply : ConstraintSet → ℕ → Applied) where
       go true false p z f = cc
 
 -- ---- the table of representatives
-module _ (classes : ValueEquivalenceClasses) (roots : Roots) (e : roots ≡ rootsOf classes) (long : length (classes .parents) ≡ 128) where
-  pub root-at : (i : ℕ) → i < 128 → getD (roots .of) i 0 ≡ rootOf (classes .parents) i
-  unfolding rootsOf
-  root-at i h = ap (λ (r : Roots). getD (r .of) i 0) e ∙ each-at (rootOf (classes .parents)) 128 i h
+module _ (classes : ValueEquivalenceClasses) (roots : Roots) (e : roots ≡ rootsOf classes) (long : Whole classes) where
+  pub root-at : (i : ℕ) → i < 128 → getD (roots .of) i 0 ≡ canonicalOf classes i
+  root-at i h = ap (λ (r : Roots). getD (r .of) i 0) e ∙ roots-at classes i h
 
   pub root-low : (i : ℕ) → i < 128 → getD (roots .of) i 0 < 128
-  root-low i h = omega (arith, root-at i h, root-small (classes .parents) i (omega arith))
+  root-low i h = canonical-small classes i (getD (roots .of) i 0) long (root-at i h) h
 
 -- ---- the classes joined, if they are two
 pub record JoinedIn (act : Action) (q u : ConstraintSet) (roots : Roots) (settled checked : Bool) : Type 0 where
@@ -109,7 +106,7 @@ module _ (act : Action) (p : Proper act) (q : ConstraintSet) (roots : Roots) (e 
 
   pub when-apart : (getD (roots .of) i 0 ≡ getD (roots .of) j 0 → ⊥) → (t u : ConstraintSet) (r v : Roots) (ok settled checked : Bool) → t ≡ unionValues q i j
       → r ≡ rootsOf (t .«equivalence_classes»)
-      → ok ≡ parentsOk (parentsOf t) → u ≡ t → v ≡ r → settled ≡ ok → JoinedIn act q u v settled checked
+      → ok ≡ classesOk (classesOf t) → u ≡ t → v ≡ r → settled ≡ ok → JoinedIn act q u v settled checked
   when-apart d t u r v ok settled checked et er eo eu ev es =
       let apart : canonicalAt q (firstOf act) ≡ canonicalAt q (secondOf act) → ⊥ = λ z. d (at-first ∙ z ∙ sym at-second) in
       let so : u ≡ unionValues q (firstOf act) (secondOf act) = eu ∙ et ∙ (λ k. unionValues q (ei k) (ej k)) in
@@ -119,7 +116,7 @@ module _ (act : Action) (p : Proper act) (q : ConstraintSet) (roots : Roots) (e 
         rooted = ev ∙ er ∙ ap (λ (x : ConstraintSet). rootsOf (x .«equivalence_classes»)) (sym eu);
         settles = λ c. subst Settled (sym so)
             (union-settles q (firstOf act) (secondOf act) (first-low act p) (second-low act p) apart (wide .0)
-            (ap (λ (x : ConstraintSet). parentsOk (parentsOf x)) (sym so ∙ eu) ∙ sym eo ∙ sym es ∙ c));
+            (ap (λ (x : ConstraintSet). classesOk (classesOf x)) (sym so ∙ eu) ∙ sym eo ∙ sym es ∙ c));
         told = λ c. subst Checked (sym (so ∙ union-two q (firstOf act) (secondOf act) (first-low act p) (second-low act p) apart)) (normal-checked _);
       }
 

@@ -1,17 +1,17 @@
 -- A union in a settled set moves one place only, and a union after which the parents are in order leaves a settled set. Assumes nothing.
-use Prim.Native.Nat.{ℕ, _<_, min, max}
+use Prim.Native.Nat.{ℕ, _<_}
 use mathlib.Core.Path.{_≡_, sym, ap, subst, _∙_}
 use mathlib.Core.Bool.{true}
-use mathlib.Core.List.{List}
 use native.Mathlib.Omega.{arith}
-use lib.ListN.{length, set}
-use Rattle.value_classes.specs.Parents.{parentsOk, joined}
-use Rattle.value_classes.proofs.RootLaws.{falls, root-below, root-idempotent, joined-length}
-use Rattle.constraint_spec.specs.Sets.{none, noEntry, parentsOf, canonicalAt, withClasses, normalized, unionValues}
+use Rattle.value_classes.specs.Classes.{Whole, classesOk, joinedClasses, rootsJoined}
+use Rattle.value_classes.specs.declared.ValueEquivalenceClasses.{ValueEquivalenceClasses}
+use Rattle.value_classes.proofs.ClassLaws.{falling, canonical-small, canonical-idempotent, joined-whole, rootsAnswered, roots-answered, joined-to-left}
+use Rattle.value_classes.proofs.ClassLaws.{joined-to-right}
+use Rattle.constraint_spec.specs.Sets.{none, noEntry, classesOf, canonicalAt, withClasses, normalized, unionValues}
 use Rattle.constraint_spec.specs.declared.Holder.{Holder}
 use Rattle.constraint_spec.specs.declared.Entry.{Entry}
 use Rattle.constraint_spec.specs.declared.ConstraintSet.{ConstraintSet}
-use Rattle.constraint_spec.proofs.Beside.{beside-self, beside-parents, beside-normalized}
+use Rattle.constraint_spec.proofs.Beside.{beside-self, beside-normalized}
 use Rattle.constraint_spec.proofs.Operations.{union-one, union-two}
 use Rattle.constraint_set.specs.Settled.{nullOn, placeAt, Settled, unitedRoots}
 use Rattle.constraint_set.specs.declared.Place.{Place}
@@ -20,45 +20,40 @@ use Rattle.constraint_set.proofs.Settling.{normalized-settled, joined-normalize
 use Rattle.constraint_set.proofs.Uniting.{rootsWritten}
 
 -- ---- what the code writes for two representatives
-abbrev pub rootsBy : ConstraintSet → ℕ → ℕ → RootPair
-rootsBy s a b = record { classes = record { parents = set (parentsOf s) b a }; low = a; high = b }
+abbrev pub rootsBy : ValueEquivalenceClasses → ℕ → ℕ → RootPair
+rootsBy k a b = record { classes = k; low = a; high = b }
 
-pub roots-written : (s : ConstraintSet) (a b : ℕ) (at : Place) (bare : Holder) (nowhere : Entry) → at ≡ placeAt s a b → bare ≡ none → nowhere ≡ noEntry
-    → rootsWritten s (rootsBy s a b) at bare nowhere ≡ unitedRoots s a b
+pub roots-written : (s : ConstraintSet) (a b : ℕ) (at : Place) (bare : Holder) (nowhere : Entry) (k : ValueEquivalenceClasses) → a < b → b < 128
+    → at ≡ placeAt s a b → bare ≡ none → nowhere ≡ noEntry → k ≡ rootsAnswered (classesOf s) a b
+    → rootsWritten s (rootsBy k a b) at bare nowhere ≡ unitedRoots s a b
 unfolding unitedRoots nullOn
-roots-written s a b at bare nowhere ea eb en = λ i. rootsWritten s (rootsBy s a b) (ea i) (eb i) (en i)
+roots-written s a b at bare nowhere k less high ea eb en ek =
+    let z : k ≡ rootsJoined (classesOf s) a b = ek ∙ roots-answered (classesOf s) a b (omega arith) high in
+    λ i. rootsWritten s (rootsBy (z i) a b) (ea i) (eb i) (en i)
 
 -- ---- that joins the classes of two identities
 module _ (s : ConstraintSet) (i j : ℕ) (hi : i < 128) (hj : j < 128) where
   module _ (g : Settled s) (x y : ℕ) (ex : x ≡ canonicalAt s i) (ey : y ≡ canonicalAt s j) where
     x-low : x < 128
-    x-low = root-below (parentsOf s) 128 i x (g .many) ex hi
+    x-low = canonical-small (classesOf s) i x (g .many) ex hi
 
     y-low : y < 128
-    y-low = root-below (parentsOf s) 128 j y (g .many) ey hj
+    y-low = canonical-small (classesOf s) j y (g .many) ey hj
 
     own : (k z : ℕ) → z ≡ canonicalAt s k → canonicalAt s z ≡ z
-    own k z e = subst (λ (n : ℕ). canonicalAt s n ≡ n) (sym e) (root-idempotent (parentsOf s) (falls (parentsOf s) (g .ok)) k)
+    own k z e = subst (λ (n : ℕ). canonicalAt s n ≡ n) (sym e) (canonical-idempotent (classesOf s) (falling (classesOf s) (g .ok)) k)
 
-    united-is : (a b : ℕ) → a < b → b < 128 → canonicalAt s a ≡ a → joined (parentsOf s) i j ≡ set (parentsOf s) b a → (x ≡ y → ⊥) → unitedRoots s a b
-        ≡ unionValues s i j
+    united-is : (a b : ℕ) → a < b → b < 128 → canonicalAt s a ≡ a → joinedClasses (classesOf s) i j ≡ rootsJoined (classesOf s) a b → (x ≡ y → ⊥)
+        → unitedRoots s a b ≡ unionValues s i j
     united-is a b less high o e d =
-        sym (union-two s i j hi hj (λ z. d (ex ∙ z ∙ sym ey)) ∙ ap (λ (p : List ℕ). normalized (withClasses s (record { parents = p }))) e ∙ joined-normalized
-        s g a b less high o)
+        sym (union-two s i j hi hj (λ z. d (ex ∙ z ∙ sym ey)) ∙ ap (λ (k : ValueEquivalenceClasses). normalized (withClasses s k)) e
+        ∙ joined-normalized s g a b less high o)
 
     pub left-lower : (t : ConstraintSet) → x < y → t ≡ unitedRoots s x y → t ≡ unionValues s i j
-    unfolding joined
-    left-lower t h e =
-        let m : max x y ≡ y = omega arith in
-        let n : min x y ≡ x = omega arith in
-        e ∙ united-is x y h y-low (own i x ex) (rw (← ex, ← ey, m, n)) (λ z. omega arith)
+    left-lower t h e = e ∙ united-is x y h y-low (own i x ex) (joined-to-left (classesOf s) i j x y ex ey (omega arith)) (λ z. omega arith)
 
     pub right-lower : (t : ConstraintSet) → y < x → t ≡ unitedRoots s y x → t ≡ unionValues s i j
-    unfolding joined
-    right-lower t h e =
-        let m : max x y ≡ x = omega arith in
-        let n : min x y ≡ y = omega arith in
-        e ∙ united-is y x h x-low (own j y ey) (rw (← ex, ← ey, m, n)) (λ z. omega arith)
+    right-lower t h e = e ∙ united-is y x h x-low (own j y ey) (joined-to-right (classesOf s) i j x y ex ey (omega arith)) (λ z. omega arith)
 
     pub neither-lower : (x < y → ⊥) → (y < x → ⊥) → s ≡ unionValues s i j
     neither-lower n m = let e : x ≡ y = omega arith in sym (union-one s i j hi hj (sym ex ∙ e ∙ ey))
@@ -71,14 +66,14 @@ module _ (s : ConstraintSet) (i j : ℕ) (hi : i < 128) (hj : j < 128) where
 
   -- ---- after a union
   abbrev after : ConstraintSet
-  after = withClasses s (record { parents = joined (parentsOf s) i j })
+  after = withClasses s (joinedClasses (classesOf s) i j)
 
-  same-parents : parentsOf (normalized after) ≡ parentsOf after
-  same-parents = beside-parents after (normalized after) (beside-normalized after after (beside-self after))
+  same-classes : classesOf (normalized after) ≡ classesOf after
+  same-classes = beside-normalized after after (beside-self after) .classes
 
   -- of two classes, if the parents are then in order
-  pub union-settles : (canonicalAt s i ≡ canonicalAt s j → ⊥) → length (parentsOf s) ≡ 128 → parentsOk (parentsOf (unionValues s i j)) ≡ true → Settled
-      (unionValues s i j)
+  pub union-settles : (canonicalAt s i ≡ canonicalAt s j → ⊥) → Whole (classesOf s) → classesOk (classesOf (unionValues s i j)) ≡ true
+      → Settled (unionValues s i j)
   union-settles d long ok =
       let e : unionValues s i j ≡ normalized after = union-two s i j hi hj d in
-      subst Settled (sym e) (normalized-settled after (joined-length (parentsOf s) i j ∙ long) (ap parentsOk (sym (ap parentsOf e ∙ same-parents)) ∙ ok))
+      subst Settled (sym e) (normalized-settled after (joined-whole (classesOf s) i j long) (ap classesOk (sym (ap classesOf e ∙ same-classes)) ∙ ok))

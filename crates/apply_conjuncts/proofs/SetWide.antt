@@ -6,13 +6,14 @@ use denote.Shadow.{shadow}
 use denote.Struct.Declared.{row}
 use lib.ListN.{length, length-map}
 use mir.Val.{Val}
-use Rattle.constraint_spec.specs.Sets.{parentsOf, literals}
+use Rattle.value_classes.specs.Classes.{Whole}
+use Rattle.constraint_spec.specs.Sets.{classesOf, literals}
 use Rattle.constraint_spec.specs.declared.ConstraintSet.{ConstraintSet}
 use Rattle.constraint_spec.proofs.ConstraintSet as C
 use Rattle.apply_conjuncts.proofs.Wides.{Wide}
 
-parents-long : (s : ConstraintSet) (vs : List Val) → shadow (row C.the-type .own s vs) → length (parentsOf s) ≡ 128
-parents-long s vs p = search needs
+classes-whole : (s : ConstraintSet) (vs : List Val) → shadow (row C.the-type .own s vs) → Whole (classesOf s)
+classes-whole s vs p = search needs
 
 literals-long : (s : ConstraintSet) (vs : List Val) → shadow (row C.the-type .own s vs) → length (literals s) ≡ 128
 literals-long s vs p = sym (length-map (literals s) _) ∙ p .1 .1 .1 .1 .0 .1 .0 .1
@@ -21,4 +22,4 @@ ranges-long : (s : ConstraintSet) (vs : List Val) → shadow (row C.the-type .ow
 ranges-long s vs p = sym (length-map (s .ranges) _) ∙ p .1 .1 .1 .1 .1 .0 .1 .0 .1
 
 pub set-wide : (s : ConstraintSet) (vs : List Val) → shadow (row C.the-type .own s vs) → Wide s
-set-wide s vs p = (parents-long s vs p, (literals-long s vs p, ranges-long s vs p))
+set-wide s vs p = (classes-whole s vs p, (literals-long s vs p, ranges-long s vs p))

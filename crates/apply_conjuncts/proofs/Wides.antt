@@ -1,20 +1,21 @@
 -- A set keeps the lengths of its lists when classes are joined. Assumes nothing.
 use Prim.Native.Nat.{ℕ, _<_}
-use mathlib.Core.Path.{_≡_, sym, ap, subst, _∙_}
+use mathlib.Core.Path.{sym, subst, _∙_}
 use mathlib.Core.Bool.{Bool, true, false, cond}
 use native.Mathlib.Omega.{arith}
 use native.Mathlib.Decide.{ℕ-discrete}
-use lib.ListN.{length, replicate, length-set, length-replicate}
+use lib.ListN.{replicate, length-set, length-replicate}
 use Rattle.scalar.specs.declared.ScalarValue.{ScalarValue}
 use Rattle.value_range.specs.declared.ValueRange.{ValueRange}
-use Rattle.value_classes.specs.Parents.{joined}
-use Rattle.constraint_spec.specs.Sets.{none, noEntry, parentsOf, literals, nonNullAt, literalAt, entryAt, canonicalAt, withNonNulls, withLiterals}
+use Rattle.value_classes.specs.Classes.{Whole}
+use Rattle.value_classes.proofs.ClassLaws.{joined-whole}
+use Rattle.constraint_spec.specs.Sets.{none, noEntry, classesOf, literals, nonNullAt, literalAt, entryAt, canonicalAt, withNonNulls, withLiterals}
 use Rattle.constraint_spec.specs.Sets.{withRanges, putNonNull, putLiteral, putRange, layRange, crossCheck, moveNonNull, moveLiteral, moveRange}
 use Rattle.constraint_spec.specs.Sets.{nonNullsMoved, literalsMoved, rangesMoved, normalized, unionValues}
 use Rattle.constraint_spec.specs.declared.Holder.{Holder}
 use Rattle.constraint_spec.specs.declared.Entry.{Entry}
 use Rattle.constraint_spec.specs.declared.ConstraintSet.{ConstraintSet}
-use Rattle.constraint_spec.proofs.Beside.{beside-self, beside-parents, beside-normalized}
+use Rattle.constraint_spec.proofs.Beside.{beside-self, beside-normalized}
 use Rattle.constraint_spec.proofs.Operations.{union-one, union-two}
 use Rattle.constraint_spec.proofs.Steps.{steps-good, pick-has}
 use Rattle.apply_action.specs.Cells.{withCell}
@@ -66,16 +67,15 @@ normal-long : (s : ConstraintSet) → Long s → Long (normalized s)
 unfolding normalized
 normal-long s l = check-long _ (ranges-long _ (literals-long _ (nulls-long s l)))
 
--- ---- with the parents
+-- ---- with the classes
 abbrev pub Wide : ConstraintSet → Type 0
-Wide s = (length (parentsOf s) ≡ 128) × Long s
+Wide s = Whole (classesOf s) × Long s
 
 pub union-wide : (s : ConstraintSet) (i j : ℕ) → i < 128 → j < 128 → Wide s → Wide (unionValues s i j)
-unfolding joined
 union-wide s i j hi hj w = elim (ℕ-discrete (canonicalAt s i) (canonicalAt s j)) [
   | yes e ↦ subst Wide (sym (union-one s i j hi hj e)) w
   | no d ↦ subst Wide (sym (union-two s i j hi hj d))
-      (ap length (beside-parents _ _ (beside-normalized _ _ (beside-self _))) ∙ length-set (parentsOf s) _ _ ∙ w .0, normal-long _ (w .1))
+      (subst Whole (sym (beside-normalized _ _ (beside-self _) .classes)) (joined-whole (classesOf s) i j (w .0)), normal-long _ (w .1))
 ]
 
 -- what is written at one place, with or without a check of all

@@ -34,8 +34,8 @@ fn join_roots(s: ConstraintSet, a: usize, b: usize) -> ConstraintSet
     let no_literal = Holder::empty();
     let no_entry = Entry::empty();
     let mut q = s;
-    let mut classes = q.equivalence_classes;
-    classes.parents[b] = a as u8;
+    let old = q.equivalence_classes;
+    let classes = old.join_roots(a, b);
     let was = q.contradictory;
     q.equivalence_classes = classes;
     q.non_null_values[a] = n1 | n2;

@@ -8,7 +8,7 @@ use lib.Dec.{ltb}
 use lib.ListN.{length}
 use borrow.Author.Tests.{ltb-true, ltb-false, not-true}
 use Rattle.lists.proofs.RangeLaws.{and-left, and-right}
-use Rattle.constraint_spec.specs.Sets.{done}
+use Rattle.constraint_spec.specs.Sets.{appliedOf, done}
 use Rattle.constraint_spec.specs.declared.ConstraintSet.{ConstraintSet}
 use Rattle.constraint_spec.specs.declared.Applied.{Applied}
 use Rattle.plan_data.specs.Nodes.{nodeOf}
@@ -24,7 +24,7 @@ use Rattle.apply_conjuncts.proofs.Applying.{refused-stays, applied-append}
 
 module _ (apply : ConstraintSet → ℕ → Applied) where
   accepted : (a : Applied) → a .refused ≡ false → a ≡ done (a .constraints)
-  accepted a e = λ i. record { constraints = a .constraints; refused = e i }
+  accepted a e = λ i. appliedOf (a .constraints) (e i)
 
   -- some conjuncts more
   pub some-more : (rest hs rest2 : List ℕ) (a next : Applied) → a .refused ≡ false → rest ≡ hs ++ rest2 → next ≡ allApplied apply hs (done (a .constraints))

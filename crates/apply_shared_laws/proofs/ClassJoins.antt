@@ -1,5 +1,5 @@
 -- Two classes of an ready set that become one leave it ready and keep what was there. Assumes nothing.
-use Prim.Native.Nat.{ℕ, _<_, min, max}
+use Prim.Native.Nat.{ℕ, _<_}
 use mathlib.Core.Path.{_≡_, refl, sym, ap, _∙_, subst}
 use mathlib.Core.Bool.{true, false, false≢true}
 use mathlib.Core.List.{List}
@@ -8,15 +8,16 @@ use native.Mathlib.Decide.{decLt, ℕ-discrete}
 use native.Mathlib.Omega.{arith}
 use lib.ListN.{length, getD, set, length-set}
 use lib.Seq.{getD-set-same, getD-set-other}
-use Rattle.value_classes.specs.Parents.{rootOf, joined}
-use Rattle.value_classes.proofs.RootLaws.{Falls, falls, root-below, root-idempotent, joined-exact}
-use Rattle.constraint_spec.specs.Sets.{none, noEntry, blank, parentsOf, nonNulls, literals, nonNullAt, literalAt, entryAt, canonicalAt, withClasses}
+use Rattle.value_classes.specs.Classes.{Whole, Falling, canonicalOf, joinedClasses, rootsJoined}
+use Rattle.value_classes.specs.declared.ValueEquivalenceClasses.{ValueEquivalenceClasses}
+use Rattle.value_classes.proofs.ClassLaws.{falling, canonical-small, canonical-idempotent, joined-met, joined-to-left, joined-to-right}
+use Rattle.constraint_spec.specs.Sets.{none, noEntry, blank, classesOf, nonNulls, literals, nonNullAt, literalAt, entryAt, canonicalAt, withClasses}
 use Rattle.constraint_spec.specs.Sets.{normalized, unionValues}
 use Rattle.constraint_spec.specs.declared.ConstraintSet.{ConstraintSet}
 use Rattle.constraint_spec.proofs.Operations.{union-one, union-two}
 use Rattle.constraint_set.specs.Settled.{Settled, nullOn, movedTo, placeAt, unitedRoots}
 use Rattle.constraint_set.proofs.Passes.{goesTo, goes-b, goes-other, or-before}
-use Rattle.constraint_set.proofs.Settling.{root-goes, joined-normalized, united-settled}
+use Rattle.constraint_set.proofs.Settling.{canonical-goes, joined-normalized, united-settled}
 use Rattle.constraint_normal.specs.Ready.{Bounded, Ready}
 use Rattle.apply_action.specs.Cells.{cellOf}
 use Rattle.apply_action.specs.declared.Cell.{Cell}
@@ -42,29 +43,25 @@ module _ (s : ConstraintSet) (rd : Ready s) (a b : ℕ) (less : a < b) (high : b
   abbrev t : ConstraintSet
   t = unitedRoots s a b
 
-  abbrev p : List ℕ
-  p = parentsOf s
+  abbrev p : ValueEquivalenceClasses
+  p = classesOf s
 
-  down : Falls p
-  down = falls p (g .ok)
+  down : Falling p
+  down = falling p (g .ok)
 
-  many : length p ≡ 128
+  many : Whole p
   many = g .many
 
-  joined-is : joined p a b ≡ set p b a
-  unfolding joined
-  joined-is =
-      let m : max a b ≡ b = omega arith in
-      let n : min a b ≡ a = omega arith in
-      rw (own-a, own-b, m, n)
+  joined-is : joinedClasses p a b ≡ rootsJoined p a b
+  joined-is = joined-to-left p a b a b (sym own-a) (sym own-b) (omega arith)
 
   -- the class of b goes to a
   pub root-moves : (k : ℕ) → canonicalAt t k ≡ goesTo a b (canonicalAt s k)
   unfolding unitedRoots
   root-moves k =
-      subst (λ (q : List ℕ). rootOf q k ≡ rootOf q (rootOf p k)) joined-is
-      (joined-exact p down a b (omega (arith, many)) (omega (arith, many)) k (rootOf p k) .1 (inl (sym (root-idempotent p down k))))
-      ∙ root-goes p down a b less (omega (arith, many)) own-a (rootOf p k) (root-idempotent p down k)
+      subst (λ (q : ValueEquivalenceClasses). canonicalOf q k ≡ canonicalOf q (canonicalOf p k)) joined-is
+      (joined-met p many down a b (omega arith) high k (canonicalOf p k) .1 (inl (sym (canonical-idempotent p down k))))
+      ∙ canonical-goes p many down a b less high own-a (canonicalOf p k) (canonical-idempotent p down k)
 
   flag-stays : s .contradictory ≡ true → t .contradictory ≡ true
   unfolding unitedRoots
@@ -149,32 +146,24 @@ module _ (s : ConstraintSet) (rd : Ready s) (i j : ℕ) (hi : i < 128) (hj : j <
   y = canonicalAt s j
 
   pub x-low : x < 128
-  x-low = root-below (parentsOf s) 128 i x (gs .many) refl hi
+  x-low = canonical-small (classesOf s) i x (gs .many) refl hi
 
   pub y-low : y < 128
-  y-low = root-below (parentsOf s) 128 j y (gs .many) refl hj
+  y-low = canonical-small (classesOf s) j y (gs .many) refl hj
 
   pub own : (k : ℕ) → canonicalAt s (canonicalAt s k) ≡ canonicalAt s k
-  own k = root-idempotent (parentsOf s) (falls (parentsOf s) (gs .ok)) k
+  own k = canonical-idempotent (classesOf s) (falling (classesOf s) (gs .ok)) k
 
-  united-is : (a b : ℕ) → a < b → b < 128 → canonicalAt s a ≡ a → joined (parentsOf s) i j ≡ set (parentsOf s) b a → (x ≡ y → ⊥) → unitedRoots s a b
-      ≡ unionValues s i j
+  united-is : (a b : ℕ) → a < b → b < 128 → canonicalAt s a ≡ a → joinedClasses (classesOf s) i j ≡ rootsJoined (classesOf s) a b → (x ≡ y → ⊥)
+      → unitedRoots s a b ≡ unionValues s i j
   united-is a b less high o e d =
-      sym (union-two s i j hi hj d ∙ ap (λ (q : List ℕ). normalized (withClasses s (record { parents = q }))) e ∙ joined-normalized s gs a b less high o)
+      sym (union-two s i j hi hj d ∙ ap (λ (q : ValueEquivalenceClasses). normalized (withClasses s q)) e ∙ joined-normalized s gs a b less high o)
 
   pub left-lower : x < y → unitedRoots s x y ≡ unionValues s i j
-  unfolding joined
-  left-lower h =
-      let m : max x y ≡ y = omega arith in
-      let n : min x y ≡ x = omega arith in
-      united-is x y h y-low (own i) (rw (m, n)) (λ z. omega arith)
+  left-lower h = united-is x y h y-low (own i) (joined-to-left (classesOf s) i j x y refl refl (omega arith)) (λ z. omega arith)
 
   pub right-lower : y < x → unitedRoots s y x ≡ unionValues s i j
-  unfolding joined
-  right-lower h =
-      let m : max x y ≡ x = omega arith in
-      let n : min x y ≡ y = omega arith in
-      united-is y x h x-low (own j) (rw (m, n)) (λ z. omega arith)
+  right-lower h = united-is y x h x-low (own j) (joined-to-right (classesOf s) i j x y refl refl (omega arith)) (λ z. omega arith)
 
   -- what holds of the set where the two are in one class, and of it with their two representatives joined, holds of it after a union
   pub union-so : (P : ConstraintSet → Type 0) → (x ≡ y → P s) → (x < y → P (unitedRoots s x y)) → (y < x → P (unitedRoots s y x)) → P (unionValues s i j)

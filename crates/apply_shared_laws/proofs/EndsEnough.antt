@@ -9,7 +9,7 @@ use lib.Dec.{eqb}
 use borrow.Author.Tests.{eqb-true}
 use Rattle.lists.proofs.RangeLaws.{and-left, and-right}
 use Rattle.scalar.specs.declared.ScalarValue.{ScalarValue}
-use Rattle.constraint_spec.specs.Sets.{done, refusedWith}
+use Rattle.constraint_spec.specs.Sets.{appliedOf, done, refusedWith}
 use Rattle.constraint_spec.specs.declared.ConstraintSet.{ConstraintSet}
 use Rattle.constraint_spec.specs.declared.Applied.{Applied}
 use Rattle.plan_data.specs.Nodes.{nodeOf}
@@ -89,7 +89,7 @@ module _ (lineage : List ℕ) (node : ℕ → ExprData) where
       not-refused = ap (λ (x : Applied). x .refused) is ∙ e
 
       plainly : apply s h ≡ done (apply s h .constraints)
-      plainly = λ i. record { constraints = apply s h .constraints; refused = e i }
+      plainly = λ i. appliedOf (apply s h .constraints) (e i)
 
       still-ready : Ready (apply s h .constraints)
       still-ready = subst (λ (x : Applied). Ready (x .constraints)) is (acted-ready (act h) (proper lineage node h) (numbered lineage node h) s rd h

@@ -10,7 +10,8 @@ use lib.ListN.{length, getD, set}
 use lib.Seq.{getD-set-same, getD-set-other}
 use Rattle.scalar.specs.Scalars.{sameScalar}
 use Rattle.scalar.specs.declared.ScalarValue.{ScalarValue}
-use Rattle.constraint_spec.specs.Sets.{none, held, noEntry, parentsOf, nonNulls, literals, handles, nonNullAt, literalAt, entryAt, withFlag}
+use Rattle.value_classes.specs.Classes.{rootsJoined}
+use Rattle.constraint_spec.specs.Sets.{none, held, noEntry, classesOf, nonNulls, literals, nonNullAt, literalAt, entryAt, withValues, withFlag}
 use Rattle.constraint_spec.specs.Sets.{canonicalAt, crossed, unionValues}
 use Rattle.constraint_spec.specs.declared.Holder.{Holder}
 use Rattle.constraint_spec.specs.declared.ConstraintSet.{ConstraintSet}
@@ -36,15 +37,9 @@ module _ (x v : ScalarValue) (same : sameScalar x v ≡ true) where
 
     -- the set after the join with other literals and another flag
     abbrev formed : List Holder → Bool → ConstraintSet
-    formed m f = record {
-      «equivalence_classes» = record { parents = set (parentsOf s) b a };
-      «non_null_values» = movedTo (nonNulls s) a b (nullOn (nonNullAt s a) (nonNullAt s b)) false;
-      «literal_equalities» = m;
-      ranges = movedTo (s .ranges) a b (rangeOn (entryAt s a) (entryAt s b)) noEntry;
-      «residual_predicates» = handles s;
-      residuals = s .residuals;
-      contradictory = f;
-    }
+    formed m f =
+        withValues s (rootsJoined (classesOf s) a b) (movedTo (nonNulls s) a b (nullOn (nonNullAt s a) (nonNullAt s b)) false) m
+        (movedTo (s .ranges) a b (rangeOn (entryAt s a) (entryAt s b)) noEntry) f
 
     abbrev flagOf : Bool → Holder → Bool
     flagOf bad h = s .contradictory || ((bad || rangeBad (entryAt s a) (entryAt s b)) || crossed h (rangeOn (entryAt s a) (entryAt s b)))

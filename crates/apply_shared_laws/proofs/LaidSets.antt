@@ -12,7 +12,7 @@ use lib.Seq.{set-getD, getD-set-same, getD-set-other}
 use Rattle.scalar.specs.Scalars.{sameScalar, holdsNan}
 use Rattle.scalar.specs.declared.ScalarValue.{ScalarValue}
 use Rattle.scalar.proofs.ScalarLaws.{same-self, same-left}
-use Rattle.constraint_spec.specs.Sets.{none, blank, held, nonNulls, literals, handles, nonNullAt, literalAt, entryAt, withLiterals, withFlag}
+use Rattle.constraint_spec.specs.Sets.{none, blank, held, classesOf, nonNulls, literals, nonNullAt, literalAt, entryAt, withValues, withLiterals, withFlag}
 use Rattle.constraint_spec.specs.Sets.{canonicalAt, clashes, crossed, addLiteral}
 use Rattle.constraint_spec.specs.declared.Holder.{Holder}
 use Rattle.constraint_spec.specs.declared.Entry as En
@@ -49,15 +49,7 @@ laid s r v = withLiterals s (set (literals s) r (held v))
 
 -- the set with other lists and another flag
 abbrev rest : ConstraintSet → List Bool → List Holder → List En.Entry → Bool → ConstraintSet
-rest u n l e f = record {
-  «equivalence_classes» = u .«equivalence_classes»;
-  «non_null_values» = n;
-  «literal_equalities» = l;
-  ranges = e;
-  «residual_predicates» = handles u;
-  residuals = u .residuals;
-  contradictory = f;
-}
+rest u n l e f = withValues u (classesOf u) n l e f
 
 -- ---- a literal where there is one, and that is not NULL
 module _ (u : ConstraintSet) (rd : Ready u) (i : ℕ) (v : ScalarValue) (p : Proper (Literal i v)) where

@@ -13,9 +13,9 @@ use lib.Seq.{getD-set-same}
 use Rattle.scalar.specs.Scalars.{sameScalar, holdsNan}
 use Rattle.scalar.specs.declared.ScalarValue.{ScalarValue}
 use Rattle.scalar.proofs.ScalarLaws.{same-left}
-use Rattle.value_classes.proofs.RootLaws.{root-below}
-use Rattle.constraint_spec.specs.Sets.{none, held, parentsOf, nonNulls, literals, handles, literalAt, withFlag, withResiduals, hasHandle}
-use Rattle.constraint_spec.specs.Sets.{canonicalAt, clashes, pushResidual, addLiteral, addResidual, done, refusedWith}
+use Rattle.value_classes.proofs.ClassLaws.{canonical-small}
+use Rattle.constraint_spec.specs.Sets.{none, held, classesOf, nonNulls, literals, handles, literalAt, withValues, withLiterals, withFlag, withResiduals, hasHandle}
+use Rattle.constraint_spec.specs.Sets.{canonicalAt, clashes, pushResidual, addLiteral, addResidual, appliedOf, done, refusedWith}
 use Rattle.constraint_spec.specs.declared.Holder.{Holder}
 use Rattle.constraint_spec.specs.declared.ConstraintSet.{ConstraintSet}
 use Rattle.constraint_spec.specs.declared.Applied.{Applied}
@@ -85,7 +85,7 @@ module _ (x v : ScalarValue) (same : sameScalar x v ≡ true) (i : ℕ) (low : i
     | inl z ↦ inl (ap (recordedIn act) z)
     | inr z ↦ subst (λ (q : ConstraintSet). Passed x v same i (whole act s) (recordedIn act q)) (sym (z .1))
         (recorded-passes x v same i u u-ready (subst Ready (z .1) (joined-ready act laidIn p rt))
-        (root-below (parentsOf u) 128 i (canonicalAt u i) (u-ready .settled .many) refl low) (z .0) act p)
+        (canonical-small (classesOf u) i (canonicalAt u i) (u-ready .settled .many) refl low) (z .0) act p)
   ]
     where
       u : ConstraintSet
@@ -96,19 +96,11 @@ module _ (x v : ScalarValue) (same : sameScalar x v ≡ true) (i : ℕ) (low : i
 
 -- ---- other literals and another flag do not change what is residual
 abbrev edited : (List Holder → List Holder) → (Bool → Bool) → ConstraintSet → ConstraintSet
-edited g f w = record {
-  «equivalence_classes» = w .«equivalence_classes»;
-  «non_null_values» = nonNulls w;
-  «literal_equalities» = g (literals w);
-  ranges = w .ranges;
-  «residual_predicates» = handles w;
-  residuals = w .residuals;
-  contradictory = f (w .contradictory);
-}
+edited g f w = withValues w (classesOf w) (nonNulls w) (g (literals w)) (w .ranges) (f (w .contradictory))
 
 module _ (g : List Holder → List Holder) (f : Bool → Bool) where
   abbrev onSet : Applied → Applied
-  onSet a = record { constraints = edited g f (a .constraints); refused = a .refused }
+  onSet a = appliedOf (edited g f (a .constraints)) (a .refused)
 
   residual-edited : (w : ConstraintSet) (h : ℕ) → addResidual (edited g f w) h ≡ onSet (addResidual w h)
   unfolding addResidual pushResidual
@@ -182,21 +174,13 @@ module _ (i : ℕ) (v : ScalarValue) (pa : Proper (Literal i v)) (n : ℕ) where
         (λ e. ap again (same-again e) ∙ laid-again e ∙ sym (same-again e))
       where
         low : r < 128
-        low = root-below (parentsOf s) 128 i r (rd .settled .many) refl (pa .0)
+        low = canonical-small (classesOf s) i r (rd .settled .many) refl (pa .0)
 
         laid-again : sameScalar x v ≡ true → again (laid s r v) ≡ laid s r v
         laid-again e =
             same-form (laid s r v) (laid-ready e) i v pa (known .cell .0) v (sym (same-left x v e v) ∙ e)
             (getD-set-same (literals s) r (held v) none (omega (arith, low, rd .settled .equal .long)))
-            ∙ (λ k. record {
-              «equivalence_classes» = s .«equivalence_classes»;
-              «non_null_values» = nonNulls s;
-              «literal_equalities» = set-twice (literals s) r (held v) (held v) k;
-              ranges = s .ranges;
-              «residual_predicates» = handles s;
-              residuals = s .residuals;
-              contradictory = s .contradictory;
-            })
+            ∙ ap (withLiterals s) (set-twice (literals s) r (held v) (held v))
 
     -- ---- and another action
     module _ (act : Action) (p : Proper act) (a : Numbered act) (h : ℕ) where
@@ -223,7 +207,7 @@ module _ (i : ℕ) (v : ScalarValue) (pa : Proper (Literal i v)) (n : ℕ) where
         where
           go : (b : Bool) → d .refused ≡ b → Next d (acted act t h)
           go true e = inl (e, ap (λ (q : Applied). q .refused) path ∙ e)
-          go false e = inr (inr (e, path ∙ (λ k. record { constraints = sym (form e) k; refused = e k })))
+          go false e = inr (inr (e, path ∙ (λ k. appliedOf (sym (form e) k) (e k))))
 
       next-nan : holdsNan v ≡ true → Next d (acted act (withFlag s true) h)
       next-nan y =

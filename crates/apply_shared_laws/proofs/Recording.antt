@@ -6,9 +6,9 @@ use native.Mathlib.Decide.{ℕ-discrete}
 use native.Mathlib.Omega.{arith}
 use lib.ListN.{length}
 use lib.Seq.{getD-set-same, getD-set-other}
-use Rattle.value_classes.proofs.RootLaws.{root-below}
+use Rattle.value_classes.proofs.ClassLaws.{canonical-small}
 use Rattle.value_range.specs.Ranges.{unboundedRange, emptyRange}
-use Rattle.constraint_spec.specs.Sets.{none, noEntry, blank, entryOf, tightenBy, parentsOf, nonNulls, literals, handles, nonNullAt, literalAt}
+use Rattle.constraint_spec.specs.Sets.{none, noEntry, blank, entryOf, tightenBy, classesOf, nonNulls, literals, handles, nonNullAt, literalAt}
 use Rattle.constraint_spec.specs.Sets.{entryAt, canonicalAt}
 use Rattle.constraint_spec.specs.declared.ConstraintSet.{ConstraintSet}
 use Rattle.constraint_spec.specs.declared.Entry as En
@@ -92,7 +92,7 @@ module _ (u : ConstraintSet) (rd : Ready u) (act : Action) (p : Proper act) wher
   r = canonicalAt u (firstOf act)
 
   low : r < 128
-  low = root-below (parentsOf u) 128 (firstOf act) r (g .many) refl (first-low act p)
+  low = canonical-small (classesOf u) (firstOf act) r (g .many) refl (first-low act p)
 
   abbrev now : Cell
   now = cellAfter (cellOf u r) act

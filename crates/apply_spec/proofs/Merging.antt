@@ -17,7 +17,7 @@ use Rattle.constraint_spec.proofs.Operations.{no-row}
 use Rattle.plan.specs.declared.Plan.{Plan}
 use Rattle.plan_rules.specs.Rules.{planOk}
 use Rattle.apply_spec.specs.Facts.{refusalOf, withConstraints, factsOk}
-use Rattle.apply_spec.specs.Entries.{answered, refused, accepted, override, overridden, inputsMerged, mergeInputs}
+use Rattle.apply_spec.specs.Entries.{answered, refused, accepted, override, overridden, overlaid, inputsMerged, mergeInputs}
 use Rattle.apply_spec.specs.declared.LogicalFacts.{LogicalFacts}
 use Rattle.apply_spec.specs.declared.Outcome.{Outcome}
 use Rattle.apply_spec.specs.declared.Outcome.the-variants.{Accepted, Residuals, NoSuch}
@@ -51,11 +51,7 @@ abbrev tried : LogicalFacts → LogicalFacts → Bool → Applied
 tried f g merge = cond merge (mergeFrom (f .constraints) (g .constraints)) (done (f .constraints))
 
 abbrev joinedFacts : LogicalFacts → LogicalFacts → LogicalFacts
-joinedFacts f g = record {
-  lineage = overridden (f .lineage) (g .lineage);
-  definitions = overridden (f .definitions) (g .definitions);
-  constraints = f .constraints;
-}
+joinedFacts f g = overlaid f g (f .constraints)
 
 joined : (p : Plan) (f g : LogicalFacts) (merge : Bool) → mergeInputs p f g merge .outcome ≡ Accepted → Joined p f g merge (tried f g merge)
 unfolding mergeInputs inputsMerged

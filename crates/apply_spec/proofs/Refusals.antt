@@ -20,9 +20,9 @@ use Rattle.scalar.specs.declared.ScalarValue.the-variants as S
 use Rattle.comparison.specs.Operators.{ordinary, bounding}
 use Rattle.comparison.specs.declared.BinaryOp.{BinaryOp}
 use Rattle.comparison.specs.declared.BinaryOp.the-variants.{Eq, NotEq, Lt, LtEq, Gt, GtEq, IsNotDistinctFrom}
-use Rattle.constraint_spec.specs.Sets.{parentsOf, handles, withResiduals, withFlag, unionValues, addNonNull, addLiteral, addBound, rangedBy}
+use Rattle.constraint_spec.specs.Sets.{classesOf, handles, withResiduals, withFlag, unionValues, addNonNull, addLiteral, addBound, rangedBy}
 use Rattle.constraint_spec.specs.Sets.{addRange, hasHandle, roomFor, pushResidual, addResidual, done, setOk}
-use Rattle.value_classes.specs.Parents.{parentsOk}
+use Rattle.value_classes.specs.Classes.{classesOk}
 use Rattle.constraint_spec.specs.Room.{listed, has, pushed}
 use Rattle.constraint_spec.specs.declared.ConstraintSet.{ConstraintSet}
 use Rattle.constraint_spec.specs.declared.Applied.{Applied}
@@ -226,8 +226,8 @@ module _ (p : Plan) (f : LogicalFacts) (e : Expr) (long : length (handles (f .co
       let facts = and-right (ltb (e .0) (p .expressions .count)) _ (and-right (planOk p) _ ok) in
       let later = and-right (allFrom (definitionOk (f .definitions) (p .columns .count) (p .expressions .count)) 0 64) _
       (and-right (allFrom (lineageOk (f .lineage) (p .columns .count)) 0 64) _ facts) in
-      let count = and-right (parentsOk (parentsOf (f .constraints))) _
-      (and-left (parentsOk (parentsOf (f .constraints)) && leb (f .constraints .residuals) 64) _ later) in
+      let count = and-right (classesOk (classesOf (f .constraints))) _
+      (and-left (classesOk (classesOf (f .constraints)) && leb (f .constraints .residuals) 64) _ later) in
       record { few = leb-true (f .constraints .residuals) 64 count; long = long }
 
   answer : applyPredicate p f e ≡ answered f f applied

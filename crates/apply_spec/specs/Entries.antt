@@ -53,11 +53,14 @@ override right c l = cond (eqb (getD right c 0) 0) l (set l c (getD right c 0))
 unfoldable pub overridden : List ℕ → List ℕ → List ℕ
 overridden left right = stepsTo (override right) 64 left
 
+-- the lineage and the definitions of both, with a set
+abbrev pub overlaid : LogicalFacts → LogicalFacts → ConstraintSet → LogicalFacts
+overlaid f g s = record { lineage = overridden (f .lineage) (g .lineage); definitions = overridden (f .definitions) (g .definitions); constraints = s }
+
 -- right lineage and definitions override left; the constraints are merged, or the left's stay
 unfoldable pub inputsMerged : LogicalFacts → LogicalFacts → Bool → FactsAnswer
 inputsMerged f g merge =
-    answered f
-    (record { lineage = overridden (f .lineage) (g .lineage); definitions = overridden (f .definitions) (g .definitions); constraints = f .constraints })
+    answered f (overlaid f g (f .constraints))
     (cond merge (mergeFrom (f .constraints) (g .constraints)) (done (f .constraints)))
 
 unfoldable pub mergeInputs : Plan → LogicalFacts → LogicalFacts → Bool → FactsAnswer

@@ -10,9 +10,9 @@ use lib.ListN.{length, set, replicate}
 use Rattle.scalar.specs.declared.ScalarValue.the-variants as S
 use Rattle.value_range.specs.Ranges.{noBound, boundAt}
 use Rattle.value_range.specs.declared.Bound.{Bound}
-use Rattle.value_classes.specs.Parents.{each}
-use Rattle.value_classes.specs.Classes.{emptyClasses}
-use Rattle.constraint_spec.specs.Sets.{none, held, noEntry, entryOf}
+use Rattle.value_classes.specs.Classes.{emptyClasses, rootsJoined}
+use Rattle.value_classes.specs.declared.ValueEquivalenceClasses.{ValueEquivalenceClasses}
+use Rattle.constraint_spec.specs.Sets.{none, held, noEntry, entryOf, withValues, withResiduals, emptySet}
 use Rattle.constraint_spec.specs.declared.Holder.{Holder}
 use Rattle.constraint_spec.specs.declared.Entry.{Entry}
 use Rattle.constraint_spec.specs.declared.ConstraintSet.{ConstraintSet}
@@ -75,17 +75,18 @@ abbrev pub marks : List Bool → List ℕ → List Bool
 marks l [] = l
 marks l (i ∷ r) = marks (set l i true) r
 
--- classes as parents of members, non-null identities, literals, ranges, residuals in order, the flag
+-- members under their representatives
+abbrev pub under : ValueEquivalenceClasses → List (ℕ × ℕ) → ValueEquivalenceClasses
+under c [] = c
+under c (x ∷ r) = under (rootsJoined c (x .1) (x .0)) r
+
+-- members with their representatives, non-null identities, literals, ranges, residuals in order, the flag
 abbrev pub knownAs : List (ℕ × ℕ) → List ℕ → List (ℕ × Holder) → List (ℕ × Entry) → List (ℕ × ℕ) → Bool → ConstraintSet
-knownAs classes nonNull literals ranges residuals flag = record {
-  «equivalence_classes» = record { parents = puts (emptyClasses .parents) classes };
-  «non_null_values» = marks (replicate 128 false) nonNull;
-  «literal_equalities» = puts (replicate 128 none) literals;
-  ranges = puts (replicate 128 noEntry) ranges;
-  «residual_predicates» = puts (replicate 64 0) residuals;
-  residuals = length residuals;
-  contradictory = flag;
-}
+knownAs classes nonNull literals ranges residuals flag =
+    withResiduals
+    (withValues emptySet (under emptyClasses classes) (marks (replicate 128 false) nonNull) (puts (replicate 128 none) literals)
+    (puts (replicate 128 noEntry) ranges) flag)
+    (puts (replicate 64 0) residuals) (length residuals)
 
 abbrev pub from : ℕ → Bool → Bound
 from n inclusive = boundAt (ofInt binary64 (pos n)) inclusive

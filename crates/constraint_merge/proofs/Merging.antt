@@ -8,12 +8,11 @@ use native.Mathlib.Omega.{arith}
 use native.Mathlib.Numerals.{add-one}
 use borrow.Author.Tests.{lt-ltb, le-ltb, eq-eqb, ne-eqb}
 use lib.ListN.{getD, set}
-use Rattle.value_classes.specs.Parents.{rootOf}
+use Rattle.value_classes.specs.Classes.{canonicalOf}
 use Rattle.value_classes.specs.Listed.{firstMember, nextMember, membersOf}
 use Rattle.value_classes.specs.declared.ValueEquivalenceClasses.{ValueEquivalenceClasses}
 use Rattle.value_classes.specs.declared.Members.{Members}
-use Rattle.value_classes.proofs.RootLaws.{each-at}
-use Rattle.value_classes.proofs.MemberLaws.{first-at-least, first-at-most, first-member, first-skips}
+use Rattle.value_classes.proofs.MemberLaws.{first-at, next-at, first-at-least, first-at-most, first-member, first-skips}
 use Rattle.value_classes.proofs.Unions.{left-out}
 use Rattle.value_range.specs.declared.ValueRange.{ValueRange}
 use Rattle.constraint_spec.specs.Sets.{blank, entryOf, nonNulls, literals, handles, entryAt, canonicalAt, withNonNulls, rangeIn, tightenBy}
@@ -58,68 +57,57 @@ chained-step ms r zero m t u z h e = absurd (omega arith)
 chained-step ms r (suc n) m t u z h e = let d : suc n - 1 ≡ n = omega arith in rw (d, lt-ltb _ _ h, e)
 
 module _ (c : ValueEquivalenceClasses) (r : ℕ) where
-  abbrev p : List ℕ
-  p = c .parents
-
   abbrev ms : Members
   ms = membersOf c
 
   abbrev f : ℕ → ConstraintSet → ConstraintSet
   f = joinMember c r
 
-  next-at : (m : ℕ) → m < 128 → getD (ms .next) m 0 ≡ nextMember p m
-  unfolding membersOf
-  next-at m h = each-at (λ (i : ℕ). nextMember (c .parents) i) 128 m h
-
-  first-at : r < 128 → getD (ms .first) r 0 ≡ firstMember p r 0
-  unfolding membersOf
-  first-at h = each-at (λ (i : ℕ). firstMember (c .parents) i 0) 128 r h
-
-  idle : (j : ℕ) (t : ConstraintSet) → (rootOf p j ≡ r → ⊥) → f j t ≡ t
+  idle : (j : ℕ) (t : ConstraintSet) → (canonicalOf c j ≡ r → ⊥) → f j t ≡ t
   idle j t d = rw (ne-eqb _ _ d)
 
-  joins : (m : ℕ) (t : ConstraintSet) → rootOf p m ≡ r → f m t ≡ unionValues t r m
+  joins : (m : ℕ) (t : ConstraintSet) → canonicalOf c m ≡ r → f m t ≡ unionValues t r m
   joins m t e = elim (ℕ-discrete m r) [
     | yes d ↦ rw (eq-eqb _ _ e, eq-eqb _ _ d, d) (sym (union-self t r))
     | no d ↦ rw (eq-eqb _ _ e, ne-eqb _ _ d)
   ]
 
   -- from a member to the next
-  to-next : (m : ℕ) (t : ConstraintSet) → m < 128 → rootOf p m ≡ r → unionValues (stepsTo f m t) r m ≡ stepsTo f (nextMember p m) t
+  to-next : (m : ℕ) (t : ConstraintSet) → m < 128 → canonicalOf c m ≡ r → unionValues (stepsTo f m t) r m ≡ stepsTo f (nextMember c m) t
   unfolding stepsTo
   to-next m t h e =
-      let lo : suc m ≤ nextMember p m = omega (arith, first-at-least p (rootOf p m) (m + 1)) in
+      let lo : suc m ≤ nextMember c m = omega (arith, first-at-least c (canonicalOf c m) (m + 1)) in
       sym (joins m (stepsTo f m t) e)
-      ∙ sym (steps-skip f t (nextMember p m) (suc m) lo (λ j a b u. idle j u (λ d. first-skips p (rootOf p m) (m + 1) j (omega arith) b (d ∙ sym e))))
+      ∙ sym (steps-skip f t (nextMember c m) (suc m) lo (λ j a b u. idle j u (λ d. first-skips c (canonicalOf c m) (m + 1) j (omega arith) b (d ∙ sym e))))
 
-  chain-all : (n m : ℕ) (t : ConstraintSet) → 128 ≤ m + n → m ≤ 128 → (m < 128 → rootOf p m ≡ r) → chained ms r n m (stepsTo f m t) ≡ stepsTo f 128 t
+  chain-all : (n m : ℕ) (t : ConstraintSet) → 128 ≤ m + n → m ≤ 128 → (m < 128 → canonicalOf c m ≡ r) → chained ms r n m (stepsTo f m t) ≡ stepsTo f 128 t
   unfolding chained
   chain-all zero m t lo hi e = let d : m ≡ 128 = omega arith in rw d
   chain-all (suc n) m t lo hi e = elim (decLt m 128) [
     | yes h ↦ (let g = e h in
-        rw (lt-ltb _ _ h, next-at m h, to-next m t h g)
-        (chain-all n (nextMember p m) t (omega (arith, first-at-least p (rootOf p m) (m + 1))) (first-at-most p (rootOf p m) (m + 1) (omega arith))
-        (λ b. first-member p (rootOf p m) (m + 1) (omega arith) b ∙ g)))
+        rw (lt-ltb _ _ h, next-at c m h, to-next m t h g)
+        (chain-all n (nextMember c m) t (omega (arith, first-at-least c (canonicalOf c m) (m + 1))) (first-at-most c (canonicalOf c m) (m + 1) (omega arith))
+        (λ b. first-member c (canonicalOf c m) (m + 1) (omega arith) b ∙ g)))
     | no h ↦ (let d : m ≡ 128 = omega arith in rw (le-ltb m 128 (omega arith), d))
   ]
 
-  none-before : (m : ℕ) (t : ConstraintSet) → ((j : ℕ) → j < m → rootOf p j ≡ r → ⊥) → stepsTo f m t ≡ t
+  none-before : (m : ℕ) (t : ConstraintSet) → ((j : ℕ) → j < m → canonicalOf c j ≡ r → ⊥) → stepsTo f m t ≡ t
   none-before m t d = steps-skip f t m 0 (omega arith) (λ j a b u. idle j u (d j b)) ∙ (unfold stepsTo in refl)
 
   -- the whole class, from its second member on
   chain-class : r < 128 → (t : ConstraintSet) → chained ms r 128 (secondOf ms r) t ≡ joinClass c r t
-  chain-class h t = elim (ℕ-discrete (firstMember p r 0) r) [
-    | yes e ↦ (let own = subst (λ (x : ℕ). rootOf p x ≡ r) e (first-member p r 0 (omega arith) (omega arith)) in
-        let start : stepsTo f (nextMember p r) t ≡ t = sym (to-next r t h own) ∙ ap (λ (u : ConstraintSet). unionValues u r r)
-        (none-before r t (λ j b d. first-skips p r 0 j (omega arith) (omega arith) d)) ∙ union-self t r in
-        rw (first-at h, eq-eqb _ _ e, next-at r h)
-        (subst (λ (u : ConstraintSet). chained ms r 128 (nextMember p r) u ≡ joinClass c r t) start
-        (chain-all 128 (nextMember p r) t (omega arith) (first-at-most p (rootOf p r) (r + 1) (omega arith))
-        (λ b. first-member p (rootOf p r) (r + 1) (omega arith) b ∙ own))))
-    | no d ↦ rw (first-at h, ne-eqb _ _ d)
-        (subst (λ (u : ConstraintSet). chained ms r 128 (firstMember p r 0) u ≡ joinClass c r t)
-        (none-before (firstMember p r 0) t (λ j b g. first-skips p r 0 j (omega arith) b g))
-        (chain-all 128 (firstMember p r 0) t (omega arith) (first-at-most p r 0 (omega arith)) (λ b. first-member p r 0 (omega arith) b)))
+  chain-class h t = elim (ℕ-discrete (firstMember c r 0) r) [
+    | yes e ↦ (let own = subst (λ (x : ℕ). canonicalOf c x ≡ r) e (first-member c r 0 (omega arith) (omega arith)) in
+        let start : stepsTo f (nextMember c r) t ≡ t = sym (to-next r t h own) ∙ ap (λ (u : ConstraintSet). unionValues u r r)
+        (none-before r t (λ j b d. first-skips c r 0 j (omega arith) (omega arith) d)) ∙ union-self t r in
+        rw (first-at c r h, eq-eqb _ _ e, next-at c r h)
+        (subst (λ (u : ConstraintSet). chained ms r 128 (nextMember c r) u ≡ joinClass c r t) start
+        (chain-all 128 (nextMember c r) t (omega arith) (first-at-most c (canonicalOf c r) (r + 1) (omega arith))
+        (λ b. first-member c (canonicalOf c r) (r + 1) (omega arith) b ∙ own))))
+    | no d ↦ rw (first-at c r h, ne-eqb _ _ d)
+        (subst (λ (u : ConstraintSet). chained ms r 128 (firstMember c r 0) u ≡ joinClass c r t)
+        (none-before (firstMember c r 0) t (λ j b g. first-skips c r 0 j (omega arith) b g))
+        (chain-all 128 (firstMember c r 0) t (omega arith) (first-at-most c r 0 (omega arith)) (λ b. first-member c r 0 (omega arith) b)))
   ]
 
 -- one class as the code goes through it

@@ -1,21 +1,21 @@
 -- A union in a settled set, and what the code of a merge knows of its set. Assumes nothing.
-use mathlib.Core.Path.{_≡_, refl, sym, ap, _∙_, subst}
+use mathlib.Core.Path.{_≡_, refl, sym, ap, ap₂, _∙_, subst}
 use mathlib.Core.Bool.{Bool, true, false, cond, not, _&&_, and-true}
 use Prim.Native.Nat.{ℕ, zero, suc, _-_, _≤_, _<_, min, max}
 use native.Mathlib.Decide.{decLt, decLe}
 use native.Mathlib.Omega.{arith}
 use borrow.Author.Tests.{lt-ltb, ltb-true}
 use lib.Dec.{T, ltb}
-use lib.ListN.{length, getD, set}
+use lib.ListN.{getD}
 use Rattle.lists.proofs.RangeLaws.{and-left, and-right}
-use Rattle.value_classes.specs.Parents.{joined, parentsOk}
-use Rattle.value_classes.specs.Classes.{canonicalOf, unionOf}
+use Rattle.value_classes.specs.Classes.{Whole, classesOk, canonicalOf, joinedClasses, rootsJoined, unionOf}
 use Rattle.value_classes.specs.declared.ValueEquivalenceClasses.{ValueEquivalenceClasses}
 use Rattle.value_classes.specs.declared.United.{United}
 use Rattle.value_classes.specs.declared.Members.{Members}
-use Rattle.value_classes.proofs.RootLaws.{falls, root-below, root-idempotent}
+use Rattle.value_classes.proofs.ClassLaws.{falling, canonical-small, canonical-idempotent, rootsAnswered, roots-answered, joined-roots, joined-to-left}
+use Rattle.value_classes.proofs.ClassLaws.{joined-to-right}
 use Rattle.value_classes.proofs.Unions.{union-joined, union-same}
-use Rattle.constraint_spec.specs.Sets.{none, noEntry, parentsOf, canonicalAt, withClasses, normalized, unionBy, unionValues}
+use Rattle.constraint_spec.specs.Sets.{none, noEntry, classesOf, canonicalAt, withClasses, normalized, unionBy, unionValues}
 use Rattle.constraint_spec.specs.declared.Holder.{Holder}
 use Rattle.constraint_spec.specs.declared.Entry.{Entry}
 use Rattle.constraint_spec.specs.declared.ConstraintSet.{ConstraintSet}
@@ -40,7 +40,7 @@ module _ (s : ConstraintSet) (g : Settled s) (l r : ℕ) (hl : l < 128) (hr : r 
   y = canonicalAt s r
 
   own : (i : ℕ) → canonicalAt s (canonicalAt s i) ≡ canonicalAt s i
-  own i = root-idempotent (parentsOf s) (falls (parentsOf s) (g .ok)) i
+  own i = canonical-idempotent (classesOf s) (falling (classesOf s) (g .ok)) i
 
   own-low : canonicalAt s (min x y) ≡ min x y
   own-low = elim (decLe x y) [
@@ -49,13 +49,14 @@ module _ (s : ConstraintSet) (g : Settled s) (l r : ℕ) (hl : l < 128) (hr : r 
   ]
 
   pub high-small : max x y < 128
-  high-small = omega (arith, root-below (parentsOf s) 128 l x (g .many) refl hl, root-below (parentsOf s) 128 r y (g .many) refl hr)
+  high-small = omega (arith, canonical-small (classesOf s) l x (g .many) refl hl, canonical-small (classesOf s) r y (g .many) refl hr)
 
   apart : min x y < max x y → unionValues s l r ≡ unitedRoots s (min x y) (max x y)
   unfolding unionValues
   apart h =
       ap (unionBy s) (union-joined (s .«equivalence_classes») l r hl hr (omega arith))
-      ∙ (unfold joined in joined-normalized s g (min x y) (max x y) h high-small own-low)
+      ∙ ap (λ (k : ValueEquivalenceClasses). normalized (withClasses s k)) (joined-roots (classesOf s) l r)
+      ∙ joined-normalized s g (min x y) (max x y) h high-small own-low
 
   together : (min x y < max x y → ⊥) → s ≡ unionValues s l r
   unfolding unionValues
@@ -74,12 +75,22 @@ module _ (s : ConstraintSet) (g : Settled s) (l r : ℕ) (hl : l < 128) (hr : r 
   unfolding rootPair
   high-below = subst (λ (v : RootPair). v .high < 128) (sym ew) (high-small s g l r hl hr)
 
+  abbrev lower : ℕ
+  lower = min (canonicalAt s l) (canonicalAt s r)
+
+  abbrev higher : ℕ
+  higher = max (canonicalAt s l) (canonicalAt s r)
+
+  pair-is : rootPair (classesOf s) l r ≡ record { classes = rootsJoined (classesOf s) lower higher; low = lower; high = higher }
+  unfolding rootPair
+  pair-is = λ i. record { classes = joined-roots (classesOf s) l r i; low = lower; high = higher }
+
   -- one turn of the loop, with a union and without
   pub turned : (at : Place) (bare : Holder) (nowhere : Entry) → w .low < w .high → at ≡ placeAt s (w .low) (w .high) → bare ≡ none → nowhere ≡ noEntry
       → rootsWritten s w at bare nowhere ≡ unionValues s l r
-  unfolding rootPair unitedRoots joined nullOn
+  unfolding rootPair unitedRoots nullOn
   turned at bare nowhere h ea eb en =
-      (λ i. rootsWritten s (ew i) ((ea ∙ ap (λ (v : RootPair). placeAt s (v .low) (v .high)) ew) i) (eb i) (en i))
+      (λ i. rootsWritten s ((ew ∙ pair-is) i) ((ea ∙ ap (λ (v : RootPair). placeAt s (v .low) (v .high)) ew) i) (eb i) (en i))
       ∙ sym (apart s g l r hl hr (subst (λ (v : RootPair). v .low < v .high) ew h))
 
   pub unturned : (w .low < w .high → ⊥) → s ≡ unionValues s l r
@@ -91,7 +102,7 @@ pub not-yet : (t : ConstraintSet) → SettledIf (joining t false)
 not-yet t e = absurd (subst T (sym e) tt)
 
 module _ (s : ConstraintSet) (l r : ℕ) (u : United) (eu : u ≡ unionOf (s .«equivalence_classes») l r) where
-  pub fully-joined : (t : ConstraintSet) (ok : Bool) → length (u .classes .parents) ≡ 128 → u .joined ≡ true → ok ≡ parentsOk (u .classes .parents) → t
+  pub fully-joined : (t : ConstraintSet) (ok : Bool) → Whole (u .classes) → u .joined ≡ true → ok ≡ classesOk (u .classes) → t
       ≡ normalized (withClasses s (u .classes))
       → JoinedTo (joining t ok) (unionValues s l r)
   unfolding unionValues
@@ -109,22 +120,24 @@ module _ (s : ConstraintSet) (l r : ℕ) (u : United) (eu : u ≡ unionOf (s .«
 
 -- ---- the parts that the code makes
 module _ (c : ValueEquivalenceClasses) (l r x y : ℕ) (ex : x ≡ canonicalOf c l) (ey : y ≡ canonicalOf c r) where
-  abbrev rootsBy : ℕ → ℕ → RootPair
-  rootsBy a b = record { classes = record { parents = set (c .parents) b a }; low = a; high = b }
+  abbrev rootsBy : ValueEquivalenceClasses → ℕ → ℕ → RootPair
+  rootsBy k a b = record { classes = k; low = a; high = b }
 
-  pub left-lower : x < y → rootsBy x y ≡ rootPair c l r
-  unfolding rootPair joined
-  left-lower h =
+  pub left-lower : (k : ValueEquivalenceClasses) → y < 128 → k ≡ rootsAnswered c x y → x < y → rootsBy k x y ≡ rootPair c l r
+  unfolding rootPair
+  left-lower k small ek h =
       let m : max x y ≡ y = omega arith in
       let n : min x y ≡ x = omega arith in
-      rw (← ex, ← ey, m, n)
+      let z : k ≡ joinedClasses c l r = ek ∙ roots-answered c x y (omega arith) small ∙ sym (joined-to-left c l r x y ex ey (omega arith)) in
+      λ i. rootsBy (z i) ((sym n ∙ ap₂ min ex ey) i) ((sym m ∙ ap₂ max ex ey) i)
 
-  pub right-lower : y ≤ x → rootsBy y x ≡ rootPair c l r
-  unfolding rootPair joined
-  right-lower h =
+  pub right-lower : (k : ValueEquivalenceClasses) → x < 128 → k ≡ rootsAnswered c y x → y ≤ x → rootsBy k y x ≡ rootPair c l r
+  unfolding rootPair
+  right-lower k small ek h =
       let m : max x y ≡ x = omega arith in
       let n : min x y ≡ y = omega arith in
-      rw (← ex, ← ey, m, n)
+      let z : k ≡ joinedClasses c l r = ek ∙ roots-answered c y x (omega arith) small ∙ sym (joined-to-right c l r x y ex ey h) in
+      λ i. rootsBy (z i) ((sym n ∙ ap₂ min ex ey) i) ((sym m ∙ ap₂ max ex ey) i)
 
 -- ---- the loops over the members of a class
 abbrev pub more : ℕ → ℕ → Bool

@@ -2,8 +2,7 @@
 use mathlib.Core.Bool.{Bool, true}
 use mathlib.Core.Path.{_≡_}
 use Prim.Native.Nat.{ℕ, min, max}
-use Rattle.value_classes.specs.Parents.{joined}
-use Rattle.value_classes.specs.Classes.{canonicalOf}
+use Rattle.value_classes.specs.Classes.{canonicalOf, joinedClasses}
 use Rattle.value_classes.specs.declared.ValueEquivalenceClasses.{ValueEquivalenceClasses}
 use Rattle.constraint_spec.specs.declared.ConstraintSet.{ConstraintSet}
 use Rattle.constraint_set.specs.Settled.{Settled}
@@ -14,7 +13,7 @@ use Rattle.constraint_merge.specs.declared.Joining.{Joining}
 unfoldable pub rootPair : ValueEquivalenceClasses → ℕ → ℕ → RootPair
 rootPair c l r =
     record {
-      classes = record { parents = joined (c .parents) l r };
+      classes = joinedClasses c l r;
       low = min (canonicalOf c l) (canonicalOf c r);
       high = max (canonicalOf c l) (canonicalOf c r);
     }

@@ -32,16 +32,15 @@ fn root_pair(classes: ValueEquivalenceClasses, left: usize, right: usize) -> Roo
 {
     let l = classes.canonical(left);
     let r = classes.canonical(right);
-    let mut k = classes;
     if l < r {
-        k.parents[r] = l as u8;
+        let k = classes.join_roots(l, r);
         return RootPair {
             classes: k,
             low: l,
             high: r,
         };
     }
-    k.parents[l] = r as u8;
+    let k = classes.join_roots(r, l);
     RootPair {
         classes: k,
         low: r,

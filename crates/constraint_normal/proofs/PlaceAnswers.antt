@@ -8,11 +8,11 @@ use lib.ListN.{getD}
 use lib.Ieee.{eq}
 use Rattle.lists.specs.Ranges.{allFrom}
 use Rattle.value_range.specs.declared.Bound.{Bound}
-use Rattle.value_classes.specs.Parents.{parentsOk, rootOf}
+use Rattle.value_classes.specs.Classes.{classesOk}
 use Rattle.value_classes.specs.Listed.{rootsOf}
 use Rattle.value_classes.specs.declared.Roots.{Roots}
-use Rattle.value_classes.proofs.RootLaws.{each-at}
-use Rattle.constraint_spec.specs.Sets.{parentsOf, nonNullAt, literalAt, entryAt}
+use Rattle.value_classes.proofs.MemberLaws.{roots-at}
+use Rattle.constraint_spec.specs.Sets.{classesOf, nonNullAt, literalAt, entryAt}
 use Rattle.constraint_spec.specs.declared.Holder.{Holder}
 use Rattle.constraint_spec.specs.declared.Entry.{Entry}
 use Rattle.constraint_spec.specs.declared.ConstraintSet.{ConstraintSet}
@@ -46,16 +46,16 @@ entry-not root e p = rw p
 -- ---- the places of a set
 pub place-here : (s : ConstraintSet) (i : ℕ) (roots : Roots) (t : Bool) → i < 128 → roots ≡ rootsOf (s .«equivalence_classes»)
     → t ≡ readyPlace (eqb (getD (roots .of) i 0) i) (s .contradictory) (nonNullAt s i) (literalAt s i) (entryAt s i) → t ≡ readyAt s i
-unfolding readyAt rootsOf
+unfolding readyAt
 place-here s i roots t h er et =
     et
     ∙ ap (λ (r : ℕ). readyPlace (eqb r i) (s .contradictory) (nonNullAt s i) (literalAt s i) (entryAt s i))
-    (ap (λ (k : Roots). getD (k .of) i 0) er ∙ each-at (rootOf (parentsOf s)) 128 i h)
+    (ap (λ (k : Roots). getD (k .of) i 0) er ∙ roots-at (classesOf s) i h)
 
-pub not-parents : (s : ConstraintSet) (ok : Bool) → ok ≡ parentsOk (parentsOf s) → not ok ≡ true → false ≡ readyOf s
+pub not-parents : (s : ConstraintSet) (ok : Bool) → ok ≡ classesOk (classesOf s) → not ok ≡ true → false ≡ readyOf s
 unfolding readyOf
 not-parents s ok e n = sym (ap (λ (b : Bool). b && allFrom (readyAt s) 0 128) (sym e ∙ not-true ok n))
 
-pub all-places : (s : ConstraintSet) (ok w : Bool) → ok ≡ parentsOk (parentsOf s) → not ok ≡ false → allFrom (readyAt s) 0 128 ≡ w → w ≡ readyOf s
+pub all-places : (s : ConstraintSet) (ok w : Bool) → ok ≡ classesOk (classesOf s) → not ok ≡ false → allFrom (readyAt s) 0 128 ≡ w → w ≡ readyOf s
 unfolding readyOf
 all-places s ok w e n a = sym (λ i. (sym e ∙ not-false ok n) i && a i)

@@ -10,7 +10,8 @@ use lib.Dec.{T}
 use lib.Ieee.{binary64, fits}
 use lib.ListN.{length, getD, length-map}
 use mir.Val.{Val}
-use Rattle.constraint_spec.specs.Sets.{blank, parentsOf, nonNulls, literals, handles, entryAt}
+use Rattle.value_classes.specs.Classes.{Whole}
+use Rattle.constraint_spec.specs.Sets.{blank, classesOf, nonNulls, literals, handles, entryAt}
 use Rattle.constraint_spec.specs.declared.Entry.{Entry}
 use Rattle.constraint_spec.specs.declared.ConstraintSet.{ConstraintSet}
 use Rattle.constraint_spec.proofs.Entry as E
@@ -21,7 +22,7 @@ abbrev pub FitsEntry : Entry → Type 0
 FitsEntry e = T (fits binary64 (e .range .lower .value)) × T (fits binary64 (e .range .upper .value))
 
 pub record Held (s : ConstraintSet) : Type 0 where
-  pub many : length (parentsOf s) ≡ 128
+  pub many : Whole (classesOf s)
   pub nullsLong : length (nonNulls s) ≡ 128
   pub literalsLong : length (literals s) ≡ 128
   pub rangesLong : length (s .ranges) ≡ 128
@@ -39,8 +40,8 @@ each-fits (x ∷ xs) [] i p = absurd p
 each-fits (x ∷ xs) (u ∷ us) zero p = entry-fits x (u ∷ []) (p .0)
 each-fits (x ∷ xs) (u ∷ us) (suc i) p = each-fits xs us i (p .1)
 
-parents-long : (s : ConstraintSet) (vs : List Val) → shadow (row C.the-type .own s vs) → length (parentsOf s) ≡ 128
-parents-long s vs p = search needs
+classes-whole : (s : ConstraintSet) (vs : List Val) → shadow (row C.the-type .own s vs) → Whole (classesOf s)
+classes-whole s vs p = search needs
 
 nulls-long : (s : ConstraintSet) (vs : List Val) → shadow (row C.the-type .own s vs) → length (nonNulls s) ≡ 128
 nulls-long s vs p = search needs
@@ -50,7 +51,7 @@ handles-long s vs p = search needs
 
 pub set-held : (s : ConstraintSet) (vs : List Val) → shadow (row C.the-type .own s vs) → Held s
 set-held s vs p = record {
-  many = parents-long s vs p;
+  many = classes-whole s vs p;
   nullsLong = nulls-long s vs p;
   literalsLong = sym (length-map (literals s) _) ∙ p .1 .1 .1 .1 .0 .1 .0 .1;
   rangesLong = sym (length-map (s .ranges) _) ∙ p .1 .1 .1 .1 .1 .0 .1 .0 .1;

@@ -7,11 +7,10 @@ use borrow.Author.Tests.{eqb-false, eq-eqb, ne-eqb}
 use lib.Dec.{eqb}
 use Rattle.lists.specs.Ranges.{anyFrom}
 use Rattle.lists.proofs.RangeLaws.{and-left, and-right, and-both, table, all-of, any-none}
-use Rattle.value_classes.specs.Parents.{parentsOk}
-use Rattle.value_classes.specs.Classes.{emptyClasses}
-use Rattle.value_classes.proofs.RootLaws.{own-root, falls-ok}
+use Rattle.value_classes.specs.Classes.{classesOk, emptyClasses}
+use Rattle.value_classes.proofs.ClassLaws.{falling-ok, alone-canonical}
 use Rattle.value_classes.proofs.Chains.{empty-sound}
-use Rattle.constraint_spec.specs.Sets.{none, noEntry, blank, parentsOf, nonNulls, literals, nonNullAt, literalAt, entryAt, canonicalAt, crossedAt, emptySet}
+use Rattle.constraint_spec.specs.Sets.{none, noEntry, blank, classesOf, nonNulls, literals, nonNullAt, literalAt, entryAt, canonicalAt, crossedAt, emptySet}
 use Rattle.constraint_spec.specs.declared.Holder.{Holder}
 use Rattle.constraint_spec.specs.declared.Entry.{Entry}
 use Rattle.constraint_spec.specs.declared.ConstraintSet.{ConstraintSet}
@@ -33,7 +32,7 @@ abbrev PartsAt : ConstraintSet → ℕ → Bool → Type 0
 PartsAt s i root = Parts root (s .contradictory) (nonNullAt s i) (literalAt s i) (entryAt s i)
 
 -- ---- where the test passes
-module _ (s : ConstraintSet) (k : Held s) (ok : parentsOk (parentsOf s) ≡ true) (here : (i : ℕ) → i < 128 → PartsAt s i (isRoot s i)) where
+module _ (s : ConstraintSet) (k : Held s) (ok : classesOk (classesOf s) ≡ true) (here : (i : ℕ) → i < 128 → PartsAt s i (isRoot s i)) where
   away : (i : ℕ) → i < 128 → (canonicalAt s i ≡ i → ⊥) → PartsAt s i false
   away i h d = subst (PartsAt s i) (ne-eqb (canonicalAt s i) i d) (here i h)
 
@@ -84,7 +83,7 @@ unfolding readyOf readyAt
 ready-set s k e =
     all-ready s k (and-left _ _ e)
     (λ i h. parts (isRoot s i) (s .contradictory) (nonNullAt s i) (literalAt s i) (entryAt s i)
-    (table (readyAt s) 128 (and-right (parentsOk (parentsOf s)) _ e) i h))
+    (table (readyAt s) 128 (and-right (classesOk (classesOf s)) _ e) i h))
 
 -- ---- and of every set that is ready it says so
 module _ (s : ConstraintSet) (r : Ready s) (i : ℕ) (h : i < 128) where
@@ -107,14 +106,14 @@ module _ (s : ConstraintSet) (r : Ready s) (i : ℕ) (h : i < 128) where
 pub ready-said : (s : ConstraintSet) → Ready s → readyOf s ≡ true
 unfolding readyOf readyAt
 ready-said s r =
-    and-both (parentsOk (parentsOf s)) _ (r .settled .ok)
+    and-both (classesOk (classesOf s)) _ (r .settled .ok)
     (all-of (readyAt s) 128 0
     (λ j lo hi. whole (isRoot s j) (s .contradictory) (nonNullAt s j) (literalAt s j) (entryAt s j) (place s r j (omega arith) (isRoot s j) refl)))
 
 -- ---- the set in which nothing is recorded is one
 alone : (i : ℕ) → i < 128 → isRoot emptySet i ≡ true
-unfolding emptySet emptyClasses
-alone i h = eq-eqb _ _ (own-root 128 i h)
+unfolding emptySet
+alone i h = eq-eqb _ _ (alone-canonical i h)
 
 nothing-there : readyPlace true false false none noEntry ≡ true
 unfolding readyPlace readyHolder blankScalar readyEntry blankBound quietPlace
@@ -128,10 +127,10 @@ fresh-at i h =
     (at-replicate (λ (x : Holder). readyPlace true false false x (entryAt emptySet i) ≡ true) none none
     (at-replicate (λ (e : Entry). readyPlace true false false none e ≡ true) noEntry blank nothing-there i h) i h) i h)
 
-fresh-parents : parentsOk (parentsOf emptySet) ≡ true
+fresh-parents : classesOk (classesOf emptySet) ≡ true
 unfolding emptySet
-fresh-parents = falls-ok (emptyClasses .parents) (empty-sound .1)
+fresh-parents = falling-ok emptyClasses (empty-sound .1)
 
 pub fresh-ready : readyOf emptySet ≡ true
 unfolding readyOf
-fresh-ready = and-both (parentsOk (parentsOf emptySet)) _ fresh-parents (all-of (readyAt emptySet) 128 0 (λ j lo hi. fresh-at j (omega arith)))
+fresh-ready = and-both (classesOk (classesOf emptySet)) _ fresh-parents (all-of (readyAt emptySet) 128 0 (λ j lo hi. fresh-at j (omega arith)))

@@ -9,8 +9,8 @@ use Rattle.scalar.specs.Coded.{codeOf}
 use Rattle.scalar.specs.declared.ScalarValue.{ScalarValue}
 use Rattle.value_range.specs.Ranges.{emptyRange}
 use Rattle.value_range.specs.declared.Bound.{Bound}
-use Rattle.value_classes.specs.Parents.{parentsOk}
-use Rattle.constraint_spec.specs.Sets.{parentsOf, nonNullAt, literalAt, entryAt, canonicalAt, crossed}
+use Rattle.value_classes.specs.Classes.{classesOk}
+use Rattle.constraint_spec.specs.Sets.{classesOf, nonNullAt, literalAt, entryAt, canonicalAt, crossed}
 use Rattle.constraint_spec.specs.declared.Holder.{Holder}
 use Rattle.constraint_spec.specs.declared.Entry.{Entry}
 use Rattle.constraint_spec.specs.declared.ConstraintSet.{ConstraintSet}
@@ -48,4 +48,4 @@ unfoldable pub readyAt : ConstraintSet → ℕ → Bool
 readyAt s i = readyPlace (eqb (canonicalAt s i) i) (s .contradictory) (nonNullAt s i) (literalAt s i) (entryAt s i)
 
 unfoldable pub readyOf : ConstraintSet → Bool
-readyOf s = parentsOk (parentsOf s) && allFrom (readyAt s) 0 128
+readyOf s = classesOk (classesOf s) && allFrom (readyAt s) 0 128

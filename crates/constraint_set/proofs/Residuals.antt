@@ -4,7 +4,7 @@ use mathlib.Core.Bool.{Bool, true, false, not, cond, _||_}
 use Prim.Native.Nat.{ℕ, _+_}
 use lib.Dec.{ltb}
 use lib.ListN.{set}
-use Rattle.constraint_spec.specs.Sets.{handles, withResiduals, hasHandle, roomFor, pushResidual, done, refusedWith, addResidual}
+use Rattle.constraint_spec.specs.Sets.{handles, withResiduals, hasHandle, roomFor, pushResidual, appliedOf, done, refusedWith, addResidual}
 use Rattle.constraint_spec.specs.declared.ConstraintSet.{ConstraintSet}
 use Rattle.constraint_set.specs.Kept.{keptBy}
 use Rattle.constraint_set.specs.declared.Kept.{Kept}
@@ -41,18 +41,18 @@ module _ (s : ConstraintSet) (h : ℕ) where
       go false false = refl
 
 -- `add_residual` is a handle pushed, with whether there was room
-added : (s : ConstraintSet) (h : ℕ) → record { constraints = pushResidual s h; refused = not (roomFor s h) } ≡ addResidual s h
+added : (s : ConstraintSet) (h : ℕ) → appliedOf (pushResidual s h) (not (roomFor s h)) ≡ addResidual s h
 unfolding addResidual pushResidual
 added s h = go (hasHandle s h) (ltb (s .residuals) 64)
   where
     push : Bool → Bool → ConstraintSet
     push a b = cond a s (cond b (withResiduals s (set (handles s) (s .residuals) h) (s .residuals + 1)) s)
 
-    go : (a b : Bool) → record { constraints = push a b; refused = not (a || b) } ≡ cond (a || b) (done (push a b)) (refusedWith s)
+    go : (a b : Bool) → appliedOf (push a b) (not (a || b)) ≡ cond (a || b) (done (push a b)) (refusedWith s)
     go true b = refl
     go false true = refl
     go false false = refl
 
-pub residual-added : (s : ConstraintSet) (h : ℕ) (k : Kept) → k ≡ keptBy (handles s) (s .residuals) h → record
-    { constraints = withResiduals s (k .list) (k .count); refused = k .refused } ≡ addResidual s h
-residual-added s h k e = rw e (λ i. record { constraints = kept-set s h i; refused = kept-refused s h i }) ∙ added s h
+pub residual-added : (s : ConstraintSet) (h : ℕ) (k : Kept) → k ≡ keptBy (handles s) (s .residuals) h
+    → appliedOf (withResiduals s (k .list) (k .count)) (k .refused) ≡ addResidual s h
+residual-added s h k e = rw e (λ i. appliedOf (kept-set s h i) (kept-refused s h i)) ∙ added s h

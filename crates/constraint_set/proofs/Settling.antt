@@ -8,11 +8,11 @@ use native.Mathlib.Decide.{ℕ-discrete}
 use native.Mathlib.Omega.{arith}
 use lib.ListN.{length, getD, set, length-set}
 use lib.Seq.{getD-set-same, getD-set-other}
-use Rattle.value_classes.specs.Parents.{parentIn, rootOf, parentsOk}
+use Rattle.value_classes.specs.Classes.{Whole, Falling, classesOk, canonicalOf, rootsJoined}
 use Rattle.value_classes.specs.declared.ValueEquivalenceClasses.{ValueEquivalenceClasses}
-use Rattle.value_classes.proofs.RootLaws.{Falls, falls, falls-ok, parent-in, root-below, root-of-own, root-own, root-step, root-idempotent}
-use Rattle.constraint_spec.specs.Sets.{none, noEntry, blank, parentsOf, nonNulls, literals, handles, nonNullAt, literalAt, entryAt, canonicalAt}
-use Rattle.constraint_spec.specs.Sets.{withClasses, withNonNulls, withLiterals, withFlag, flagIf, crossed, crossedAt, crossCheck, rangesMoved}
+use Rattle.value_classes.proofs.ClassLaws.{falling, falling-ok, canonical-small, canonical-idempotent, roots-whole, roots-falling, root-stays, root-goes}
+use Rattle.constraint_spec.specs.Sets.{none, noEntry, blank, classesOf, nonNulls, literals, nonNullAt, literalAt, entryAt, canonicalAt}
+use Rattle.constraint_spec.specs.Sets.{withValues, withClasses, withNonNulls, withLiterals, withFlag, flagIf, crossed, crossedAt, crossCheck, rangesMoved}
 use Rattle.constraint_spec.specs.Sets.{literalsMoved, normalized}
 use Rattle.constraint_spec.specs.declared.Holder.{Holder}
 use Rattle.constraint_spec.specs.declared.Entry.{Entry}
@@ -29,16 +29,7 @@ abbrev emptyFlag : ConstraintSet → Bool
 emptyFlag s = flagTo noEntry rangeOn (canonicalAt s) blank (s .ranges) rangeBad (clashTo s 128) 128
 
 abbrev passed : ConstraintSet → ConstraintSet
-passed s =
-    record {
-      «equivalence_classes» = s .«equivalence_classes»;
-      «non_null_values» = nullsTo s 128;
-      «literal_equalities» = literalsTo s 128;
-      ranges = rangesTo s 128;
-      «residual_predicates» = handles s;
-      residuals = s .residuals;
-      contradictory = emptyFlag s;
-    }
+passed s = withValues s (classesOf s) (nullsTo s 128) (literalsTo s 128) (rangesTo s 128) (emptyFlag s)
 
 module _ (s : ConstraintSet) (low : (k : ℕ) → k < 128 → canonicalAt s k < 128) where
   passes : normalized s ≡ crossCheck (passed s)
@@ -48,12 +39,12 @@ module _ (s : ConstraintSet) (low : (k : ℕ) → k < 128 → canonicalAt s k < 
       ∙ ap (λ (u : ConstraintSet). crossCheck (rangesMoved u)) (literals-passed (withNonNulls s (nullsTo s 128)) low)
       ∙ ap crossCheck (ranges-passed (withFlag (withLiterals (withNonNulls s (nullsTo s 128)) (literalsTo s 128)) (clashTo s 128)) low)
 
-module _ (s : ConstraintSet) (many : length (parentsOf s) ≡ 128) (ok : parentsOk (parentsOf s) ≡ true) where
+module _ (s : ConstraintSet) (many : Whole (classesOf s)) (ok : classesOk (classesOf s) ≡ true) where
   low : (k : ℕ) → k < 128 → canonicalAt s k < 128
-  low k h = root-below (parentsOf s) 128 k (canonicalAt s k) many refl h
+  low k h = canonical-small (classesOf s) k (canonicalAt s k) many refl h
 
   idem : (k : ℕ) → k < 128 → canonicalAt s (canonicalAt s k) ≡ canonicalAt s k
-  idem k h = root-idempotent (parentsOf s) (falls (parentsOf s) ok) k
+  idem k h = canonical-idempotent (classesOf s) (falling (classesOf s) ok) k
 
   -- what `normalize` leaves is settled. Assumes parents that are in order
   pub normalized-settled : Settled (normalized s)
@@ -72,32 +63,11 @@ module _ (s : ConstraintSet) (many : length (parentsOf s) ≡ 128) (ok : parents
       }
 
 -- ---- representatives after b has got a as its parent
-module _ (p : List ℕ) (f : Falls p) (a b : ℕ) (less : a < b) (high : b < length p) (own-a : rootOf p a ≡ a) where
-  abbrev q : List ℕ
-  q = set p b a
-
-  pub set-falls : Falls q
-  set-falls i h = elim (ℕ-discrete i b) [
-    | yes e ↦ rw (e, getD-set-same p b a 0 high) (omega arith)
-    | no n ↦ rw (getD-set-other p b i a 0 n) (f i (omega (arith, length-set p b a)))
-  ]
-
-  own : (i : ℕ) → rootOf p i ≡ i → (i ≡ b → ⊥) → rootOf q i ≡ i
-  own i e n = root-of-own q i (other ∙ subst (λ (x : ℕ). parentIn p x ≡ x) e (root-own p f i))
-    where
-      other : parentIn q i ≡ parentIn p i
-      other = unfold parentIn in rw (length-set p b a, getD-set-other p b i a 0 n)
-
-  joins : rootOf q b ≡ a
-  joins =
-      let e = getD-set-same p b a 0 high in
-      let l = length-set p b a in
-      root-step q set-falls b ∙ ap (rootOf q) (parent-in q b (omega arith) (omega arith) ∙ e) ∙ own a own-a (omega arith)
-
-  pub root-goes : (i : ℕ) → rootOf p i ≡ i → rootOf q i ≡ goesTo a b i
-  root-goes i e = elim (ℕ-discrete i b) [
-    | yes d ↦ ap (rootOf q) d ∙ joins ∙ sym (ap (goesTo a b) d ∙ goes-b a b)
-    | no n ↦ own i e n ∙ sym (goes-other a b i n)
+module _ (c : ValueEquivalenceClasses) (w : Whole c) (f : Falling c) (a b : ℕ) (less : a < b) (high : b < 128) (own-a : canonicalOf c a ≡ a) where
+  pub canonical-goes : (i : ℕ) → canonicalOf c i ≡ i → canonicalOf (rootsJoined c a b) i ≡ goesTo a b i
+  canonical-goes i e = elim (ℕ-discrete i b) [
+    | yes d ↦ ap (canonicalOf (rootsJoined c a b)) d ∙ root-goes c w f a b less high own-a ∙ sym (ap (goesTo a b) d ∙ goes-b a b)
+    | no n ↦ root-stays c w f a b less high own-a i e n ∙ sym (goes-other a b i n)
   ]
 
 -- ---- two representatives joined
@@ -117,7 +87,7 @@ module _ {A : Type 0} (l : List A) (a b : ℕ) (now none d : A) (less : a < b) (
 
 module _ (s : ConstraintSet) (g : Settled s) (a b : ℕ) (less : a < b) (high : b < 128) (own-a : canonicalAt s a ≡ a) where
   abbrev k : ValueEquivalenceClasses
-  k = record { parents = set (parentsOf s) b a }
+  k = rootsJoined (classesOf s) a b
 
   abbrev t : ConstraintSet
   t = withClasses s k
@@ -134,23 +104,23 @@ module _ (s : ConstraintSet) (g : Settled s) (a b : ℕ) (less : a < b) (high : 
   abbrev empty : Bool
   empty = rangeBad (entryAt s a) (entryAt s b)
 
-  many-t : length (parentsOf t) ≡ 128
-  many-t = length-set (parentsOf s) b a ∙ g .many
+  many-t : Whole k
+  many-t = roots-whole (classesOf s) a b (g .many)
 
-  fall : Falls (parentsOf s)
-  fall = falls (parentsOf s) (g .ok)
+  fall : Falling (classesOf s)
+  fall = falling (classesOf s) (g .ok)
 
-  ok-t : parentsOk (parentsOf t) ≡ true
-  ok-t = falls-ok (parentsOf t) (set-falls (parentsOf s) fall a b less (omega (arith, g .many)) own-a)
+  ok-t : classesOk k ≡ true
+  ok-t = falling-ok k (roots-falling (classesOf s) (g .many) fall a b less high own-a)
 
   low-t : (i : ℕ) → i < 128 → canonicalAt t i < 128
-  low-t i h = root-below (parentsOf t) 128 i (canonicalAt t i) many-t refl h
+  low-t i h = canonical-small k i (canonicalAt t i) many-t refl h
 
   -- a content that is there goes where its representative goes
   goes : {A : Type 0} (n : A) (put : A → A → A) (d : A) (l : List A) → Stands n put (canonicalAt s) d l → (i : ℕ) → i < 128 → (getD l i d ≡ n)
       ⊎ (canonicalAt t i ≡ goesTo a b i)
   goes n put d l st i h = elim (ℕ-discrete (canonicalAt s i) i) [
-    | yes e ↦ inr (root-goes (parentsOf s) fall a b less (omega (arith, g .many)) own-a i e)
+    | yes e ↦ inr (canonical-goes (classesOf s) (g .many) fall a b less high own-a i e)
     | no m ↦ inl (st .away i h m)
   ]
 
@@ -182,27 +152,11 @@ module _ (s : ConstraintSet) (g : Settled s) (a b : ℕ) (less : a < b) (high : 
   -- before the check
   abbrev u : ConstraintSet
   u =
-      record {
-        «equivalence_classes» = k;
-        «non_null_values» = movedTo (nonNulls s) a b (nullOn (nonNullAt s a) (nonNullAt s b)) false;
-        «literal_equalities» = movedTo (literals s) a b holder none;
-        ranges = movedTo (s .ranges) a b entry noEntry;
-        «residual_predicates» = handles s;
-        residuals = s .residuals;
-        contradictory = (s .contradictory || clash) || empty;
-      }
+      withValues s k (movedTo (nonNulls s) a b (nullOn (nonNullAt s a) (nonNullAt s b)) false) (movedTo (literals s) a b holder none)
+      (movedTo (s .ranges) a b entry noEntry) ((s .contradictory || clash) || empty)
 
   passed-moved : passed t ≡ u
-  passed-moved = λ i.
-      record {
-        «equivalence_classes» = k;
-        «non_null_values» = nulls-moved i;
-        «literal_equalities» = literals-moved i;
-        ranges = ranges-moved i;
-        «residual_predicates» = handles s;
-        residuals = s .residuals;
-        contradictory = empty-moved i;
-      }
+  passed-moved = λ i. withValues s k (nulls-moved i) (literals-moved i) (ranges-moved i) (empty-moved i)
 
   flagged : (j : ℕ) → j < 128 → crossedAt s j ≡ true → u .contradictory ≡ true
   flagged j h e = or-before (s .contradictory || clash) empty (or-before (s .contradictory) clash (crossed-flagged s (g .checked) j h e))

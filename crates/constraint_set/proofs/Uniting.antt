@@ -2,7 +2,7 @@
 use mathlib.Core.Path.{_≡_, ap₂, _∙_}
 use mathlib.Core.Bool.{Bool, false, _||_}
 use lib.ListN.{set}
-use Rattle.constraint_spec.specs.Sets.{nonNulls, literals, handles, nonNullAt, crossed}
+use Rattle.constraint_spec.specs.Sets.{nonNulls, literals, nonNullAt, withValues, crossed}
 use Rattle.constraint_spec.specs.declared.Holder.{Holder}
 use Rattle.constraint_spec.specs.declared.Entry.{Entry}
 use Rattle.constraint_spec.specs.declared.ConstraintSet.{ConstraintSet}
@@ -13,15 +13,11 @@ use Rattle.constraint_set.specs.declared.RootPair.{RootPair}
 -- ---- what the code writes for two representatives
 abbrev pub rootsWritten : ConstraintSet → RootPair → Place → Holder → Entry → ConstraintSet
 rootsWritten s w at bare nowhere =
-    record {
-      «equivalence_classes» = w .classes;
-      «non_null_values» = set (set (nonNulls s) (w .low) (nonNullAt s (w .low) || nonNullAt s (w .high))) (w .high) false;
-      «literal_equalities» = set (set (literals s) (w .low) (at .literal)) (w .high) bare;
-      ranges = set (set (s .ranges) (w .low) (at .entry)) (w .high) nowhere;
-      «residual_predicates» = handles s;
-      residuals = s .residuals;
-      contradictory = s .contradictory || at .bad;
-    }
+    withValues s (w .classes)
+    (set (set (nonNulls s) (w .low) (nonNullAt s (w .low) || nonNullAt s (w .high))) (w .high) false)
+    (set (set (literals s) (w .low) (at .literal)) (w .high) bare)
+    (set (set (s .ranges) (w .low) (at .entry)) (w .high) nowhere)
+    (s .contradictory || at .bad)
 
 -- the literal and the range that are then at the lower one
 pub place-made : (h1 h2 h : Holder) (e1 e2 e : Entry) (clash empty x : Bool) → h ≡ literalOn h1 h2 → e ≡ rangeOn e1 e2 → clash ≡ literalBad h1 h2 → empty

@@ -6,8 +6,8 @@ use mathlib.Core.Path.{_≡_}
 use Prim.Native.Nat.{ℕ, _<_}
 use lib.ListN.{length, getD, set}
 use Rattle.value_range.specs.Ranges.{emptyRange}
-use Rattle.value_classes.specs.Parents.{parentsOk}
-use Rattle.constraint_spec.specs.Sets.{none, held, noEntry, entryOf, blank, parentsOf, nonNulls, literals, handles, nonNullAt, literalAt, entryAt}
+use Rattle.value_classes.specs.Classes.{Whole, classesOk, rootsJoined}
+use Rattle.constraint_spec.specs.Sets.{none, held, noEntry, entryOf, blank, classesOf, nonNulls, literals, nonNullAt, literalAt, entryAt, withValues}
 use Rattle.constraint_spec.specs.Sets.{canonicalAt, clashes, rangeIn, tightenBy, crossed}
 use Rattle.constraint_spec.specs.declared.Holder.{Holder}
 use Rattle.constraint_spec.specs.declared.Entry.{Entry}
@@ -39,8 +39,8 @@ pub record Stands {A : Type 0} (none : A) (put : A → A → A) (root : ℕ → 
   pub same : (i : ℕ) → i < 128 → put none (getD l i d) ≡ getD l i d
 
 pub record Settled (s : ConstraintSet) : Type 0 where
-  pub many : length (parentsOf s) ≡ 128
-  pub ok : parentsOk (parentsOf s) ≡ true
+  pub many : Whole (classesOf s)
+  pub ok : classesOk (classesOf s) ≡ true
   pub nulls : Stands false nullOn (canonicalAt s) false (nonNulls s)
   pub equal : Stands none literalOn (canonicalAt s) none (literals s)
   pub within : Stands noEntry rangeOn (canonicalAt s) blank (s .ranges)
@@ -66,12 +66,8 @@ placeAt s a b = placeOf (literalAt s a) (literalAt s b) (entryAt s a) (entryAt s
 
 unfoldable pub unitedRoots : ConstraintSet → ℕ → ℕ → ConstraintSet
 unitedRoots s a b =
-    record {
-      «equivalence_classes» = record { parents = set (parentsOf s) b a };
-      «non_null_values» = movedTo (nonNulls s) a b (nullOn (nonNullAt s a) (nonNullAt s b)) false;
-      «literal_equalities» = movedTo (literals s) a b (placeAt s a b .literal) none;
-      ranges = movedTo (s .ranges) a b (placeAt s a b .entry) noEntry;
-      «residual_predicates» = handles s;
-      residuals = s .residuals;
-      contradictory = s .contradictory || placeAt s a b .bad;
-    }
+    withValues s (rootsJoined (classesOf s) a b)
+    (movedTo (nonNulls s) a b (nullOn (nonNullAt s a) (nonNullAt s b)) false)
+    (movedTo (literals s) a b (placeAt s a b .literal) none)
+    (movedTo (s .ranges) a b (placeAt s a b .entry) noEntry)
+    (s .contradictory || placeAt s a b .bad)

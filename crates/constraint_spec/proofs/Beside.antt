@@ -1,5 +1,5 @@
 -- Which operations leave the classes and the residuals as they are. Assumes nothing.
-use mathlib.Core.Path.{_≡_, refl, ap}
+use mathlib.Core.Path.{_≡_, refl}
 use mathlib.Core.Bool.{Bool, true, false, cond}
 use Prim.Native.Nat.{ℕ}
 use native.Mathlib.Omega.{arith}
@@ -9,10 +9,9 @@ use lib.Ieee.{Float}
 use Rattle.scalar.specs.Kinds.{isNull}
 use Rattle.scalar.specs.declared.ScalarValue.{ScalarValue}
 use Rattle.value_range.specs.declared.ValueRange.{ValueRange}
-use Rattle.value_classes.specs.declared.ValueEquivalenceClasses.{ValueEquivalenceClasses}
 use Rattle.comparison.specs.Operators.{bounding}
 use Rattle.comparison.specs.declared.BinaryOp.{BinaryOp}
-use Rattle.constraint_spec.specs.Sets.{none, noEntry, parentsOf, handles, literalAt, nonNullAt, entryAt, canonicalAt, withFlag, withNonNulls}
+use Rattle.constraint_spec.specs.Sets.{none, noEntry, classesOf, handles, literalAt, nonNullAt, entryAt, canonicalAt, withFlag, withNonNulls}
 use Rattle.constraint_spec.specs.Sets.{withLiterals, withRanges, putNonNull, putLiteral, putRange, layRange, crossCheck, moveNonNull}
 use Rattle.constraint_spec.specs.Sets.{moveLiteral, moveRange, nonNullsMoved, literalsMoved, rangesMoved, normalized, addNonNull, addLiteral}
 use Rattle.constraint_spec.specs.Sets.{boundsBy, addBound}
@@ -20,15 +19,12 @@ use Rattle.constraint_spec.specs.declared.ConstraintSet.{ConstraintSet}
 use Rattle.constraint_spec.proofs.Steps.{steps-good, pick-has}
 
 pub record Beside (s t : ConstraintSet) : Type 0 where
-  pub classes : t .«equivalence_classes» ≡ s .«equivalence_classes»
+  pub classes : classesOf t ≡ classesOf s
   pub handles : t .«residual_predicates» ≡ s .«residual_predicates»
   pub count : t .residuals ≡ s .residuals
 
 pub beside-self : (s : ConstraintSet) → Beside s s
 beside-self s = record { classes = refl; handles = refl; count = refl }
-
-pub beside-parents : (s t : ConstraintSet) → Beside s t → parentsOf t ≡ parentsOf s
-beside-parents s t b = ap (λ (k : ValueEquivalenceClasses). k .parents) (b .classes)
 
 module _ (s t : ConstraintSet) (b : Beside s t) where
   pub beside-flag : (c : Bool) → Beside s (withFlag t c)

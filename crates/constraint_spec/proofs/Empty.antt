@@ -2,13 +2,13 @@
 use mathlib.Core.Path.{_≡_, sym}
 use mathlib.Core.Bool.{Bool, true, false}
 use mathlib.Core.Logic.{inl}
-use Prim.Native.Nat.{ℕ, _<_}
+use Prim.Native.Nat.{ℕ}
 use native.Mathlib.Omega.{arith}
 use lib.Dec.{T}
 use lib.ListN.{length-replicate}
 use Rattle.scalar.specs.declared.ScalarValue.{ScalarValue}
-use Rattle.value_classes.specs.Classes.{emptyClasses, canonicalOf}
-use Rattle.value_classes.proofs.RootLaws.{own-root, falls-ok}
+use Rattle.value_classes.specs.Classes.{emptyClasses}
+use Rattle.value_classes.proofs.ClassLaws.{falling-ok, alone-canonical}
 use Rattle.value_classes.proofs.Chains.{empty-sound}
 use Rattle.constraint_spec.specs.Sets.{none, blank, noEntry, setOk, emptySet}
 use Rattle.constraint_spec.specs.Meets.{nullOk, literalOk, entryOk, Meets, SoundHolder, SoundEntry, Good}
@@ -31,10 +31,6 @@ empty-good = record {
   sound = at-replicate SoundEntry noEntry blank (λ t. absurd t);
 }
 
-alone : (i : ℕ) → i < 128 → canonicalOf emptyClasses i ≡ i
-unfolding emptyClasses
-alone i h = own-root 128 i h
-
 -- every row meets it
 pub empty-meets : (on : ℕ → Type 0) (v : ℕ → ScalarValue) → Meets on v emptySet
 unfolding emptySet
@@ -45,11 +41,11 @@ empty-meets on v = record {
     equal = λ i h. at-replicate (λ (x : Holder). T (literalOk (v i) x)) none none tt i h;
     within = λ i h. at-replicate (λ (e : Entry). T (entryOk (v i) e)) noEntry blank tt i h;
   };
-  together = λ i h. inl (sym (alone i h));
+  together = λ i h. inl (sym (alone-canonical i h));
   residual = λ k h. absurd (omega arith);
 }
 
 -- it keeps the rules
 pub empty-ok : setOk emptySet ≡ true
 unfolding setOk emptySet
-empty-ok = rw (falls-ok (emptyClasses .parents) (empty-sound .1))
+empty-ok = rw (falling-ok emptyClasses (empty-sound .1))

@@ -6,8 +6,8 @@ use Prim.Native.Nat.{ℕ, _≤_, _<_}
 use lib.Dec.{T}
 use lib.ListN.{length, getD, replicate, getD-replicate}
 use Rattle.scalar.specs.declared.ScalarValue.{ScalarValue}
+use Rattle.value_classes.specs.Classes.{Whole, Falling}
 use Rattle.value_classes.specs.declared.ValueEquivalenceClasses.{ValueEquivalenceClasses}
-use Rattle.value_classes.proofs.RootLaws.{Falls}
 use Rattle.constraint_spec.specs.Sets.{none, blank, withClasses, withNonNulls, withLiterals, withRanges, withResiduals, withFlag}
 use Rattle.constraint_spec.specs.Meets.{nullOk, literalOk, entryOk, Each, Core, SoundHolder, SoundEntry, Good}
 use Rattle.constraint_spec.specs.declared.Holder.{Holder}
@@ -15,7 +15,7 @@ use Rattle.constraint_spec.specs.declared.Entry.{Entry}
 use Rattle.constraint_spec.specs.declared.ConstraintSet.{ConstraintSet}
 
 module _ (s : ConstraintSet) (g : Good s) where
-  pub classes-good : (k : ValueEquivalenceClasses) → length (k .parents) ≡ 128 → Falls (k .parents) → Good (withClasses s k)
+  pub classes-good : (k : ValueEquivalenceClasses) → Whole k → Falling k → Good (withClasses s k)
   classes-good k l f = record {
     long = l;
     fall = f;

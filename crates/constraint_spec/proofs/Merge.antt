@@ -11,7 +11,7 @@ use Rattle.scalar.specs.Kinds.{isNull}
 use Rattle.scalar.specs.Scalars.{Typed}
 use Rattle.scalar.specs.declared.ScalarValue.{ScalarValue}
 use Rattle.constraint_spec.specs.Values.{equals, Place, placeOf, okRange}
-use Rattle.constraint_spec.specs.Sets.{parentsOf, nonNulls, literals, handles, nonNullAt, literalAt, entryAt, handleAt, canonicalAt, flagIf}
+use Rattle.constraint_spec.specs.Sets.{classesOf, nonNulls, literals, handles, nonNullAt, literalAt, entryAt, handleAt, canonicalAt, flagIf}
 use Rattle.constraint_spec.specs.Sets.{putNonNull, layRange, unionValues, addLiteral, roomFor, stepsTo, joinMember, joinClass, mergeLiteral}
 use Rattle.constraint_spec.specs.Sets.{mergeRange, mergeNonNull, mergeResidual, mergeClasses, mergeLiterals, mergeRanges, mergeNonNulls}
 use Rattle.constraint_spec.specs.Sets.{mergeResiduals, mergeValues, mergedSet, roomTo, mergeRoom, done, refusedWith, mergeFrom}
@@ -106,14 +106,14 @@ module _ (b : ConstraintSet) (g : Good b) where
     class-iff r hr t f = steps-iff Good (Meets on v) (joinMember (b .«equivalence_classes») r) (Pair r) 128 (member-good r hr) (member-iff r hr) 128
         (omega arith) t f
 
-    pairs-together : ((r : ℕ) → r < 128 → (i : ℕ) → i < 128 → Pair r i) → Together v (parentsOf b)
+    pairs-together : ((r : ℕ) → r < 128 → (i : ℕ) → i < 128 → Pair r i) → Together v (classesOf b)
     pairs-together q i h = elim (ℕ-discrete i (canonicalAt b i)) [
       | yes e ↦ inl e
       | no n ↦ (let r = canonicalAt b i in
           like-sym v tv r i (q r (canonical-below b g i h) i h (and-i (eqb r r) (not (eqb i r)) (eqb-refl r) (not-T (eqb i r) (λ t. n (eqb→eq i r t))))))
     ]
 
-    together-pairs : Together v (parentsOf b) → (r : ℕ) → r < 128 → (i : ℕ) → i < 128 → Pair r i
+    together-pairs : Together v (classesOf b) → (r : ℕ) → r < 128 → (i : ℕ) → i < 128 → Pair r i
     together-pairs w r hr i hi t =
         subst (λ (x : ℕ). Like v x i) (eqb→eq (canonicalAt b i) r (and-l (eqb (canonicalAt b i) r) (not (eqb i r)) t))
         (like-sym v tv i (canonicalAt b i) (w i hi))
@@ -195,7 +195,7 @@ module _ (b : ConstraintSet) (g : Good b) where
       classes-iff = steps-iff Good (Meets on v) (joinClass (b .«equivalence_classes»)) (λ (r : ℕ). (i : ℕ) → i < 128 → Pair r i) 128 class-good class-iff 128
           (omega arith) (flagIf (b .contradictory) a) (start-good a ga)
 
-      values-iff : Meets on v (mergeValues a b) ↔ (Meets on v a × (Core v b × Together v (parentsOf b)))
+      values-iff : Meets on v (mergeValues a b) ↔ (Meets on v a × (Core v b × Together v (classesOf b)))
       unfolding mergeLiterals mergeRanges mergeNonNulls
       values-iff =
           let u1 = mergeClasses (flagIf (b .contradictory) a) (b .«equivalence_classes») in

@@ -9,9 +9,9 @@ use lib.ListN.{replicate, length-replicate}
 use Rattle.scalar.specs.Kinds.{isNull}
 use Rattle.scalar.specs.Scalars.{Typed}
 use Rattle.scalar.specs.declared.ScalarValue.{ScalarValue}
-use Rattle.value_classes.proofs.RootLaws.{root-below}
+use Rattle.value_classes.proofs.ClassLaws.{canonical-small}
 use Rattle.constraint_spec.specs.Values.{equals, placeOf, okRange}
-use Rattle.constraint_spec.specs.Sets.{none, blank, noEntry, parentsOf, nonNullAt, literalAt, entryAt, canonicalAt, withNonNulls, withLiterals}
+use Rattle.constraint_spec.specs.Sets.{none, blank, noEntry, classesOf, nonNullAt, literalAt, entryAt, canonicalAt, withNonNulls, withLiterals}
 use Rattle.constraint_spec.specs.Sets.{withRanges, putNonNull, putLiteral, putRange, moveNonNull, moveLiteral, moveRange, nonNullsMoved}
 use Rattle.constraint_spec.specs.Sets.{literalsMoved, rangesMoved, normalized}
 use Rattle.constraint_spec.specs.Meets.{nullOk, literalOk, entryOk, Core, Like, Together, SoundHolder, SoundEntry, Good}
@@ -22,10 +22,10 @@ use Rattle.constraint_spec.proofs.Goods.{nulls-good, literals-good, ran
 use Rattle.constraint_spec.proofs.Likes.{like-sym, like-nullOk, like-literalOk, like-entryOk}
 use Rattle.constraint_spec.proofs.Puts.{null-good, literal-good, range-good, check-good, null-iff, literal-iff, range-iff, check-iff}
 use Rattle.constraint_spec.proofs.Steps.{steps-good, steps-iff, pick-iff, pick-has}
-use Rattle.constraint_spec.proofs.Beside.{beside-self, beside-parents, beside-nulls, beside-literals}
+use Rattle.constraint_spec.proofs.Beside.{beside-self, beside-nulls, beside-literals}
 
 pub canonical-below : (s : ConstraintSet) → Good s → (i : ℕ) → i < 128 → canonicalAt s i < 128
-canonical-below s g i h = root-below (parentsOf s) 128 i (canonicalAt s i) (g .long) refl h
+canonical-below s g i h = canonical-small (classesOf s) i (canonicalAt s i) (g .long) refl h
 
 module _ (s : ConstraintSet) (g : Good s) where
   abbrev root : ℕ → ℕ
@@ -81,7 +81,7 @@ module _ (s : ConstraintSet) (g : Good s) where
   ranges-moved-good = steps-good Good (moveRange s) 128 range-step-good 128 (omega arith) s3 g3
 
   -- ---- each asks of a row what was asked before, where members of a class have the same value
-  module _ (v : ℕ → ScalarValue) (tv : (i : ℕ) → Typed (v i)) (w : Together v (parentsOf s)) where
+  module _ (v : ℕ → ScalarValue) (tv : (i : ℕ) → Typed (v i)) (w : Together v (classesOf s)) where
     up : (i : ℕ) → i < 128 → Like v i (root i)
     up i h = w i h
 
@@ -172,13 +172,13 @@ module _ (s : ConstraintSet) (g : Good s) where
   normalized-good = check-good (rangesMoved t2) h3
 
   module _ (v : ℕ → ScalarValue) (tv : (i : ℕ) → Typed (v i)) where
-    pub normalized-core : Together v (parentsOf s) → Core v (normalized s) ↔ Core v s
+    pub normalized-core : Together v (classesOf s) → Core v (normalized s) ↔ Core v s
     unfolding normalized
     normalized-core w =
         let b1 = beside-nulls s s (beside-self s) in
         let b2 = beside-literals s t1 b1 in
-        let w1 = subst (Together v) (sym (beside-parents s t1 b1)) w in
-        let w2 = subst (Together v) (sym (beside-parents s t2 b2)) w in
+        let w1 = subst (Together v) (sym (b1 .classes)) w in
+        let w2 = subst (Together v) (sym (b2 .classes)) w in
         let a = nulls-moved-core s g v tv w in
         let b = literals-moved-core t1 h1 v tv w1 in
         let c = ranges-moved-core t2 h2 v tv w2 in

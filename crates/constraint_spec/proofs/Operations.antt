@@ -20,14 +20,16 @@ use Rattle.scalar.specs.declared.ScalarValue.{ScalarValue}
 use Rattle.scalar.specs.declared.Number.the-variants.{Of, Nothing}
 use Rattle.scalar.proofs.NumberLaws.{converts}
 use Rattle.value_range.specs.declared.ValueRange.{ValueRange}
-use Rattle.value_classes.specs.Parents.{rootOf, joined}
-use Rattle.value_classes.proofs.RootLaws.{Falls, Met, root-le, root-idempotent, joined-falls, joined-length, joined-exact}
+use Rattle.value_classes.specs.Classes.{Whole, Falling, canonicalOf, joinedClasses}
+use Rattle.value_classes.specs.declared.ValueEquivalenceClasses.{ValueEquivalenceClasses}
+use Rattle.value_classes.proofs.RootLaws.{Met}
+use Rattle.value_classes.proofs.ClassLaws.{canonical-le, canonical-idempotent, joined-falling, joined-whole, joined-met}
 use Rattle.value_classes.proofs.Unions.{union-same, union-joined}
 use Rattle.comparison.specs.Operators.{bounding}
 use Rattle.comparison.specs.declared.BinaryOp.{BinaryOp}
 use Rattle.comparison.specs.declared.BinaryOp.the-variants.{Eq, NotEq, Lt, LtEq, Gt, GtEq, IsNotDistinctFrom}
 use Rattle.constraint_spec.specs.Values.{equals, Place, placeOf, okRange}
-use Rattle.constraint_spec.specs.Sets.{parentsOf, handles, handleAt, canonicalAt, withClasses, withResiduals, withFlag, putNonNull, putLiteral}
+use Rattle.constraint_spec.specs.Sets.{classesOf, handles, handleAt, canonicalAt, withClasses, withResiduals, withFlag, putNonNull, putLiteral}
 use Rattle.constraint_spec.specs.Sets.{putRange, layRange, crossCheck, normalized, unionValues, addNonNull, addLiteral, boundsBy, addBound}
 use Rattle.constraint_spec.specs.Sets.{rangedBy, addRange, hasHandle, roomFor, pushResidual, done, refusedWith, addResidual}
 use Rattle.constraint_spec.specs.Meets.{Core, Like, Together, Meets, SoundRange, Good}
@@ -36,37 +38,41 @@ use Rattle.constraint_spec.proofs.ValueLaws.{or-elim, same-null}
 use Rattle.constraint_spec.proofs.Goods.{classes-good, residuals-good, flag-good}
 use Rattle.constraint_spec.proofs.Likes.{like-sym, like-trans, like-null, like-place, like-equals}
 use Rattle.constraint_spec.proofs.Puts.{null-good, literal-good, range-good, lay-good, check-good, null-iff, literal-iff, range-iff, lay-iff, check-iff}
-use Rattle.constraint_spec.proofs.Beside.{Beside, beside-self, beside-parents, beside-normalized, addNonNull-beside, addLiteral-beside, addBound-beside}
+use Rattle.constraint_spec.proofs.Beside.{Beside, beside-self, beside-normalized, addNonNull-beside, addLiteral-beside, addBound-beside}
 use Rattle.constraint_spec.proofs.Normal.{canonical-below, normalized-good, normalized-core}
 
 -- ---- the classes
 module _ (v : ℕ → ScalarValue) (tv : (i : ℕ) → Typed (v i)) where
   -- two of one class have the same value
-  pub together-pair : (p : List ℕ) → Together v p → (a b : ℕ) → a < 128 → b < 128 → rootOf p a ≡ rootOf p b → Like v a b
-  together-pair p w a b ha hb e = like-trans v tv a (rootOf p a) b (w a ha) (subst (λ (r : ℕ). Like v r b) (sym e) (like-sym v tv b (rootOf p b) (w b hb)))
+  pub together-pair : (k : ValueEquivalenceClasses) → Together v k → (a b : ℕ) → a < 128 → b < 128 → canonicalOf k a ≡ canonicalOf k b → Like v a b
+  together-pair k w a b ha hb e =
+      like-trans v tv a (canonicalOf k a) b (w a ha) (subst (λ (r : ℕ). Like v r b) (sym e) (like-sym v tv b (canonicalOf k b) (w b hb)))
 
-  module _ (p : List ℕ) (f : Falls p) (long : length p ≡ 128) (i j : ℕ) (hi : i < 128) (hj : j < 128) where
-    met : (a b : ℕ) → (rootOf (joined p i j) a ≡ rootOf (joined p i j) b) ↔ Met (rootOf p i) (rootOf p j) (rootOf p a) (rootOf p b)
-    met a b = joined-exact p f i j (omega arith) (omega arith) a b
+  module _ (k : ValueEquivalenceClasses) (f : Falling k) (long : Whole k) (i j : ℕ) (hi : i < 128) (hj : j < 128) where
+    abbrev new : ValueEquivalenceClasses
+    new = joinedClasses k i j
 
-    new-falls : Falls (joined p i j)
-    new-falls = joined-falls p f i j (omega arith) (omega arith)
+    met : (a b : ℕ) → (canonicalOf new a ≡ canonicalOf new b) ↔ Met (canonicalOf k i) (canonicalOf k j) (canonicalOf k a) (canonicalOf k b)
+    met a b = joined-met k long f i j hi hj a b
 
-    pub joined-together : Together v (joined p i j) ↔ (Together v p × Like v i j)
+    new-falls : Falling new
+    new-falls = joined-falling k long f i j hi hj
+
+    pub joined-together : Together v new ↔ (Together v k × Like v i j)
     joined-together = (
       λ w. (
-        λ a h. together-pair (joined p i j) w a (rootOf p a) h (omega (arith, root-le p f a)) (met a (rootOf p a) .1 (inl (sym (root-idempotent p f a)))),
-        together-pair (joined p i j) w i j hi hj (met i j .1 (inr (inl (refl, refl)))),
+        λ a h. together-pair new w a (canonicalOf k a) h (omega (arith, canonical-le k f a)) (met a (canonicalOf k a) .1 (inl (sym (canonical-idempotent k f a)))),
+        together-pair new w i j hi hj (met i j .1 (inr (inl (refl, refl)))),
       ),
       λ w a h.
-          let b = rootOf (joined p i j) a in
-          let hb : b < 128 = omega (arith, root-le (joined p i j) new-falls a) in
-          ⊎-elim (λ e. together-pair p (w .0) a b h hb e)
+          let b = canonicalOf new a in
+          let hb : b < 128 = omega (arith, canonical-le new new-falls a) in
+          ⊎-elim (λ e. together-pair k (w .0) a b h hb e)
           (⊎-elim
-          (λ e. like-trans v tv a i b (together-pair p (w .0) a i h hi (e .0)) (like-trans v tv i j b (w .1) (together-pair p (w .0) j b hj hb (sym (e .1)))))
-          (λ e. like-trans v tv a j b (together-pair p (w .0) a j h hj (e .0))
-          (like-trans v tv j i b (like-sym v tv i j (w .1)) (together-pair p (w .0) i b hi hb (sym (e .1))))))
-          (met a b .0 (sym (root-idempotent (joined p i j) new-falls a))),
+          (λ e. like-trans v tv a i b (together-pair k (w .0) a i h hi (e .0)) (like-trans v tv i j b (w .1) (together-pair k (w .0) j b hj hb (sym (e .1)))))
+          (λ e. like-trans v tv a j b (together-pair k (w .0) a j h hj (e .0))
+          (like-trans v tv j i b (like-sym v tv i j (w .1)) (together-pair k (w .0) i b hi hb (sym (e .1))))))
+          (met a b .0 (sym (canonical-idempotent new new-falls a))),
     )
 
 -- ---- meeting a set beside which only what is recorded of identities has changed
@@ -74,20 +80,20 @@ module _ (on : ℕ → Type 0) (v : ℕ → ScalarValue) (s t : ConstraintSet) (
   pub with-core : Meets on v s → Core v t → Meets on v t
   with-core m c = record {
     core = c;
-    together = subst (Together v) (sym (beside-parents s t b)) (m .together);
+    together = subst (Together v) (sym (b .classes)) (m .together);
     residual = λ k h. subst (λ (l : List ℕ). on (getD l k 0)) (sym (b .handles)) (m .residual k (subst (λ (n : ℕ). k < n) (b .count) h));
   }
 
   pub from-core : Meets on v t → Core v s → Meets on v s
   from-core m c = record {
     core = c;
-    together = subst (Together v) (beside-parents s t b) (m .together);
+    together = subst (Together v) (b .classes) (m .together);
     residual = λ k h. subst (λ (l : List ℕ). on (getD l k 0)) (b .handles) (m .residual k (subst (λ (n : ℕ). k < n) (sym (b .count)) h));
   }
 
-  pub meets-by : (Q : Type 0) → (Together v (parentsOf s) → Core v t ↔ (Core v s × Q)) → Meets on v t ↔ (Meets on v s × Q)
+  pub meets-by : (Q : Type 0) → (Together v (classesOf s) → Core v t ↔ (Core v s × Q)) → Meets on v t ↔ (Meets on v s × Q)
   meets-by Q f = (
-    λ m. let k = f (subst (Together v) (beside-parents s t b) (m .together)) .0 (m .core) in (from-core m (k .0), k .1),
+    λ m. let k = f (subst (Together v) (b .classes) (m .together)) .0 (m .core) in (from-core m (k .0), k .1),
     λ m. with-core (m .0) (f (m .0 .together) .1 (m .0 .core, m .1)),
   )
 
@@ -96,14 +102,14 @@ pub normalize-meets : (on : ℕ → Type 0) (v : ℕ → ScalarValue) → ((i : 
     v s
 normalize-meets on v tv s g =
     let b = beside-normalized s s (beside-self s) in (
-      λ m. from-core on v s (normalized s) b m (normalized-core s g v tv (subst (Together v) (beside-parents s (normalized s) b) (m .together)) .0 (m .core)),
+      λ m. from-core on v s (normalized s) b m (normalized-core s g v tv (subst (Together v) (b .classes) (m .together)) .0 (m .core)),
       λ m. with-core on v s (normalized s) b m (normalized-core s g v tv (m .together) .1 (m .core)),
     )
 
 -- ---- two identities joined
 module _ (s : ConstraintSet) (i j : ℕ) (hi : i < 128) (hj : j < 128) where
   abbrev after : ConstraintSet
-  after = withClasses s (record { parents = joined (parentsOf s) i j })
+  after = withClasses s (joinedClasses (classesOf s) i j)
 
   -- of one class: nothing changes
   pub union-one : canonicalAt s i ≡ canonicalAt s j → unionValues s i j ≡ s
@@ -118,8 +124,8 @@ module _ (s : ConstraintSet) (i j : ℕ) (hi : i < 128) (hj : j < 128) where
   module _ (g : Good s) where
     after-good : Good after
     after-good =
-        classes-good s g (record { parents = joined (parentsOf s) i j }) (joined-length (parentsOf s) i j ∙ g .long)
-        (joined-falls (parentsOf s) (g .fall) i j (omega (arith, g .long)) (omega (arith, g .long)))
+        classes-good s g (joinedClasses (classesOf s) i j) (joined-whole (classesOf s) i j (g .long))
+        (joined-falling (classesOf s) (g .long) (g .fall) i j hi hj)
 
     -- a union keeps a set good. Assumes a good set
     pub union-good : Good (unionValues s i j)
@@ -132,7 +138,7 @@ module _ (s : ConstraintSet) (i j : ℕ) (hi : i < 128) (hj : j < 128) where
       after-iff : Meets on v (normalized after) ↔ (Meets on v s × Like v i j)
       after-iff =
           let n = normalize-meets on v tv after after-good in
-          let w = joined-together v tv (parentsOf s) (g .fall) (g .long) i j hi hj in (
+          let w = joined-together v tv (classesOf s) (g .fall) (g .long) i j hi hj in (
             λ m.
                 let k = n .0 m in
                 let c = k .core in
@@ -158,7 +164,7 @@ module _ (s : ConstraintSet) (i j : ℕ) (hi : i < 128) (hj : j < 128) where
       pub union-iff : Meets on v (unionValues s i j) ↔ (Meets on v s × Like v i j)
       union-iff = elim (ℕ-discrete (canonicalAt s i) (canonicalAt s j)) [
         | yes e ↦ subst (λ (t : ConstraintSet). Meets on v t ↔ (Meets on v s × Like v i j)) (sym (union-one e))
-            (λ m. (m, together-pair v tv (parentsOf s) (m .together) i j hi hj e), λ m. m .0)
+            (λ m. (m, together-pair v tv (classesOf s) (m .together) i j hi hj e), λ m. m .0)
         | no d ↦ subst (λ (t : ConstraintSet). Meets on v t ↔ (Meets on v s × Like v i j)) (sym (union-two d)) after-iff
       ]
 
@@ -218,14 +224,14 @@ module _ (s : ConstraintSet) (g : Good s) (i : ℕ) (hi : i < 128) where
         go false = lay-good s1 g1 r hr (boundsBy op x) (sound-bounds op x fx hx)
 
   module _ (on : ℕ → Type 0) (v : ℕ → ScalarValue) (tv : (i : ℕ) → Typed (v i)) where
-    not-null : Together v (parentsOf s) → T (not (isNull (v i))) ↔ T (not (isNull (v r)))
+    not-null : Together v (classesOf s) → T (not (isNull (v i))) ↔ T (not (isNull (v r)))
     not-null w = let e = like-null v tv i r (w i hi) in (subst (λ (b : Bool). T (not b)) e, subst (λ (b : Bool). T (not b)) (sym e))
 
     -- a row meets the set with i recorded non-null exactly if it met the set and i is not NULL. Assumes a good set
     pub nonnull-iff : Meets on v (addNonNull s i) ↔ (Meets on v s × T (not (isNull (v i))))
     nonnull-iff = meets-by on v s (addNonNull s i) (addNonNull-beside s i) (T (not (isNull (v i)))) core
       where
-        core : Together v (parentsOf s) → Core v (addNonNull s i) ↔ (Core v s × T (not (isNull (v i))))
+        core : Together v (classesOf s) → Core v (addNonNull s i) ↔ (Core v s × T (not (isNull (v i))))
         core w =
             let n = null-iff v tv s g r hr in
             subst (λ (t : ConstraintSet). Core v t ↔ (Core v s × T (not (isNull (v i))))) (sym nonnull-in)
@@ -240,7 +246,7 @@ module _ (s : ConstraintSet) (g : Good s) (i : ℕ) (hi : i < 128) where
             T-not (isNull (v i)) (and-l (not (isNull (v i))) (sameScalar (v i) l) e)
             (subst T (sym (same-null (v i) l (and-r (not (isNull (v i))) (sameScalar (v i) l) e))) n)
 
-        go : (b : Bool) → (T b → T (isNull l)) → Together v (parentsOf s) → Core v (cond b (withFlag s true) (crossCheck (putLiteral s1 r l))) ↔
+        go : (b : Bool) → (T b → T (isNull l)) → Together v (classesOf s) → Core v (cond b (withFlag s true) (crossCheck (putLiteral s1 r l))) ↔
             (Core v s × T (equals (v i) l))
         go true n w = (λ m. absurd (m .clear), λ m. absurd (no-null (n tt) (m .1)))
         go false n w =
@@ -255,7 +261,7 @@ module _ (s : ConstraintSet) (g : Good s) (i : ℕ) (hi : i < 128) where
                   c .1 (a .1 (b .1 (m .0, and-l (not (isNull (v r))) (sameScalar (v r) l) e), e)),
             )
 
-        core : Together v (parentsOf s) → Core v (addLiteral s i l) ↔ (Core v s × T (equals (v i) l))
+        core : Together v (classesOf s) → Core v (addLiteral s i l) ↔ (Core v s × T (equals (v i) l))
         core w = subst (λ (t : ConstraintSet). Core v t ↔ (Core v s × T (equals (v i) l))) (sym (literal-in l)) (go (isNull l) (λ t. t) w)
 
     -- what a bound asks: not NULL, and within the bounds of the comparison
@@ -279,7 +285,7 @@ module _ (s : ConstraintSet) (g : Good s) (i : ℕ) (hi : i < 128) where
             (λ m. a .0 (c .0 m), λ m. c .1 (a .1 m))
         go false = lay-iff v tv s1 g1 r hr n sn
 
-        core : Together v (parentsOf s) → Core v (addBound s i op x) ↔ (Core v s × Bounded op x)
+        core : Together v (classesOf s) → Core v (addBound s i op x) ↔ (Core v s × Bounded op x)
         core w =
             let a = go (bounding op) in
             let b = null-iff v tv s g r hr in

@@ -1,7 +1,6 @@
 -- A good set keeps the rules, and a set that keeps them is good where its arrays hold what their types say and its bounds are numbers. Assumes nothing.
-use mathlib.Core.Path.{_≡_, sym, _∙_, subst}
+use mathlib.Core.Path.{_≡_, sym, subst}
 use mathlib.Core.Bool.{true, not, cond, _&&_}
-use mathlib.Core.List.{List}
 use Prim.Native.Nat.{ℕ, _+_, _≤_, _<_, min}
 use native.Mathlib.Decide.{ℕ-discrete}
 use native.Mathlib.Omega.{arith}
@@ -9,33 +8,33 @@ use borrow.Author.Tests.{le-leb, leb-true}
 use lib.Dec.{leb, ltb, eqb, ltb→lt}
 use lib.ListN.{length, set}
 use Rattle.lists.proofs.RangeLaws.{and-left, and-right, and-both}
-use Rattle.value_classes.specs.Parents.{parentsOk, joined}
-use Rattle.value_classes.proofs.RootLaws.{Falls, falls, falls-ok, joined-length, joined-falls}
-use Rattle.constraint_spec.specs.Sets.{parentsOf, nonNulls, literals, handles, nonNullAt, literalAt, entryAt, handleAt, canonicalAt}
+use Rattle.value_classes.specs.Classes.{Whole, Falling, classesOk, joinedClasses}
+use Rattle.value_classes.proofs.ClassLaws.{falling, falling-ok, joined-whole, joined-falling}
+use Rattle.constraint_spec.specs.Sets.{classesOf, nonNulls, literals, handles, nonNullAt, literalAt, entryAt, handleAt, canonicalAt}
 use Rattle.constraint_spec.specs.Sets.{withClasses, withResiduals, flagIf, setOk, putNonNull, layRange, normalized, unionValues, addLiteral}
 use Rattle.constraint_spec.specs.Sets.{hasHandle, pushResidual, joinMember, joinClass, mergeLiteral, mergeRange, mergeNonNull, mergeResidual}
 use Rattle.constraint_spec.specs.Sets.{mergeClasses, mergeLiterals, mergeRanges, mergeNonNulls, mergeResiduals, mergedSet}
 use Rattle.constraint_spec.specs.Meets.{SoundHolder, SoundEntry, Good}
 use Rattle.constraint_spec.specs.declared.ConstraintSet.{ConstraintSet}
 use Rattle.constraint_spec.proofs.Steps.{steps-good, pick-has}
-use Rattle.constraint_spec.proofs.Beside.{Beside, beside-self, beside-parents, beside-null, beside-lay, beside-normalized, addLiteral-beside}
+use Rattle.constraint_spec.proofs.Beside.{Beside, beside-self, beside-null, beside-lay, beside-normalized, addLiteral-beside}
 use Rattle.constraint_spec.proofs.Operations.{union-one, union-two}
 
 pub good-ok : (s : ConstraintSet) → Good s → setOk s ≡ true
 unfolding setOk
-good-ok s g = and-both (parentsOk (parentsOf s)) (leb (s .residuals) 64) (falls-ok (parentsOf s) (g .fall)) (le-leb _ _ (g .few))
+good-ok s g = and-both (classesOk (classesOf s)) (leb (s .residuals) 64) (falling-ok (classesOf s) (g .fall)) (le-leb _ _ (g .few))
 
-pub ok-falls : (s : ConstraintSet) → setOk s ≡ true → Falls (parentsOf s)
+pub ok-falls : (s : ConstraintSet) → setOk s ≡ true → Falling (classesOf s)
 unfolding setOk
-ok-falls s e = falls (parentsOf s) (and-left (parentsOk (parentsOf s)) (leb (s .residuals) 64) e)
+ok-falls s e = falling (classesOf s) (and-left (classesOk (classesOf s)) (leb (s .residuals) 64) e)
 
 pub ok-few : (s : ConstraintSet) → setOk s ≡ true → s .residuals ≤ 64
 unfolding setOk
-ok-few s e = leb-true _ _ (and-right (parentsOk (parentsOf s)) (leb (s .residuals) 64) e)
+ok-few s e = leb-true _ _ (and-right (classesOk (classesOf s)) (leb (s .residuals) 64) e)
 
 -- what the types of the arrays say
 pub record Shaped (s : ConstraintSet) : Type 0 where
-  pub long : length (parentsOf s) ≡ 128
+  pub long : Whole (classesOf s)
   pub nullsLong : length (nonNulls s) ≡ 128
   pub literalsLong : length (literals s) ≡ 128
   pub rangesLong : length (s .ranges) ≡ 128
@@ -57,19 +56,19 @@ ok-good s e h n = record {
 
 -- ---- what keeps the rules stays so, good or not
 abbrev pub Ruled : ConstraintSet → Type 0
-Ruled s = (length (parentsOf s) ≡ 128) × Falls (parentsOf s) × (s .residuals ≤ 64)
+Ruled s = Whole (classesOf s) × Falling (classesOf s) × (s .residuals ≤ 64)
 
-pub ruled : (s : ConstraintSet) → length (parentsOf s) ≡ 128 → setOk s ≡ true → Ruled s
+pub ruled : (s : ConstraintSet) → Whole (classesOf s) → setOk s ≡ true → Ruled s
 ruled s l e = (l, ok-falls s e, ok-few s e)
 
 pub ruled-ok : (s : ConstraintSet) → Ruled s → setOk s ≡ true
 unfolding setOk
-ruled-ok s r = and-both (parentsOk (parentsOf s)) (leb (s .residuals) 64) (falls-ok (parentsOf s) (r .1)) (le-leb _ _ (r .2))
+ruled-ok s r = and-both (classesOk (classesOf s)) (leb (s .residuals) 64) (falling-ok (classesOf s) (r .1)) (le-leb _ _ (r .2))
 
 pub ruled-beside : (s t : ConstraintSet) → Beside s t → Ruled s → Ruled t
 ruled-beside s t b r = (
-  subst (λ (p : List ℕ). length p ≡ 128) (sym (beside-parents s t b)) (r .0),
-  subst Falls (sym (beside-parents s t b)) (r .1),
+  subst Whole (sym (b .classes)) (r .0),
+  subst Falling (sym (b .classes)) (r .1),
   subst (λ (n : ℕ). n ≤ 64) (sym (b .count)) (r .2),
 )
 
@@ -81,8 +80,8 @@ pub ruled-union : (s : ConstraintSet) (i j : ℕ) → i < 128 → j < 128 → Ru
 ruled-union s i j hi hj r = elim (ℕ-discrete (canonicalAt s i) (canonicalAt s j)) [
   | yes e ↦ subst Ruled (sym (union-one s i j hi hj e)) r
   | no d ↦ subst Ruled (sym (union-two s i j hi hj d))
-      (ruled-normalized (withClasses s (record { parents = joined (parentsOf s) i j }))
-      (joined-length (parentsOf s) i j ∙ r .0, joined-falls (parentsOf s) (r .1) i j (omega (arith, r .0)) (omega (arith, r .0)), r .2))
+      (ruled-normalized (withClasses s (joinedClasses (classesOf s) i j))
+      (joined-whole (classesOf s) i j (r .0), joined-falling (classesOf s) (r .0) (r .1) i j hi hj, r .2))
 ]
 
 pub ruled-residual : (s : ConstraintSet) (h : ℕ) → Ruled s → Ruled (pushResidual s h)

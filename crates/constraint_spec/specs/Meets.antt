@@ -11,10 +11,10 @@ use Rattle.scalar.specs.Scalars.{Typed}
 use Rattle.scalar.specs.declared.ScalarValue.{ScalarValue}
 use Rattle.value_range.specs.Ranges.{Sound}
 use Rattle.value_range.specs.declared.ValueRange.{ValueRange}
-use Rattle.value_classes.specs.Parents.{rootOf}
-use Rattle.value_classes.proofs.RootLaws.{Falls}
+use Rattle.value_classes.specs.Classes.{Whole, Falling, canonicalOf}
+use Rattle.value_classes.specs.declared.ValueEquivalenceClasses.{ValueEquivalenceClasses}
 use Rattle.constraint_spec.specs.Values.{same, equals, placeOf, okRange}
-use Rattle.constraint_spec.specs.Sets.{none, blank, parentsOf, nonNulls, literals, handles, literalAt, entryAt, handleAt}
+use Rattle.constraint_spec.specs.Sets.{none, blank, classesOf, nonNulls, literals, handles, literalAt, entryAt, handleAt}
 use Rattle.constraint_spec.specs.declared.Holder.{Holder}
 use Rattle.constraint_spec.specs.declared.Entry.{Entry}
 use Rattle.constraint_spec.specs.declared.ConstraintSet.{ConstraintSet}
@@ -44,13 +44,13 @@ pub record Core (v : ℕ → ScalarValue) (s : ConstraintSet) : Type 0 where
 abbrev pub Like : (ℕ → ScalarValue) → ℕ → ℕ → Type 0
 Like v i j = (i ≡ j) ⊎ T (same (v i) (v j))
 
-abbrev pub Together : (ℕ → ScalarValue) → List ℕ → Type 0
-Together v p = (i : ℕ) → i < 128 → Like v i (rootOf p i)
+abbrev pub Together : (ℕ → ScalarValue) → ValueEquivalenceClasses → Type 0
+Together v k = (i : ℕ) → i < 128 → Like v i (canonicalOf k i)
 
 -- a row whose identities have the values v, and of which the predicates `on` are TRUE, meets a set
 pub record Meets (on : ℕ → Type 0) (v : ℕ → ScalarValue) (s : ConstraintSet) : Type 0 where
   pub core : Core v s
-  pub together : Together v (parentsOf s)
+  pub together : Together v (classesOf s)
   pub residual : (k : ℕ) → k < s .residuals → on (handleAt s k)
 
 -- ---- sets that the operations make, from the empty one on: bounds are numbers, parents fall, and there is room
@@ -64,8 +64,8 @@ abbrev pub SoundHolder : Holder → Type 0
 SoundHolder h = T (h .present) → Typed (h .value)
 
 pub record Good (s : ConstraintSet) : Type 0 where
-  pub long : length (parentsOf s) ≡ 128
-  pub fall : Falls (parentsOf s)
+  pub long : Whole (classesOf s)
+  pub fall : Falling (classesOf s)
   pub nullsLong : length (nonNulls s) ≡ 128
   pub literalsLong : length (literals s) ≡ 128
   pub rangesLong : length (s .ranges) ≡ 128

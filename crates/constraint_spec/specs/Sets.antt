@@ -17,8 +17,7 @@ use Rattle.scalar.specs.declared.Number.the-variants.{Of, Nothing}
 use Rattle.value_range.specs.Ranges.{noBound, boundAt, unboundedRange, tightenLower, tightenUpper, emptyRange}
 use Rattle.value_range.specs.declared.Bound.{Bound}
 use Rattle.value_range.specs.declared.ValueRange.{ValueRange}
-use Rattle.value_classes.specs.Parents.{parentsOk}
-use Rattle.value_classes.specs.Classes.{emptyClasses, canonicalOf, unionOf}
+use Rattle.value_classes.specs.Classes.{classesOk, emptyClasses, canonicalOf, unionOf}
 use Rattle.value_classes.specs.declared.ValueEquivalenceClasses.{ValueEquivalenceClasses}
 use Rattle.value_classes.specs.declared.United.{United}
 use Rattle.comparison.specs.Operators.{bounding}
@@ -55,8 +54,8 @@ blank = record {
 }
 
 -- ---- a set's fields
-abbrev pub parentsOf : ConstraintSet → List ℕ
-parentsOf s = s .«equivalence_classes» .parents
+abbrev pub classesOf : ConstraintSet → ValueEquivalenceClasses
+classesOf s = s .«equivalence_classes»
 
 abbrev pub nonNulls : ConstraintSet → List Bool
 nonNulls s = s .«non_null_values»
@@ -80,54 +79,23 @@ entryAt s i = getD (s .ranges) i blank
 abbrev pub handleAt : ConstraintSet → ℕ → ℕ
 handleAt s k = getD (handles s) k 0
 
--- the set with one field anew
-abbrev pub withClasses : ConstraintSet → ValueEquivalenceClasses → ConstraintSet
-withClasses s k = record {
+-- ---- sets are made here alone: a field that a set gets is written in these two and in `emptySet`, and nowhere else
+-- the set with other values and the same residuals: its classes, what is not NULL, its literals, its ranges, the flag
+abbrev pub withValues : ConstraintSet → ValueEquivalenceClasses → List Bool → List Holder → List Entry → Bool → ConstraintSet
+withValues s k n l e c = record {
   «equivalence_classes» = k;
-  «non_null_values» = nonNulls s;
-  «literal_equalities» = literals s;
-  ranges = s .ranges;
-  «residual_predicates» = handles s;
-  residuals = s .residuals;
-  contradictory = s .contradictory;
-}
-
-abbrev pub withNonNulls : ConstraintSet → List Bool → ConstraintSet
-withNonNulls s l = record {
-  «equivalence_classes» = s .«equivalence_classes»;
-  «non_null_values» = l;
-  «literal_equalities» = literals s;
-  ranges = s .ranges;
-  «residual_predicates» = handles s;
-  residuals = s .residuals;
-  contradictory = s .contradictory;
-}
-
-abbrev pub withLiterals : ConstraintSet → List Holder → ConstraintSet
-withLiterals s l = record {
-  «equivalence_classes» = s .«equivalence_classes»;
-  «non_null_values» = nonNulls s;
+  «non_null_values» = n;
   «literal_equalities» = l;
-  ranges = s .ranges;
+  ranges = e;
   «residual_predicates» = handles s;
   residuals = s .residuals;
-  contradictory = s .contradictory;
+  contradictory = c;
 }
 
-abbrev pub withRanges : ConstraintSet → List Entry → ConstraintSet
-withRanges s l = record {
-  «equivalence_classes» = s .«equivalence_classes»;
-  «non_null_values» = nonNulls s;
-  «literal_equalities» = literals s;
-  ranges = l;
-  «residual_predicates» = handles s;
-  residuals = s .residuals;
-  contradictory = s .contradictory;
-}
-
+-- the set with other residuals
 abbrev pub withResiduals : ConstraintSet → List ℕ → ℕ → ConstraintSet
 withResiduals s l n = record {
-  «equivalence_classes» = s .«equivalence_classes»;
+  «equivalence_classes» = classesOf s;
   «non_null_values» = nonNulls s;
   «literal_equalities» = literals s;
   ranges = s .ranges;
@@ -136,16 +104,21 @@ withResiduals s l n = record {
   contradictory = s .contradictory;
 }
 
+-- the set with one field anew
+abbrev pub withClasses : ConstraintSet → ValueEquivalenceClasses → ConstraintSet
+withClasses s k = withValues s k (nonNulls s) (literals s) (s .ranges) (s .contradictory)
+
+abbrev pub withNonNulls : ConstraintSet → List Bool → ConstraintSet
+withNonNulls s l = withValues s (classesOf s) l (literals s) (s .ranges) (s .contradictory)
+
+abbrev pub withLiterals : ConstraintSet → List Holder → ConstraintSet
+withLiterals s l = withValues s (classesOf s) (nonNulls s) l (s .ranges) (s .contradictory)
+
+abbrev pub withRanges : ConstraintSet → List Entry → ConstraintSet
+withRanges s l = withValues s (classesOf s) (nonNulls s) (literals s) l (s .contradictory)
+
 abbrev pub withFlag : ConstraintSet → Bool → ConstraintSet
-withFlag s c = record {
-  «equivalence_classes» = s .«equivalence_classes»;
-  «non_null_values» = nonNulls s;
-  «literal_equalities» = literals s;
-  ranges = s .ranges;
-  «residual_predicates» = handles s;
-  residuals = s .residuals;
-  contradictory = c;
-}
+withFlag s c = withValues s (classesOf s) (nonNulls s) (literals s) (s .ranges) c
 
 -- the flag is set where bad is true
 abbrev pub flagIf : Bool → ConstraintSet → ConstraintSet
@@ -153,7 +126,7 @@ flagIf bad s = withFlag s (s .contradictory || bad)
 
 -- ---- the rules of a set that comes from outside: no parent is above its child, and no more residuals than there is room for
 unfoldable pub setOk : ConstraintSet → Bool
-setOk s = parentsOk (parentsOf s) && leb (s .residuals) 64
+setOk s = classesOk (classesOf s) && leb (s .residuals) 64
 
 -- ---- nothing is recorded: `ConstraintSet::default()`
 unfoldable pub emptySet : ConstraintSet
@@ -170,7 +143,7 @@ emptySet =
 
 -- ---- `canonical`
 abbrev pub canonicalAt : ConstraintSet → ℕ → ℕ
-canonicalAt s i = canonicalOf (s .«equivalence_classes») i
+canonicalAt s i = canonicalOf (classesOf s) i
 
 -- ---- one thing put at the representative r
 -- `non_null_values.insert(r)`
@@ -259,7 +232,7 @@ abbrev pub unionBy : ConstraintSet → United → ConstraintSet
 unionBy s u = cond (u .joined) (normalized (withClasses s (u .classes))) s
 
 unfoldable pub unionValues : ConstraintSet → ℕ → ℕ → ConstraintSet
-unionValues s i j = unionBy s (unionOf (s .«equivalence_classes») i j)
+unionValues s i j = unionBy s (unionOf (classesOf s) i j)
 
 -- ---- what is recorded of one identity; of a number past the identities nothing is
 -- `non_null_values.insert(canonical(i))`
@@ -312,11 +285,14 @@ unfoldable pub pushResidual : ConstraintSet → ℕ → ConstraintSet
 pushResidual s h =
     cond (hasHandle s h) s (cond (ltb (s .residuals) 64) (withResiduals s (set (handles s) (s .residuals) h) (s .residuals + 1)) s)
 
+abbrev pub appliedOf : ConstraintSet → Bool → Applied
+appliedOf s r = record { constraints = s; refused = r }
+
 abbrev pub done : ConstraintSet → Applied
-done s = record { constraints = s; refused = false }
+done s = appliedOf s false
 
 abbrev pub refusedWith : ConstraintSet → Applied
-refusedWith s = record { constraints = s; refused = true }
+refusedWith s = appliedOf s true
 
 -- refused where a 65th handle would be recorded
 unfoldable pub addResidual : ConstraintSet → ℕ → Applied
@@ -360,7 +336,7 @@ mergeResiduals t l n = stepsTo (mergeResidual l) (min n 64) t
 
 abbrev pub mergeValues : ConstraintSet → ConstraintSet → ConstraintSet
 mergeValues a b =
-    mergeNonNulls (mergeRanges (mergeLiterals (mergeClasses (flagIf (b .contradictory) a) (b .«equivalence_classes»)) (literals b)) (b .ranges)) (nonNulls b)
+    mergeNonNulls (mergeRanges (mergeLiterals (mergeClasses (flagIf (b .contradictory) a) (classesOf b)) (literals b)) (b .ranges)) (nonNulls b)
 
 unfoldable pub mergedSet : ConstraintSet → ConstraintSet → ConstraintSet
 mergedSet a b = normalized (mergeResiduals (mergeValues a b) (handles b) (b .residuals))

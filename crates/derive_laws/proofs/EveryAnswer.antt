@@ -27,7 +27,7 @@ use Rattle.plan_data.specs.declared.OperatorData.the-variants.{Limit, Output, C
 use Rattle.plan_identities.specs.Identities.{identitiesOf}
 use Rattle.plan_identities.specs.declared.Identities.{Identities}
 use Rattle.apply_spec.specs.Facts.{emptyFacts, withConstraints, factsOk}
-use Rattle.apply_spec.specs.Entries.{answered, predicateApplied, applyPredicate, overridden, inputsMerged, mergeInputs}
+use Rattle.apply_spec.specs.Entries.{answered, predicateApplied, applyPredicate, overlaid, inputsMerged, mergeInputs}
 use Rattle.apply_spec.specs.declared.LogicalFacts.{LogicalFacts}
 use Rattle.apply_spec.specs.declared.FactsAnswer.{FactsAnswer}
 use Rattle.apply_spec.specs.declared.Outcome.{Outcome}
@@ -86,8 +86,7 @@ module _ (P : ConstraintSet → Type 0) (nothing : P emptySet)
   pub merged-has : (f g : LogicalFacts) (both : Bool) → InFacts f → InFacts g → InFacts (inputsMerged f g both .facts)
   unfolding inputsMerged
   merged-has f g both rf rg =
-      answered-has f
-      (record { lineage = overridden (f .lineage) (g .lineage); definitions = overridden (f .definitions) (g .definitions); constraints = f .constraints })
+      answered-has f (overlaid f g (f .constraints))
       (cond both (mergeFrom (f .constraints) (g .constraints)) (done (f .constraints))) rf
       (λ z. pick-has (λ (a : Applied). P (a .constraints)) both (mergeFrom (f .constraints) (g .constraints)) (done (f .constraints))
       (λ t. merge (f .constraints) (g .constraints) rf rg) rf)

@@ -14,9 +14,9 @@ use Rattle.scalar.specs.Kinds.{isNull}
 use Rattle.scalar.specs.declared.ScalarValue.{ScalarValue}
 use Rattle.value_range.specs.Ranges.{unboundedRange}
 use Rattle.value_range.specs.declared.ValueRange.{ValueRange}
-use Rattle.value_classes.specs.Parents.{joined}
-use Rattle.value_classes.proofs.RootLaws.{Falls, falls, falls-ok, joined-length, joined-falls}
-use Rattle.constraint_spec.specs.Sets.{none, noEntry, blank, entryOf, parentsOf, nonNulls, literals, handles, nonNullAt, literalAt, entryAt}
+use Rattle.value_classes.specs.Classes.{Whole, Falling, joinedClasses}
+use Rattle.value_classes.proofs.ClassLaws.{falling, falling-ok, joined-whole, joined-falling}
+use Rattle.constraint_spec.specs.Sets.{none, noEntry, blank, entryOf, classesOf, nonNulls, literals, handles, nonNullAt, literalAt, entryAt}
 use Rattle.constraint_spec.specs.Sets.{handleAt, canonicalAt, withClasses, withNonNulls, withLiterals, withRanges, withResiduals, withFlag, flagIf}
 use Rattle.constraint_spec.specs.Sets.{emptySet, putNonNull, putLiteral, rangeIn, tightenBy, layRange, putRange, crossed, crossedAt, crossCheck}
 use Rattle.constraint_spec.specs.Sets.{moveNonNull, moveLiteral, moveRange, nonNullsMoved, literalsMoved, rangesMoved, normalized, unionValues}
@@ -42,7 +42,7 @@ unfolding emptySet nullOn literalOn rangeOn rangeBad
 empty-ready = record {
   settled = record {
     many = empty-good .long;
-    ok = falls-ok (parentsOf emptySet) (empty-good .fall);
+    ok = falling-ok (classesOf emptySet) (empty-good .fall);
     nulls = record {
       long = length-replicate 128 false;
       away = λ i h d. at-replicate (λ (b : Bool). b ≡ false) false false refl i h;
@@ -83,8 +83,8 @@ at-replicated P (suc n) x d p q (suc i) = at-replicated P n x d p q i
 
 -- ---- what `normalize` needs so that it leaves a ready set
 pub record Sorted (s : ConstraintSet) : Type 0 where
-  pub many : length (parentsOf s) ≡ 128
-  pub fall : Falls (parentsOf s)
+  pub many : Whole (classesOf s)
+  pub fall : Falling (classesOf s)
   pub room : length (handles s) ≡ 64
   pub bounds : (i : ℕ) → Bounded (entryAt s i)
 
@@ -95,7 +95,7 @@ none-bounded : Bounded noEntry
 none-bounded z = absurd (false≢true z)
 
 pub ready-sorted : (s : ConstraintSet) → Ready s → Sorted s
-ready-sorted s r = record { many = r .settled .many; fall = falls (parentsOf s) (r .settled .ok); room = r .room; bounds = λ i. go i (below-or-not i 128) }
+ready-sorted s r = record { many = r .settled .many; fall = falling (classesOf s) (r .settled .ok); room = r .room; bounds = λ i. go i (below-or-not i 128) }
   where
     go : (i : ℕ) → (i < 128) ⊎ (128 ≤ i) → Bounded (entryAt s i)
     go i (inl l) = r .bounds i l
@@ -188,16 +188,16 @@ sorted-normalized s g =
 pub normalized-ready : (s : ConstraintSet) → Sorted s → Ready (normalized s)
 normalized-ready s g =
     let n = sorted-normalized s g in
-    record { settled = normalized-settled s (g .many) (falls-ok (parentsOf s) (g .fall)); bounds = λ i h. n .bounds i; room = n .room }
+    record { settled = normalized-settled s (g .many) (falling-ok (classesOf s) (g .fall)); bounds = λ i h. n .bounds i; room = n .room }
 
 -- ---- the loops of a merge
 sorted-union : (s : ConstraintSet) (i j : ℕ) → i < 128 → j < 128 → Sorted s → Sorted (unionValues s i j)
 sorted-union s i j hi hj g = elim (ℕ-discrete (canonicalAt s i) (canonicalAt s j)) [
   | yes e ↦ subst Sorted (sym (union-one s i j hi hj e)) g
   | no d ↦ subst Sorted (sym (union-two s i j hi hj d))
-      (sorted-normalized (withClasses s (record { parents = joined (parentsOf s) i j })) (record {
-        many = joined-length (parentsOf s) i j ∙ g .many;
-        fall = joined-falls (parentsOf s) (g .fall) i j (omega (arith, g .many)) (omega (arith, g .many));
+      (sorted-normalized (withClasses s (joinedClasses (classesOf s) i j)) (record {
+        many = joined-whole (classesOf s) i j (g .many);
+        fall = joined-falling (classesOf s) (g .many) (g .fall) i j hi hj;
         room = g .room;
         bounds = g .bounds;
       }))

@@ -11,12 +11,16 @@ use lib.ListN.{getD, set, length, replicate, length-set, getD-replicate}
 use lib.Seq.{getD-set-same, getD-set-other}
 use borrow.Author.Tests.{leb-true}
 use Rattle.lists.proofs.RangeLaws.{and-left, and-right}
+use Rattle.value_classes.specs.Classes.{classesBy}
+use Rattle.constraint_spec.specs.Sets.{withValues, withResiduals, emptySet}
 use Rattle.plan.specs.declared.Plan.{Plan}
 use Rattle.plan_rules.specs.Rules.{planOk, countsWithin}
 use Rattle.plan_rules.proofs.RuleLaws.{Rules, rules}
 use Rattle.plan_data.specs.declared.OperatorData.{OperatorData}
 use Rattle.plan_identities.specs.Identities.{identitiesOf}
 use Rattle.plan_identities.specs.declared.Identities.{Identities}
+use Rattle.apply_spec.specs.Facts.{withConstraints}
+use Rattle.apply_spec.specs.Meaning.{freshFacts}
 use Rattle.derive_spec.specs.Operators.{operatorDerived, outerOf, innerOf}
 use Rattle.derive_spec.specs.Deriving.{operatorAt, missing, answerFrom, answersTo, answerOf}
 use Rattle.derive_spec.specs.declared.DeriveOutcome.the-variants.{Accepted}
@@ -27,19 +31,7 @@ use Rattle.derive_spec.proofs.Answers.{answer-made, answer-at, answer-past}
 abbrev pub past : DeriveAnswer
 past =
     record {
-      facts = record {
-        lineage = [];
-        definitions = [];
-        constraints = record {
-          «equivalence_classes» = record { parents = [] };
-          «non_null_values» = [];
-          «literal_equalities» = [];
-          ranges = [];
-          «residual_predicates» = [];
-          residuals = 0;
-          contradictory = false;
-        };
-      };
+      facts = withConstraints (freshFacts [] []) (withResiduals (withValues emptySet (classesBy []) [] [] [] false) [] 0);
       outcome = Accepted;
     }
 

@@ -5,7 +5,7 @@ use mathlib.Core.Path.{_≡_, refl}
 use mathlib.Core.Bool.{Bool, true, false}
 use mathlib.Core.List.{List, [], _∷_, _++_}
 use lib.IntN.{ℤ, pos}
-use lib.ListN.{set, length, replicate}
+use lib.ListN.{length, replicate}
 use lib.Ieee.{Float, binary64, ofInt, lt, eq}
 use Rattle.lists.specs.Ranges.{allFrom, anyFrom, countFrom}
 use Rattle.plan_kinds.specs.Rows.{lineOf, rowOf}
@@ -15,10 +15,11 @@ use Rattle.scalar.specs.declared.ScalarValue.the-variants as S
 use Rattle.value_range.specs.Ranges.{noBound, boundAt}
 use Rattle.value_range.specs.declared.ValueRange.{ValueRange}
 use Rattle.value_classes.specs.Parents.{parentIn, climb, rootOf, joined, each}
-use Rattle.value_classes.specs.Classes.{emptyClasses, unionOf}
+use Rattle.value_classes.specs.Classes.{emptyClasses, rootsJoined, unionOf}
+use Rattle.value_classes.specs.declared.ValueEquivalenceClasses.{ValueEquivalenceClasses}
 use Rattle.constraint_spec.specs.Sets.{none, held, noEntry, entryOf, emptySet, stepsTo, putNonNull, putLiteral, layRange, putRange, crossCheck}
 use Rattle.constraint_spec.specs.Sets.{normalized, nonNullsMoved, literalsMoved, rangesMoved, unionValues, addNonNull, addLiteral, addBound}
-use Rattle.constraint_spec.specs.Sets.{addRange, pushResidual, addResidual}
+use Rattle.constraint_spec.specs.Sets.{addRange, pushResidual, addResidual, withValues, withResiduals}
 use Rattle.constraint_spec.specs.declared.Holder.{Holder}
 use Rattle.constraint_spec.specs.declared.Entry.{Entry}
 use Rattle.constraint_spec.specs.declared.ConstraintSet.{ConstraintSet}
@@ -27,7 +28,8 @@ use Rattle.plan_rules.specs.Rules.{recordOk, itemOk, listsOk, exprOkOf, operato
 use Rattle.plan_data.specs.Nodes.{exprData, operatorData}
 use Rattle.plan_identities.specs.Places.{firstFrom, filled}
 use Rattle.plan_identities.specs.Identities.{tableIn, byKey, baseOf, numberBy, identitiesOf}
-use Rattle.apply_spec.specs.Facts.{emptyFacts}
+use Rattle.apply_spec.specs.Facts.{emptyFacts, withConstraints}
+use Rattle.apply_spec.specs.Meaning.{freshFacts}
 use Rattle.apply_spec.specs.Conjuncts.{joinedOf, conjunctsTo}
 use Rattle.apply_spec.specs.Apply.{comparisonApplied, conjunctApplied, allApplied}
 use Rattle.apply_spec.specs.Entries.{predicateApplied, overridden, inputsMerged}
@@ -70,23 +72,18 @@ planOf kinds ek ec ea eb es bits ok oc oa ob od os ia ib = record {
 
 -- facts with these lineage and definition entries, and a set
 abbrev factsOf : List ℕ → List ℕ → ConstraintSet → DeriveAnswer
-factsOf l d s = accepted (record { lineage = padded 64 l; definitions = padded 64 d; constraints = s })
+factsOf l d s = accepted (withConstraints (freshFacts (padded 64 l) (padded 64 d)) s)
 
--- what is recorded of the identity 0: parents, non-null, its literal and its range; then residuals and the flag
-abbrev setOf : List ℕ → Bool → Holder → Entry → List ℕ → Bool → ConstraintSet
-setOf parents nonNull literal entry residuals flag = record {
-  «equivalence_classes» = record { parents = parents };
-  «non_null_values» = nonNull ∷ replicate 127 false;
-  «literal_equalities» = literal ∷ replicate 127 none;
-  ranges = entry ∷ replicate 127 noEntry;
-  «residual_predicates» = padded 64 residuals;
-  residuals = length residuals;
-  contradictory = flag;
-}
+-- the classes; what is recorded of the identity 0: non-null, its literal and its range; then residuals and the flag
+abbrev setOf : ValueEquivalenceClasses → Bool → Holder → Entry → List ℕ → Bool → ConstraintSet
+setOf classes nonNull literal entry residuals flag =
+    withResiduals
+    (withValues emptySet classes (nonNull ∷ replicate 127 false) (literal ∷ replicate 127 none) (entry ∷ replicate 127 noEntry) flag)
+    (padded 64 residuals) (length residuals)
 
 -- each identity alone
-abbrev alone : List ℕ
-alone = each (λ i. i) 128
+abbrev alone : ValueEquivalenceClasses
+alone = emptyClasses
 
 abbrev below : ℕ → Entry
 below n = entryOf (record { lower = noBound; upper = boundAt (ofInt binary64 (pos n)) false })
@@ -101,7 +98,7 @@ worked =
     (2 ∷ 4 ∷ 0 ∷ 1 ∷ []) []
 
 -- `facts 1 0`, `column 0 b0`, `column 1 b1`, `class b0 b1`, `nonnull b0`, `range b0 - 401c000000000000x`
-worked-case : deriveOf worked 1 ≡ factsOf (1 ∷ 2 ∷ []) [] (setOf (set alone 1 0) true none (below 7) [] false)
+worked-case : deriveOf worked 1 ≡ factsOf (1 ∷ 2 ∷ []) [] (setOf (rootsJoined alone 0 1) true none (below 7) [] false)
 unfolding deriveOf planOk countsWithin allFrom exprOkOf recordOk listsOk rowOf lineOf bitsOk handleOk countOf moreOf itemOk operatorOkOf scansOf anyFrom
     countFrom answerOf answersTo operatorData identitiesOf filled baseOf byKey tableIn firstFrom numberBy lineageEntry definitionEntry scanned derivedColumns
     projected renamed mapped computed carried keysOk keysOf keyColumn grouped stepsTo assigned defined given filtered emptyFacts predicateApplied allApplied

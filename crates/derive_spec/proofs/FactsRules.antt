@@ -10,7 +10,8 @@ use lib.ListN.{getD, length, List·getD-eq-default}
 use borrow.Author.Tests.{lt-ltb, ltb-true, le-leb, leb-true, eq-eqb, eqb-true}
 use Rattle.lists.specs.Ranges.{allFrom}
 use Rattle.lists.proofs.RangeLaws.{below-or-not, and-left, and-right, and-both, all-at, all-of}
-use Rattle.constraint_spec.specs.Sets.{parentsOf, handleAt, setOk, emptySet, done, mergeFrom}
+use Rattle.value_classes.specs.Classes.{Whole}
+use Rattle.constraint_spec.specs.Sets.{classesOf, handleAt, setOk, emptySet, done, mergeFrom}
 use Rattle.constraint_spec.specs.declared.ConstraintSet.{ConstraintSet}
 use Rattle.constraint_spec.specs.declared.Applied.{Applied}
 use Rattle.constraint_spec.proofs.Steps.{pick-has}
@@ -30,7 +31,7 @@ use Rattle.plan_data.specs.declared.OperatorData.the-variants.{Limit, Output, C
 use Rattle.plan_identities.specs.Identities.{identitiesOf}
 use Rattle.plan_identities.specs.declared.Identities.{Identities}
 use Rattle.apply_spec.specs.Facts.{refusalOf, emptyFacts, withConstraints, identityOf, lineageOk, definitionOk, residualOk, factsOk}
-use Rattle.apply_spec.specs.Entries.{answered, predicateApplied, applyPredicate, overridden, inputsMerged, mergeInputs}
+use Rattle.apply_spec.specs.Entries.{answered, predicateApplied, applyPredicate, overridden, overlaid, inputsMerged, mergeInputs}
 use Rattle.apply_spec.specs.declared.LogicalFacts.{LogicalFacts}
 use Rattle.apply_spec.specs.declared.FactsAnswer.{FactsAnswer}
 use Rattle.apply_spec.specs.declared.Outcome.{Outcome}
@@ -180,8 +181,7 @@ module _ (p : Plan) (few : p .columns .count ≤ 64) where
   merged-right : (f g : LogicalFacts) (merge : Bool) → Right f → Right g → Right (inputsMerged f g merge .facts)
   unfolding inputsMerged
   merged-right f g merge rf rg =
-      answered-right f
-      (record { lineage = overridden (f .lineage) (g .lineage); definitions = overridden (f .definitions) (g .definitions); constraints = f .constraints })
+      answered-right f (overlaid f g (f .constraints))
       (cond merge (mergeFrom (f .constraints) (g .constraints)) (done (f .constraints))) rf (record {
         columns = both-columns f g rf rg;
         set = pick-has (λ (a : Applied). RightSet (p .expressions .count) (a .constraints)) merge (mergeFrom (f .constraints) (g .constraints))
@@ -309,8 +309,7 @@ derived-applies p ok h e l =
 merged-other : (f g : LogicalFacts) (merge : Bool) → refusalOf (inputsMerged f g merge .outcome) ≡ 8 → ⊥
 unfolding inputsMerged
 merged-other f g merge =
-    answered-other f
-    (record { lineage = overridden (f .lineage) (g .lineage); definitions = overridden (f .definitions) (g .definitions); constraints = f .constraints })
+    answered-other f (overlaid f g (f .constraints))
     (cond merge (mergeFrom (f .constraints) (g .constraints)) (done (f .constraints)))
 
 -- nor does `merge_inputs`
@@ -354,7 +353,7 @@ merge-inputs-right p f g merge rf rg = go (planOk p) (factsOk p f && factsOk p g
 pub record ArraysLong (f : LogicalFacts) : Type 0 where
   pub lineage : length (f .lineage) ≡ 64
   pub definitions : length (f .definitions) ≡ 64
-  pub parents : length (parentsOf (f .constraints)) ≡ 128
+  pub classes : Whole (classesOf (f .constraints))
 
 -- an entry that passes its test is right, and past the end there is none
 module _ (right : ℕ → Type 0) (nc : ℕ) (l : List ℕ) (long : length l ≡ 64) where
@@ -403,7 +402,7 @@ ok-right p f long e =
             (omega arith)));
       };
       set = record {
-        rules = ruled (f .constraints) (long .parents) (and-left _ _ e3);
+        rules = ruled (f .constraints) (long .classes) (and-left _ _ e3);
         below = λ k l. ltb-true (handleAt (f .constraints) k) ne
             (all-at (residualOk (f .constraints) ne) (f .constraints .residuals) 0 (and-right (setOk (f .constraints)) _ e3) k (omega arith) (omega arith));
       };

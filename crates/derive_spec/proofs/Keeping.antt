@@ -22,7 +22,7 @@ use Rattle.plan_data.specs.declared.JoinType.the-variants.{Inner, LeftSemi, Lef
 use Rattle.plan_identities.specs.declared.Identities.{Identities}
 use Rattle.plan_identities.specs.declared.ValueId.the-variants.{Derived}
 use Rattle.apply_spec.specs.Facts.{emptyFacts}
-use Rattle.apply_spec.specs.Entries.{overridden, inputsMerged}
+use Rattle.apply_spec.specs.Entries.{overlaid, inputsMerged}
 use Rattle.apply_spec.specs.declared.LogicalFacts.{LogicalFacts}
 use Rattle.derive_spec.specs.Columns.{itemAt, lineageEntry, noColumns, columnsIn, factsWith, inserted, assigned, carried, computed, keyColumn}
 use Rattle.derive_spec.specs.Columns.{keyed, keysOk, derivedColumns, keyStep, keysOf, derivedStep, projected, projectStep, renamed, renameStep}
@@ -41,21 +41,18 @@ module _ (p : Plan) (ids : Identities) (h : Operator) (on : Expr) (f g : Logical
   left-anti = refl
 
   -- both lineages and definitions, right over left
-  left-outer : joined p ids h on f g LeftOuter ≡ accepted
-      (record { lineage = overridden (f .lineage) (g .lineage); definitions = overridden (f .definitions) (g .definitions); constraints = f .constraints })
+  left-outer : joined p ids h on f g LeftOuter ≡ accepted (overlaid f g (f .constraints))
   unfolding inputsMerged
   left-outer = refl
 
   single : joined p ids h on f g Single ≡ joined p ids h on f g LeftOuter
   single = refl
 
-  right-outer : joined p ids h on f g RightOuter ≡ accepted
-      (record { lineage = overridden (f .lineage) (g .lineage); definitions = overridden (f .definitions) (g .definitions); constraints = g .constraints })
+  right-outer : joined p ids h on f g RightOuter ≡ accepted (overlaid f g (g .constraints))
   unfolding inputsMerged
   right-outer = refl
 
-  full-outer : joined p ids h on f g FullOuter ≡ accepted
-      (record { lineage = overridden (f .lineage) (g .lineage); definitions = overridden (f .definitions) (g .definitions); constraints = emptySet })
+  full-outer : joined p ids h on f g FullOuter ≡ accepted (overlaid f g emptySet)
   unfolding inputsMerged
   full-outer = refl
 

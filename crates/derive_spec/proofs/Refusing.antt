@@ -27,7 +27,7 @@ use Rattle.plan_identities.specs.Identities.{identitiesOf}
 use Rattle.plan_identities.specs.declared.Identities.{Identities}
 use Rattle.apply_spec.specs.Facts.{withConstraints}
 use Rattle.apply_spec.specs.Conjuncts.{conjunctsOf}
-use Rattle.apply_spec.specs.Entries.{answered, predicateApplied, overridden, inputsMerged}
+use Rattle.apply_spec.specs.Entries.{answered, predicateApplied, overridden, overlaid, inputsMerged}
 use Rattle.apply_spec.specs.Wanted.{conjunctRecorded}
 use Rattle.apply_spec.specs.declared.LogicalFacts.{LogicalFacts}
 use Rattle.apply_spec.specs.declared.Outcome.the-variants as O
@@ -119,11 +119,7 @@ module _ (p : Plan) (h : ℕ) where
     unfolding inputsMerged
     merge-told up y f g k =
         answered-told up y f
-        (record {
-          lineage = overridden (f .lineage) (g .lineage);
-          definitions = overridden (f .definitions) (g .definitions);
-          constraints = f .constraints;
-        }) (mergeFrom (f .constraints) (g .constraints)) k
+        (overlaid f g (f .constraints)) (mergeFrom (f .constraints) (g .constraints)) k
 
     -- Inner: first both lists, then the predicate
     inner-told : Inputs → keysFine p o ≡ true → (on : Expr) (f g : LogicalFacts) → Roomy (f .constraints) → Roomy (g .constraints)
@@ -136,7 +132,7 @@ module _ (p : Plan) (h : ℕ) where
         a = mergeFrom (f .constraints) (g .constraints)
 
         m : LogicalFacts
-        m = record { lineage = overridden (f .lineage) (g .lineage); definitions = overridden (f .definitions) (g .definitions); constraints = a .constraints }
+        m = overlaid f g (a .constraints)
 
         both : Bool → DeriveAnswer
         both t = given (fitted (numbered h) (cond t (record { facts = f; outcome = O.Residuals }) (record { facts = m; outcome = O.Accepted })))

@@ -8,7 +8,7 @@ use native.Mathlib.Omega.{arith}
 use lib.Dec.{T, ltb}
 use lib.ListN.{getD, set, length, length-set}
 use borrow.Author.Tests.{ltb-true}
-use Rattle.constraint_spec.specs.Sets.{handles, emptySet, stepsTo, hasHandle, roomFor, pushResidual, done, normalized, mergeResidual, mergeResiduals}
+use Rattle.constraint_spec.specs.Sets.{handles, withResiduals, emptySet, stepsTo, hasHandle, roomFor, pushResidual, done, normalized, mergeResidual, mergeResiduals}
 use Rattle.constraint_spec.specs.Sets.{mergeValues, mergedSet, roomTo, mergeRoom, mergeFrom}
 use Rattle.constraint_spec.specs.Room.{listed, pushed, pushTo}
 use Rattle.constraint_spec.specs.declared.ConstraintSet.{ConstraintSet}
@@ -38,16 +38,7 @@ unfolding pushResidual
 roomy-push s h r = go (hasHandle s h) (ltb (s .residuals) 64) refl
   where
     pushedSet : ConstraintSet
-    pushedSet = record {
-      «equivalence_classes» = s .«equivalence_classes»;
-      «non_null_values» = s .«non_null_values»;
-      «literal_equalities» = s .«literal_equalities»;
-      ranges = s .ranges;
-      «residual_predicates» = set (handles s) (s .residuals) h;
-      residuals = s .residuals
-          + 1;
-      contradictory = s .contradictory;
-    }
+    pushedSet = withResiduals s (set (handles s) (s .residuals) h) (s .residuals + 1)
 
     go : (a b : Bool) → ltb (s .residuals) 64 ≡ b → Roomy (cond a s (cond b pushedSet s))
     go true b e = r

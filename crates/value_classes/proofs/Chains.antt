@@ -3,15 +3,13 @@ use Prim.Native.Nat.{ℕ, _≤_, _<_}
 use mathlib.Core.Bool.{true}
 use mathlib.Core.List.{List, [], _∷_}
 use mathlib.Core.Logic.{inl, inr, _↔_, ⊎-elim}
-use mathlib.Core.Path.{_≡_, refl, sym, ap, _∙_}
+use mathlib.Core.Path.{_≡_, refl, sym, _∙_, subst}
 use native.Mathlib.Omega.{arith}
-use lib.ListN.{length}
-use Rattle.value_classes.specs.Parents.{parentsOk}
-use Rattle.value_classes.specs.Classes.{emptyClasses, canonicalOf, unionOf}
+use Rattle.value_classes.specs.Classes.{Whole, Falling, classesOk, emptyClasses, canonicalOf, unionOf}
 use Rattle.value_classes.specs.declared.ValueEquivalenceClasses.{ValueEquivalenceClasses}
-use Rattle.value_classes.proofs.RootLaws.{Falls, falls-ok, own, own-falls, own-root, length-each, root-le, joined-length, joined-falls}
-use Rattle.value_classes.proofs.RootLaws.{joined-exact, Met}
-use Rattle.value_classes.proofs.Unions.{union-parents}
+use Rattle.value_classes.proofs.RootLaws.{own, own-falls, length-each, Met}
+use Rattle.value_classes.proofs.Unions.{union-classes}
+use Rattle.value_classes.proofs.ClassLaws.{falling-ok, canonical-le, alone-canonical, joined-whole, joined-falling, joined-met}
 
 -- the unions asked for one after the other, the last first
 unfoldable pub asked : List (ℕ × ℕ) → ValueEquivalenceClasses
@@ -32,18 +30,15 @@ pub data Chain : List (ℕ × ℕ) → ℕ → ℕ → Type 0 where
 
 -- all parents are there, and none is above its child
 abbrev pub Sound : ValueEquivalenceClasses → Type 0
-Sound c = (length (c .parents) ≡ 128) × Falls (c .parents)
+Sound c = Whole c × Falling c
 
 pub empty-sound : Sound emptyClasses
 unfolding emptyClasses
 empty-sound = (length-each own 128, own-falls 128)
 
 pub union-sound : (c : ValueEquivalenceClasses) (l r : ℕ) → l < 128 → r < 128 → Sound c → Sound (unionOf c l r .classes)
-union-sound c l r hl hr s =
-    let e = union-parents c l r hl hr (s .0) (s .1) in (
-      ap length e ∙ joined-length (c .parents) l r ∙ s .0,
-      rw e (joined-falls (c .parents) (s .1) l r (omega arith) (omega arith)),
-    )
+union-sound c l r hl hr s = subst Sound (sym (union-classes c l r hl hr (s .0) (s .1)))
+    (joined-whole c l r (s .0), joined-falling c (s .0) (s .1) l r hl hr)
 
 -- the rule is kept by every union. Assumes nothing
 pub asked-sound : (ps : List (ℕ × ℕ)) → InRange ps → Sound (asked ps)
@@ -51,14 +46,14 @@ unfolding asked
 asked-sound [] h = empty-sound
 asked-sound (x ∷ ps) h = union-sound (asked ps) (x .0) (x .1) (h .0) (h .1) (asked-sound ps (h .2))
 
-pub asked-ok : (ps : List (ℕ × ℕ)) → InRange ps → parentsOk (asked ps .parents) ≡ true
-asked-ok ps h = falls-ok (asked ps .parents) (asked-sound ps h .1)
+pub asked-ok : (ps : List (ℕ × ℕ)) → InRange ps → classesOk (asked ps) ≡ true
+asked-ok ps h = falling-ok (asked ps) (asked-sound ps h .1)
 
 -- after a union two are in one class exactly if they were, or one was with l and the other with r. Assumes 128 parents that fall
 pub union-exact : (c : ValueEquivalenceClasses) (l r : ℕ) → l < 128 → r < 128 → Sound c → (a b : ℕ)
     → (canonicalOf (unionOf c l r .classes) a ≡ canonicalOf (unionOf c l r .classes) b) ↔ Met (canonicalOf c l) (canonicalOf c r) (canonicalOf c a)
     (canonicalOf c b)
-union-exact c l r hl hr s a b = rw (union-parents c l r hl hr (s .0) (s .1)) (joined-exact (c .parents) (s .1) l r (omega arith) (omega arith) a b)
+union-exact c l r hl hr s a b = rw (union-classes c l r hl hr (s .0) (s .1)) (joined-met c (s .0) (s .1) l r hl hr a b)
 
 exact : (x : ℕ × ℕ) (ps : List (ℕ × ℕ)) → InRange (x ∷ ps) → (a b : ℕ)
     → (canonicalOf (asked (x ∷ ps)) a ≡ canonicalOf (asked (x ∷ ps)) b) ↔ Met (canonicalOf (asked ps) (x .0)) (canonicalOf (asked ps) (x .1))
@@ -74,8 +69,8 @@ chained-together h (here {ps = ps} {l = l} {r = r}) = exact (l, r) ps h l r .1 (
 chained-together h (there {x = x} {ps = ps} {a = a} {b = b} c) = exact x ps h a b .1 (inl (chained-together (h .2) c))
 
 empty-root : (a : ℕ) → a < 128 → canonicalOf (asked []) a ≡ a
-unfolding asked emptyClasses
-empty-root a h = own-root 128 a h
+unfolding asked
+empty-root a h = alone-canonical a h
 
 together-chained : (ps : List (ℕ × ℕ)) → InRange ps → (a b : ℕ) → a < 128 → b < 128 → canonicalOf (asked ps) a ≡ canonicalOf (asked ps) b → Chain ps a b
 together-chained [] h a b ha hb e = let z : a ≡ b = sym (empty-root a ha) ∙ e ∙ empty-root b hb in rw z same
@@ -92,4 +87,4 @@ classes-exact ps h a b ha hb = (together-chained ps h a b ha hb, chained-togethe
 
 -- and its representative is its least member. Assumes nothing
 pub classes-least : (ps : List (ℕ × ℕ)) → InRange ps → (a b : ℕ) → Chain ps a b → canonicalOf (asked ps) a ≤ b
-classes-least ps h a b c = omega (arith, chained-together h c, root-le (asked ps .parents) (asked-sound ps h .1) b)
+classes-least ps h a b c = omega (arith, chained-together h c, canonical-le (asked ps) (asked-sound ps h .1) b)

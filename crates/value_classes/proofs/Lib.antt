@@ -1,4 +1,5 @@
 pub mod RootLaws
+pub mod ClassLaws
 pub mod MemberLaws
 pub mod Unions
 pub mod Chains

@@ -13,11 +13,7 @@ use lib.ListN.{length, getD, set, take, length-set, length-append, List·getD-ap
 use lib.Seq.{getD-set-same, getD-set-other, take-suc-set, take-all, getD-at, set-getD}
 use Rattle.lists.specs.Ranges.{allFrom}
 use Rattle.lists.proofs.RangeLaws.{all-at, all-of}
-use Rattle.value_classes.specs.Parents.{parentIn, climb, rootOf, parentsOk, joined, each}
-
--- each identity's parent is no larger than itself
-abbrev pub Falls : List ℕ → Type 0
-Falls p = (i : ℕ) → i < length p → getD p i 0 ≤ i
+use Rattle.value_classes.specs.Parents.{Falls, parentIn, climb, rootOf, parentsOk, joined, each}
 
 abbrev pub lowTest : List ℕ → ℕ → Bool
 lowTest p i = leb (getD p i 0) i

@@ -4,7 +4,7 @@ use mathlib.Core.List.{[], _∷_}
 use mathlib.Core.Path.{_≡_, refl}
 use Rattle.lists.specs.Ranges.{allFrom}
 use Rattle.value_classes.specs.Parents.{parentIn, climb, rootOf, parentsOk, joined, each}
-use Rattle.value_classes.specs.Classes.{emptyClasses, canonicalOf, unionOf}
+use Rattle.value_classes.specs.Classes.{classesBy, classesOk, emptyClasses, canonicalOf, unionOf}
 use Rattle.value_classes.specs.Listed.{membersTo}
 use Rattle.value_classes.specs.declared.ValueEquivalenceClasses.{ValueEquivalenceClasses}
 
@@ -16,7 +16,7 @@ chained : canonicalOf three 9 ≡ 3
 unfolding emptyClasses unionOf joined rootOf climb parentIn each
 chained = refl
 
-listed : membersTo (three .parents) 3 128 ≡ 3 ∷ 5 ∷ 9 ∷ []
+listed : membersTo three 3 128 ≡ 3 ∷ 5 ∷ 9 ∷ []
 unfolding emptyClasses unionOf joined rootOf climb parentIn each membersTo
 listed = refl
 
@@ -27,9 +27,9 @@ again = refl
 
 -- parents in a circle break the rule, and there is an answer all the same; one past the identities is its own representative
 abbrev circle : ValueEquivalenceClasses
-circle = record { parents = 1 ∷ 0 ∷ [] }
+circle = classesBy (1 ∷ 0 ∷ [])
 
-refused : parentsOk (circle .parents) ≡ false
+refused : classesOk circle ≡ false
 unfolding parentsOk allFrom
 refused = refl
 

@@ -1,5 +1,5 @@
 -- Identities with parents: the walk up to a representative, and the rule that makes it end there. Assumes nothing.
-use Prim.Native.Nat.{ℕ, zero, suc, min, max}
+use Prim.Native.Nat.{ℕ, zero, suc, _≤_, _<_, min, max}
 use mathlib.Core.Bool.{Bool, cond, _&&_}
 use mathlib.Core.List.{List, [], _∷_, _++_}
 use lib.Dec.{leb, ltb}
@@ -20,7 +20,10 @@ climb p (suc k) i = climb p k (parentIn p i)
 unfoldable pub rootOf : List ℕ → ℕ → ℕ
 rootOf p i = climb p (length p) i
 
--- the rule: no parent is above its child
+-- the rule: no parent is above its child; in words, and as a test
+abbrev pub Falls : List ℕ → Type 0
+Falls p = (i : ℕ) → i < length p → getD p i 0 ≤ i
+
 unfoldable pub parentsOk : List ℕ → Bool
 parentsOk p = allFrom (λ (i : ℕ). leb (getD p i 0) i) 0 (length p)
 

@@ -1,7 +1,9 @@
 // Which values are known to be the same, after the Rust's map of parents: an array over the identities, each its own parent at first.
 ghost use mathlib.Core.Path.{_≡_};
-ghost use Rattle.value_classes.specs.Parents.{parentIn, parentsOk};
-ghost use Rattle.value_classes.specs.Classes.{emptyClasses, canonicalOf, sameClass, unionOf};
+ghost use mathlib.Core.Bool.{cond, _&&_};
+ghost use lib.Dec.{ltb};
+ghost use Rattle.value_classes.specs.Parents.{parentIn};
+ghost use Rattle.value_classes.specs.Classes.{classesOk, emptyClasses, canonicalOf, sameClass, rootsJoined, unionOf};
 ghost use Rattle.value_classes.specs.Listed.{rootsOf, membersOf};
 
 pub struct ValueEquivalenceClasses {
@@ -42,7 +44,7 @@ impl ValueEquivalenceClasses {
 
     // Whether no parent is above its child.
     pub fn parents_ok(self) -> bool
-        ensures { λ r. ⌜ r ≡ parentsOk (self .parents) ⌝ }
+        ensures { λ r. ⌜ r ≡ classesOk self ⌝ }
     {
         let mut i: usize = 0;
         while i < 128 {
@@ -90,6 +92,21 @@ impl ValueEquivalenceClasses {
         ensures { λ r. ⌜ r ≡ sameClass self left right ⌝ }
     {
         self.canonical(left) == self.canonical(right)
+    }
+
+    // Of two representatives the higher one gets the lower one as its parent. Nothing changes where one of the numbers is no identity.
+    pub fn join_roots(self, low: usize, high: usize) -> Self
+        ensures { λ r. ⌜ r ≡ cond (ltb low 128 && ltb high 128) (rootsJoined self low high) self ⌝ }
+    {
+        if 128 <= low {
+            return self;
+        }
+        if 128 <= high {
+            return self;
+        }
+        let mut classes = self;
+        classes.parents[high] = low as u8;
+        classes
     }
 
     // The smaller root stays. A number past the identities is joined to nothing.

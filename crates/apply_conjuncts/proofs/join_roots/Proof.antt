@@ -42,11 +42,8 @@ empty-requires c κs = search needs
 empty-requires-2 : tie.Need-empty-requires-2
 empty-requires-2 c κs = search needs
 
-cast-classes : tie.Need-cast-classes
-cast-classes c = search needs
-
-element-write-classes : tie.Need-element-write-classes
-element-write-classes c = search needs
+join-roots-requires : tie.Need-join-roots-requires
+join-roots-requires c κs = search needs
 
 element-write-q : tie.Need-element-write-q
 element-write-q c = search needs
@@ -80,12 +77,15 @@ element-set-from-no-entry c = search needs
 
 returns : tie.Need-returns
 returns c =
-    let at-empty = c .before .before .before in
+    let at-join-roots = c .before in
+    let at-empty2 = at-join-roots .before .before in
+    let at-empty = at-empty2 .before in
     let at-place-of = at-empty .before .before .before in
     let start = at-place-of .before .before .before .before .before .before .before in
     let args = start .args in
-    roots-written (args .t1) (args .a) (args .b) (at-place-of .place-of .result) (at-empty .empty .result) (c .before .before .empty2 .result)
-    (at-place-of .place-of .ensures) (at-empty .empty .ensures) (c .before .before .empty2 .ensures)
+    roots-written (args .t1) (args .a) (args .b) (at-place-of .place-of .result) (at-empty .empty .result) (at-empty2 .empty2 .result)
+    (at-join-roots .join-roots .result) (start .pre .0) (start .pre .1)
+    (at-place-of .place-of .ensures) (at-empty .empty .ensures) (at-empty2 .empty2 .ensures) (at-join-roots .join-roots .ensures)
 
 pub join-roots-spec : {M : Type 1} → statement M
 join-roots-spec =
@@ -104,8 +104,7 @@ join-roots-spec =
     place-of-requires
     empty-requires
     empty-requires-2
-    cast-classes
-    element-write-classes
+    join-roots-requires
     element-write-q
     element-write-q-2
     mul-h

@@ -3,9 +3,8 @@ use Rattle.constraint_set.proofs.Loops.{steps-next}
 use Rattle.constraint_merge.proofs.Merging.{range-laid, range-left}
 use Rattle.constraint_spec.specs.Sets.{stepsTo, mergeRange, mergeRanges}
 use Rattle.value_classes.specs.declared.ValueEquivalenceClasses.{ValueEquivalenceClasses}
-use Rattle.value_classes.specs.Parents.{rootOf}
-use Rattle.value_classes.proofs.RootLaws.{root-below}
-use lib.ListN.{length}
+use Rattle.value_classes.specs.Classes.{Whole, canonicalOf}
+use Rattle.value_classes.proofs.ClassLaws.{canonical-small}
 use mathlib.Core.Logic.{⊎-elim}
 use native.Mathlib.Omega.{arith}
 use Prim.Native.Nat.{_≤_, _<_, _-_}
@@ -19,11 +18,11 @@ Inv-loop others q₀ classes i₀ q i = (i ≤ 128) × (q ≡ stepsTo (mergeRang
 abbrev μ-loop : tie.MeasureT-loop
 μ-loop others q₀ classes i₀ q i = 128 - i
 
-long : (c : tie.Start Inv-loop μ-loop) → length (c .args .t .«equivalence_classes» .parents) ≡ 128
+long : (c : tie.Start Inv-loop μ-loop) → Whole (c .args .t .«equivalence_classes»)
 long c = search needs
 
 small : (c : tie.After-canonical Inv-loop μ-loop) → c .canonical .result < 128
-small c = root-below _ 128 _ _ (long (c .before .before .before .before .before .before .before)) (c .canonical .ensures) (omega arith)
+small c = canonical-small _ _ _ (long (c .before .before .before .before .before .before .before)) (c .canonical .ensures) (omega arith)
 
 loop-holds : tie.Need-loop-holds Inv-loop μ-loop
 unfolding stepsTo
@@ -68,7 +67,7 @@ loop-again c =
     let start = at-loop .before .before in
     let args = start .args in
     let v = at-loop .loop .inv in
-    let at = ap (λ (k : ValueEquivalenceClasses). rootOf (k .parents) (at-loop .loop .i)) (sym (v .2)) in
+    let at = ap (λ (k : ValueEquivalenceClasses). canonicalOf k (at-loop .loop .i)) (sym (v .2)) in
     ⊎-elim (λ w. (
       omega arith,
       rw (w .6) (steps-next (mergeRange (args .t2)) _ (at-loop .loop .i) (at-loop .loop .q) _ (v .1)

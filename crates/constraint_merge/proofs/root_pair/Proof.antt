@@ -1,12 +1,12 @@
 use Rattle.constraint_merge.proofs.Uniting.{left-lower, right-lower}
-use Rattle.value_classes.proofs.RootLaws.{root-below}
-use native.Mathlib.Omega.{arith}
+use Rattle.value_classes.proofs.ClassLaws.{canonical-small}
 use borrow.Author.Needs.{needs}
 use Rattle.constraint_merge.proofs.root_pair.Statement.{statement}
 use Rattle.constraint_merge.proofs.root_pair.Tie as tie
 use Rattle.constraint_merge.proofs.root_pair.Reads as reads
 use Rattle.constraint_merge.proofs.root_pair.Lts as lts
 use Rattle.value_classes.proofs.ValueEquivalenceClasses.canonical.Reads as canonical-reads
+use Rattle.value_classes.proofs.ValueEquivalenceClasses.join_roots.Reads as join-roots-reads
 
 -- src/lib.rt:33:9
 canonical-requires : tie.Need-canonical-requires
@@ -16,65 +16,36 @@ canonical-requires c κs = search needs
 canonical-requires-2 : tie.Need-canonical-requires-2
 canonical-requires-2 c κs = search needs
 
--- src/lib.rt:37:24
-cast-k : tie.Need-cast-k
-cast-k c =
-    let start = c .before .before .before in
-    omega (
-      arith,
-      root-below (start .args .classes .parents) 128 (start .args .left) (c .before .before .canonical .result) (search needs)
-          (c .before .before .canonical .ensures) (start .pre .0),
-    )
-
--- src/lib.rt:37:9
-element-write-k : tie.Need-element-write-k
-element-write-k c =
-    let start = c .before .before .before in
-    root-below (start .args .classes .parents) 128 (start .args .right) (c .before .canonical2 .result) (search needs) (c .before .canonical2 .ensures)
-    (start .pre .1)
+join-roots-requires : tie.Need-join-roots-requires
+join-roots-requires c κs = search needs
 
 -- src/lib.rt:38:9
 returns : tie.Need-returns
 returns c =
-    let start = c .before .before .before in
-    let args = start .args in
-    left-lower (args .classes) (args .left) (args .right) (c .before .before .canonical .result) (c .before .canonical2 .result)
-    (c .before .before .canonical .ensures) (c .before .canonical2 .ensures) (c .if1 .taken)
+    let at-canonical2 = c .before .before in
+    let at-canonical = at-canonical2 .before in
+    let args = at-canonical .before .args in
+    let right = at-canonical2 .canonical2 in
+    left-lower (args .classes) (args .left) (args .right) (at-canonical .canonical .result) (right .result) (at-canonical .canonical .ensures)
+    (right .ensures) (c .join-roots .result)
+    (canonical-small (args .classes) (args .right) (right .result) (search needs) (right .ensures) (at-canonical .before .pre .1))
+    (c .join-roots .ensures) (c .before .if1 .taken)
 
--- src/lib.rt:44:20
-cast-k-2 : tie.Need-cast-k-2
-cast-k-2 c =
-    let start = c .before .before .before in
-    omega (
-      arith,
-      root-below (start .args .classes .parents) 128 (start .args .right) (c .before .canonical2 .result) (search needs)
-          (c .before .canonical2 .ensures) (start .pre .1),
-    )
-
--- src/lib.rt:44:5
-element-write-k-2 : tie.Need-element-write-k-2
-element-write-k-2 c =
-    let start = c .before .before .before in
-    root-below (start .args .classes .parents) 128 (start .args .left) (c .before .before .canonical .result) (search needs)
-    (c .before .before .canonical .ensures) (start .pre .0)
+join-roots-requires-2 : tie.Need-join-roots-requires-2
+join-roots-requires-2 c κs = search needs
 
 -- src/lib.rt:28:1
 returns-2 : tie.Need-returns-2
 returns-2 c =
-    let start = c .before .before .before in
-    let args = start .args in
-    right-lower (args .classes) (args .left) (args .right) (c .before .before .canonical .result) (c .before .canonical2 .result)
-    (c .before .before .canonical .ensures) (c .before .canonical2 .ensures) (c .if1 .left)
+    let at-canonical2 = c .before .before in
+    let at-canonical = at-canonical2 .before in
+    let args = at-canonical .before .args in
+    let left = at-canonical .canonical in
+    right-lower (args .classes) (args .left) (args .right) (left .result) (at-canonical2 .canonical2 .result) (left .ensures)
+    (at-canonical2 .canonical2 .ensures) (c .join-roots2 .result)
+    (canonical-small (args .classes) (args .left) (left .result) (search needs) (left .ensures) (at-canonical .before .pre .0))
+    (c .join-roots2 .ensures) (c .before .if1 .left)
 
 pub root-pair-spec : {M : Type 1} → statement M
 root-pair-spec =
-    tie.close
-    (tie.spec
-    canonical-requires
-    canonical-requires-2
-    cast-k
-    element-write-k
-    returns
-    cast-k-2
-    element-write-k-2
-    returns-2)
+    tie.close (tie.spec canonical-requires canonical-requires-2 join-roots-requires returns join-roots-requires-2 returns-2)

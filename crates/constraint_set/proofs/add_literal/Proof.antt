@@ -1,7 +1,7 @@
 use Rattle.constraint_set.proofs.Loops.{literal-added}
 use Rattle.constraint_spec.specs.Sets.{addLiteral}
 use borrow.Author.Tests.{lt-ltb, le-ltb}
-use Rattle.value_classes.proofs.RootLaws.{root-below}
+use Rattle.value_classes.proofs.ClassLaws.{canonical-small}
 use native.Mathlib.Omega.{arith}
 use mathlib.Core.Path.{sym, _∙_}
 use borrow.Author.Needs.{needs}
@@ -36,7 +36,7 @@ canonical-requires c κs = search needs
 put-literal-requires : tie.Need-put-literal-requires
 put-literal-requires c κs =
     let start = c .before .before .before .before .before in
-    root-below (start .args .s .«equivalence_classes» .parents) 128 _ _ (search needs) (c .canonical .ensures) (omega arith)
+    canonical-small (start .args .s .«equivalence_classes») _ _ (search needs) (c .canonical .ensures) (omega arith)
 
 -- src/lib.rt:342:5
 cross-check-literals-and-ranges-requires : tie.Need-cross-check-literals-and-ranges-requires

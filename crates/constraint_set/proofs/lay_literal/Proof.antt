@@ -1,5 +1,5 @@
 use Rattle.constraint_set.proofs.Checking.{literal-checked, both-told}
-use Rattle.value_classes.proofs.RootLaws.{root-below}
+use Rattle.value_classes.proofs.ClassLaws.{canonical-small}
 use native.Mathlib.Omega.{arith}
 use mathlib.Core.Path.{sym, _∙_}
 use borrow.Author.Needs.{needs}
@@ -33,31 +33,31 @@ canonical-requires c κs = search needs
 put-literal-requires : tie.Need-put-literal-requires
 put-literal-requires c κs =
     let start = c .before .before .before .before in
-    root-below (start .args .s .«equivalence_classes» .parents) 128 _ _ (search needs) (c .canonical .ensures) (omega arith)
+    canonical-small (start .args .s .«equivalence_classes») _ _ (search needs) (c .canonical .ensures) (omega arith)
 
 -- src/lib.rt:357:13
 mul-h : tie.Need-mul-h
 mul-h c =
     let start = c .before .before .before .before .before in
-    omega (arith, root-below (start .args .s .«equivalence_classes» .parents) 128 _ _ (search needs) (c .before .canonical .ensures) (omega arith))
+    omega (arith, canonical-small (start .args .s .«equivalence_classes») _ _ (search needs) (c .before .canonical .ensures) (omega arith))
 
 -- src/lib.rt:357:13
 element-copy-out-h : tie.Need-element-copy-out-h
 element-copy-out-h c =
     let start = c .before .before .before .before .before in
-    root-below (start .args .s .«equivalence_classes» .parents) 128 _ _ (search needs) (c .before .canonical .ensures) (omega arith)
+    canonical-small (start .args .s .«equivalence_classes») _ _ (search needs) (c .before .canonical .ensures) (omega arith)
 
 -- src/lib.rt:358:13
 mul-e : tie.Need-mul-e
 mul-e c =
     let start = c .before .before .before .before .before .before in
-    omega (arith, root-below (start .args .s .«equivalence_classes» .parents) 128 _ _ (search needs) (c .before .before .canonical .ensures) (omega arith))
+    omega (arith, canonical-small (start .args .s .«equivalence_classes») _ _ (search needs) (c .before .before .canonical .ensures) (omega arith))
 
 -- src/lib.rt:358:13
 element-copy-out-e : tie.Need-element-copy-out-e
 element-copy-out-e c =
     let start = c .before .before .before .before .before .before in
-    root-below (start .args .s .«equivalence_classes» .parents) 128 _ _ (search needs) (c .before .before .canonical .ensures) (omega arith)
+    canonical-small (start .args .s .«equivalence_classes») _ _ (search needs) (c .before .before .canonical .ensures) (omega arith)
 
 -- src/lib.rt:359:9
 is-crossed-requires : tie.Need-is-crossed-requires
@@ -70,7 +70,7 @@ returns-2 c = literal-checked (c .before .before .before .before .before .before
     (both-told (c .before .before .before .before .before .before .before .before .args .checked)
     (c .before .before .before .before .before .before .before .is-null .result) (c .before .before .before .before .before .before .if1 .left) .0))
     (c .before .before .before .before .canonical .result)
-    (root-below (c .before .before .before .before .before .before .before .before .args .s .«equivalence_classes» .parents) 128 _ _ (search needs)
+    (canonical-small (c .before .before .before .before .before .before .before .before .args .s .«equivalence_classes») _ _ (search needs)
     (c .before .before .before .before .canonical .ensures) (omega arith)) (c .before .before .before .before .before .before .before .before .args .literal)
     (c .before .before .before .before .before .before .before .before .args .value)
     (c .before .before .before .before .before .before .before .before .pre .0) (c .before .before .before .before .canonical .ensures)

@@ -1,8 +1,8 @@
 use borrow.Author.Needs.{needs}
 use Rattle.constraint_set.proofs.Loops.{literalsAfter, literal-moved, literal-idle, literals-done}
 use Rattle.constraint_spec.specs.Sets.{withLiterals, stepsTo}
-use Rattle.value_classes.proofs.RootLaws.{root-below}
-use lib.ListN.{length}
+use Rattle.value_classes.specs.Classes.{Whole}
+use Rattle.value_classes.proofs.ClassLaws.{canonical-small}
 use mathlib.Core.Logic.{⊎-elim}
 use native.Mathlib.Omega.{arith}
 use Prim.Native.Nat.{_≤_, _<_, _-_}
@@ -16,11 +16,11 @@ Inv-loop old t₀ classes i₀ t i = (i ≤ 128) × (t ≡ literalsAfter (withLi
 abbrev μ-loop : tie.MeasureT-loop
 μ-loop old t₀ classes i₀ t i = 128 - i
 
-long : (c : tie.Start Inv-loop μ-loop) → length (c .args .s .«equivalence_classes» .parents) ≡ 128
+long : (c : tie.Start Inv-loop μ-loop) → Whole (c .args .s .«equivalence_classes»)
 long c = search needs
 
 small : (c : tie.After-canonical Inv-loop μ-loop) → c .canonical .result < 128
-small c = root-below _ 128 _ _ (long (c .before .before .before .before .before .before .before .before)) (c .canonical .ensures) (omega arith)
+small c = canonical-small _ _ _ (long (c .before .before .before .before .before .before .before .before)) (c .canonical .ensures) (omega arith)
 
 empty-requires : tie.Need-empty-requires Inv-loop μ-loop
 empty-requires c κs = search needs

@@ -11,7 +11,7 @@ use Rattle.value_classes.proofs.ValueEquivalenceClasses.members.Tie as 
 
 abbrev Inv-loop : tie.InvT-loop
 Inv-loop self first₀ next₀ i₀ first next i =
-    (i ≤ 128) × (length first ≡ 128) × (length next ≡ 128) × FirstsFrom (self .parents) i first × NextsFrom (self .parents) i next
+    (i ≤ 128) × (length first ≡ 128) × (length next ≡ 128) × FirstsFrom self i first × NextsFrom self i next
 
 abbrev μ-loop : tie.MeasureT-loop
 μ-loop self first₀ next₀ i₀ first next i = i
@@ -20,7 +20,7 @@ small : (c : tie.After-canonical Inv-loop μ-loop) → c .canonical .result < 12
 small c = root-below _ 128 _ _ (search needs) (c .canonical .ensures) (omega arith)
 
 loop-holds : tie.Need-loop-holds Inv-loop μ-loop
-loop-holds c = (omega arith, refl, refl, firsts-start (c .args .self .parents), λ j lo hi. absurd (omega arith))
+loop-holds c = (omega arith, refl, refl, firsts-start (c .args .self), λ j lo hi. absurd (omega arith))
 
 sub-i : tie.Need-sub-i Inv-loop μ-loop
 sub-i c = search needs
@@ -52,8 +52,8 @@ loop-again c =
       omega arith,
       simp length-set (v .1),
       simp length-set (v .2),
-      firsts-again (start .args .self .parents) (at-loop .loop .i) _ _ (omega arith) (v .0) (c .canonical .ensures) h (at-loop .loop .first) (v .1) (v .3),
-      nexts-again (start .args .self .parents) (at-loop .loop .i) _ _ (omega arith) (v .0) (c .canonical .ensures) h (at-loop .loop .first) (v .1)
+      firsts-again (start .args .self) (at-loop .loop .i) _ _ (omega arith) (v .0) (c .canonical .ensures) h (at-loop .loop .first) (v .1) (v .3),
+      nexts-again (start .args .self) (at-loop .loop .i) _ _ (omega arith) (v .0) (c .canonical .ensures) h (at-loop .loop .first) (v .1)
           (at-loop .loop .next) (v .2) (v .3) (v .4),
     )
 
