@@ -1,12 +1,11 @@
 -- A union in a settled set moves one place only, and a union after which the parents are in order leaves a settled set. Assumes nothing.
-use Prim.Native.Nat.{ℕ, _<_, min, max}
+use Prim.Native.Nat.{ℕ, _<_}
 use mathlib.Core.Path.{_≡_, sym, ap, subst, _∙_}
 use mathlib.Core.Bool.{true}
-use mathlib.Core.List.{List}
 use native.Mathlib.Omega.{arith}
 use lib.ListN.{length, set}
 use Rattle.value_classes.specs.Parents.{parentsOk, joined}
-use Rattle.value_classes.proofs.RootLaws.{falls, root-below, root-idempotent, joined-length}
+use Rattle.value_classes.proofs.RootLaws.{root-below, joined-length}
 use Rattle.constraint_spec.specs.Sets.{none, noEntry, parentsOf, canonicalAt, withClasses, normalized, unionValues}
 use Rattle.constraint_spec.specs.declared.Holder.{Holder}
 use Rattle.constraint_spec.specs.declared.Entry.{Entry}
@@ -16,8 +15,9 @@ use Rattle.constraint_spec.proofs.Operations.{union-one, union-two}
 use Rattle.constraint_set.specs.Settled.{nullOn, placeAt, Settled, unitedRoots}
 use Rattle.constraint_set.specs.declared.Place.{Place}
 use Rattle.constraint_set.specs.declared.RootPair.{RootPair}
-use Rattle.constraint_set.proofs.Settling.{normalized-settled, joined-normalized}
+use Rattle.constraint_set.proofs.Settling.{normalized-settled}
 use Rattle.constraint_set.proofs.Uniting.{rootsWritten}
+use Rattle.constraint_set.proofs.RootJoins.{united-left, united-right}
 
 -- ---- what the code writes for two representatives
 abbrev pub rootsBy : ConstraintSet → ℕ → ℕ → RootPair
@@ -37,28 +37,11 @@ module _ (s : ConstraintSet) (i j : ℕ) (hi : i < 128) (hj : j < 128) where
     y-low : y < 128
     y-low = root-below (parentsOf s) 128 j y (g .many) ey hj
 
-    own : (k z : ℕ) → z ≡ canonicalAt s k → canonicalAt s z ≡ z
-    own k z e = subst (λ (n : ℕ). canonicalAt s n ≡ n) (sym e) (root-idempotent (parentsOf s) (falls (parentsOf s) (g .ok)) k)
-
-    united-is : (a b : ℕ) → a < b → b < 128 → canonicalAt s a ≡ a → joined (parentsOf s) i j ≡ set (parentsOf s) b a → (x ≡ y → ⊥) → unitedRoots s a b
-        ≡ unionValues s i j
-    united-is a b less high o e d =
-        sym (union-two s i j hi hj (λ z. d (ex ∙ z ∙ sym ey)) ∙ ap (λ (p : List ℕ). normalized (withClasses s (record { parents = p }))) e ∙ joined-normalized
-        s g a b less high o)
-
     pub left-lower : (t : ConstraintSet) → x < y → t ≡ unitedRoots s x y → t ≡ unionValues s i j
-    unfolding joined
-    left-lower t h e =
-        let m : max x y ≡ y = omega arith in
-        let n : min x y ≡ x = omega arith in
-        e ∙ united-is x y h y-low (own i x ex) (rw (← ex, ← ey, m, n)) (λ z. omega arith)
+    left-lower t h e = e ∙ (λ k. unitedRoots s (ex k) (ey k)) ∙ united-left s g i j hi hj (rw (← ex, ← ey) h)
 
     pub right-lower : (t : ConstraintSet) → y < x → t ≡ unitedRoots s y x → t ≡ unionValues s i j
-    unfolding joined
-    right-lower t h e =
-        let m : max x y ≡ x = omega arith in
-        let n : min x y ≡ y = omega arith in
-        e ∙ united-is y x h x-low (own j y ey) (rw (← ex, ← ey, m, n)) (λ z. omega arith)
+    right-lower t h e = e ∙ (λ k. unitedRoots s (ey k) (ex k)) ∙ united-right s g i j hi hj (rw (← ex, ← ey) h)
 
     pub neither-lower : (x < y → ⊥) → (y < x → ⊥) → s ≡ unionValues s i j
     neither-lower n m = let e : x ≡ y = omega arith in sym (union-one s i j hi hj (sym ex ∙ e ∙ ey))

@@ -7,15 +7,14 @@ use native.Mathlib.Omega.{arith}
 use borrow.Author.Tests.{lt-ltb, ltb-true}
 use lib.Dec.{T, ltb}
 use lib.ListN.{length, getD, set}
-use Rattle.lists.proofs.RangeLaws.{and-left, and-right}
+use Rattle.laws.proofs.Bools.{and-left, and-right}
 use Rattle.value_classes.specs.Parents.{joined, parentsOk}
 use Rattle.value_classes.specs.Classes.{canonicalOf, unionOf}
 use Rattle.value_classes.specs.declared.ValueEquivalenceClasses.{ValueEquivalenceClasses}
 use Rattle.value_classes.specs.declared.United.{United}
 use Rattle.value_classes.specs.declared.Members.{Members}
-use Rattle.value_classes.proofs.RootLaws.{falls, root-below, root-idempotent}
 use Rattle.value_classes.proofs.Unions.{union-joined, union-same}
-use Rattle.constraint_spec.specs.Sets.{none, noEntry, parentsOf, canonicalAt, withClasses, normalized, unionBy, unionValues}
+use Rattle.constraint_spec.specs.Sets.{none, noEntry, canonicalAt, withClasses, normalized, unionBy, unionValues}
 use Rattle.constraint_spec.specs.declared.Holder.{Holder}
 use Rattle.constraint_spec.specs.declared.Entry.{Entry}
 use Rattle.constraint_spec.specs.declared.ConstraintSet.{ConstraintSet}
@@ -27,6 +26,7 @@ use Rattle.constraint_set.specs.declared.RootPair.{RootPair}
 use Rattle.constraint_merge.proofs.Merging.{chained-past, chained-none, chained-step}
 use Rattle.constraint_set.proofs.Uniting.{rootsWritten}
 use Rattle.constraint_set.proofs.Settling.{normalized-settled, joined-normalized, united-settled}
+use Rattle.constraint_set.proofs.RootJoins.{canonical-low, canonical-own}
 
 -- ---- a union of two identities in a settled set
 module _ (s : ConstraintSet) (g : Settled s) (l r : ℕ) (hl : l < 128) (hr : r < 128) where
@@ -39,17 +39,14 @@ module _ (s : ConstraintSet) (g : Settled s) (l r : ℕ) (hl : l < 128) (hr : r 
   abbrev y : ℕ
   y = canonicalAt s r
 
-  own : (i : ℕ) → canonicalAt s (canonicalAt s i) ≡ canonicalAt s i
-  own i = root-idempotent (parentsOf s) (falls (parentsOf s) (g .ok)) i
-
   own-low : canonicalAt s (min x y) ≡ min x y
   own-low = elim (decLe x y) [
-    | yes h ↦ (let e : min x y ≡ x = omega arith in rw e (own l))
-    | no h ↦ (let e : min x y ≡ y = omega arith in rw e (own r))
+    | yes h ↦ (let e : min x y ≡ x = omega arith in rw e (canonical-own s g l))
+    | no h ↦ (let e : min x y ≡ y = omega arith in rw e (canonical-own s g r))
   ]
 
   pub high-small : max x y < 128
-  high-small = omega (arith, root-below (parentsOf s) 128 l x (g .many) refl hl, root-below (parentsOf s) 128 r y (g .many) refl hr)
+  high-small = omega (arith, canonical-low s g l hl, canonical-low s g r hr)
 
   apart : min x y < max x y → unionValues s l r ≡ unitedRoots s (min x y) (max x y)
   unfolding unionValues
@@ -75,10 +72,10 @@ module _ (s : ConstraintSet) (g : Settled s) (l r : ℕ) (hl : l < 128) (hr : r 
   high-below = subst (λ (v : RootPair). v .high < 128) (sym ew) (high-small s g l r hl hr)
 
   -- one turn of the loop, with a union and without
-  pub turned : (at : Place) (bare : Holder) (nowhere : Entry) → w .low < w .high → at ≡ placeAt s (w .low) (w .high) → bare ≡ none → nowhere ≡ noEntry
+  pub turn-united : (at : Place) (bare : Holder) (nowhere : Entry) → w .low < w .high → at ≡ placeAt s (w .low) (w .high) → bare ≡ none → nowhere ≡ noEntry
       → rootsWritten s w at bare nowhere ≡ unionValues s l r
   unfolding rootPair unitedRoots joined nullOn
-  turned at bare nowhere h ea eb en =
+  turn-united at bare nowhere h ea eb en =
       (λ i. rootsWritten s (ew i) ((ea ∙ ap (λ (v : RootPair). placeAt s (v .low) (v .high)) ew) i) (eb i) (en i))
       ∙ sym (apart s g l r hl hr (subst (λ (v : RootPair). v .low < v .high) ew h))
 
@@ -112,16 +109,16 @@ module _ (c : ValueEquivalenceClasses) (l r x y : ℕ) (ex : x ≡ canonicalOf c
   abbrev rootsBy : ℕ → ℕ → RootPair
   rootsBy a b = record { classes = record { parents = set (c .parents) b a }; low = a; high = b }
 
-  pub left-lower : x < y → rootsBy x y ≡ rootPair c l r
+  pub pair-left : x < y → rootsBy x y ≡ rootPair c l r
   unfolding rootPair joined
-  left-lower h =
+  pair-left h =
       let m : max x y ≡ y = omega arith in
       let n : min x y ≡ x = omega arith in
       rw (← ex, ← ey, m, n)
 
-  pub right-lower : y ≤ x → rootsBy y x ≡ rootPair c l r
+  pub pair-right : y ≤ x → rootsBy y x ≡ rootPair c l r
   unfolding rootPair joined
-  right-lower h =
+  pair-right h =
       let m : max x y ≡ x = omega arith in
       let n : min x y ≡ y = omega arith in
       rw (← ex, ← ey, m, n)
@@ -130,11 +127,11 @@ module _ (c : ValueEquivalenceClasses) (l r x y : ℕ) (ex : x ≡ canonicalOf c
 abbrev pub more : ℕ → ℕ → Bool
 more n m = ltb 0 n && ltb m 128
 
-pub goes-on : (n m : ℕ) → more n m ≡ true → (0 < n) × (m < 128)
-goes-on n m e = (ltb-true _ _ (and-left (ltb 0 n) (ltb m 128) e), ltb-true _ _ (and-right (ltb 0 n) (ltb m 128) e))
+pub members-go-on : (n m : ℕ) → more n m ≡ true → (0 < n) × (m < 128)
+members-go-on n m e = (ltb-true _ _ (and-left (ltb 0 n) (ltb m 128) e), ltb-true _ _ (and-right (ltb 0 n) (ltb m 128) e))
 
 pub goes-on-unsettled : (n m : ℕ) (b : Bool) → (more n m && not b) ≡ true → (0 < n) × (m < 128)
-goes-on-unsettled n m b e = goes-on n m (and-left (more n m) (not b) e)
+goes-on-unsettled n m b e = members-go-on n m (and-left (more n m) (not b) e)
 
 pub unsettled-ended : (n m : ℕ) (b : Bool) → (more n m && not b) ≡ false → b ≡ false → more n m ≡ false
 unsettled-ended n m b e d = sym (and-true (more n m)) ∙ ap (λ (x : Bool). more n m && not x) (sym d) ∙ e

@@ -6,6 +6,7 @@ use Prim.Native.Nat.{ℕ, _+_, _<_, _≤_}
 use lib.Dec.{eqb}
 use lib.ListN.{set}
 use borrow.Author.Tests.{eqb-true, eq-eqb, ne-eqb, lt-ltb, le-ltb, le-leb, lt-leb}
+use Rattle.laws.proofs.Bools.{cond-elim}
 use Rattle.comparison.specs.declared.BinaryOp.{BinaryOp}
 use Rattle.comparison.specs.Operators.{binaryOpOf}
 use Rattle.plan_kinds.specs.declared.Record.{Record}
@@ -36,10 +37,6 @@ use Rattle.expr_simplify.specs.declared.Tally.{Tally}
 use Rattle.expr_simplify.specs.Passage.{itemsOf, tablesOf, resultOf, Out, plainOut, reserved, rebuiltOut, bottomOf, backItems}
 
 -- ---- shapes
-pub choose : {A : Type 0} (P : A → Type 0) (b : Bool) (x y : A) → (b ≡ true → P x) → (b ≡ false → P y) → P (cond b x y)
-choose P true x y f g = f refl
-choose P false x y f g = g refl
-
 pub unary-not : (n : ℕ) (e : Expr) → n ≡ 0 → Not e ≡ unaryShape (unaryOpOf n) e
 unary-not n e p = rw (eq-eqb n 0 p)
 
@@ -80,16 +77,16 @@ module _ (x : Record) (start : ℕ) where
       let k = x .kind in
       let P : ExprData → Type 0 = λ d. Other ≡ shapeOf d in
       let Q : ScalarValue → Type 0 = λ v. Other ≡ literalShape v in
-      choose P (eqb k 0x20) _ _ (λ t. refl)
-      (λ t. choose P (eqb k 0x21) _ _ (λ t. absurd (n2 (eqb-true k 0x21 t)))
-      (λ t. choose P (eqb k 0x22) _ _ (λ t. absurd (n3 (eqb-true k 0x22 t)))
-      (λ t. choose P (eqb k 0x23) _ _ (λ t. absurd (n4 (eqb-true k 0x23 t)))
-      (λ t. choose Q (eqb k 0x10) _ _ (λ t. refl)
-      (λ t. choose Q (eqb k 0x11) _ _ (λ t. absurd (n1 (eqb-true k 0x11 t)))
-      (λ t. choose Q (eqb k 0x12) _ _ (λ t. refl)
-      (λ t. choose Q (eqb k 0x13) _ _ (λ t. refl)
-      (λ t. choose Q (eqb k 0x14) _ _ (λ t. refl)
-      (λ t. choose Q (eqb k 0x15) _ _ (λ t. refl) (λ t. refl))))))))))
+      cond-elim P (eqb k 0x20) _ _ (λ t. refl)
+      (λ t. cond-elim P (eqb k 0x21) _ _ (λ t. absurd (n2 (eqb-true k 0x21 t)))
+      (λ t. cond-elim P (eqb k 0x22) _ _ (λ t. absurd (n3 (eqb-true k 0x22 t)))
+      (λ t. cond-elim P (eqb k 0x23) _ _ (λ t. absurd (n4 (eqb-true k 0x23 t)))
+      (λ t. cond-elim Q (eqb k 0x10) _ _ (λ t. refl)
+      (λ t. cond-elim Q (eqb k 0x11) _ _ (λ t. absurd (n1 (eqb-true k 0x11 t)))
+      (λ t. cond-elim Q (eqb k 0x12) _ _ (λ t. refl)
+      (λ t. cond-elim Q (eqb k 0x13) _ _ (λ t. refl)
+      (λ t. cond-elim Q (eqb k 0x14) _ _ (λ t. refl)
+      (λ t. cond-elim Q (eqb k 0x15) _ _ (λ t. refl) (λ t. refl))))))))))
 
   -- what an operator holds
   pub held-selection : x .kind ≡ 0x33 → One (record { 0 = x .a }) ≡ heldOf (operatorData x start)
@@ -122,20 +119,20 @@ module _ (x : Record) (start : ℕ) where
   held-nothing n1 n2 n3 n4 n5 n6 =
       let k = x .kind in
       let P : OperatorData → Type 0 = λ d. Nothing ≡ heldOf d in
-      choose P (eqb k 0x30) _ _ (λ t. refl)
-      (λ t. choose P (eqb k 0x31) _ _ (λ t. refl)
-      (λ t. choose P (eqb k 0x32) _ _ (λ t. refl)
-      (λ t. choose P (eqb k 0x33) _ _ (λ t. absurd (n1 (eqb-true k 0x33 t)))
-      (λ t. choose P (eqb k 0x34) _ _ (λ t. refl)
-      (λ t. choose P (eqb k 0x35) _ _ (λ t. refl)
-      (λ t. choose P (eqb k 0x36) _ _ (λ t. absurd (n4 (eqb-true k 0x36 t)))
-      (λ t. choose P (eqb k 0x37) _ _ (λ t. absurd (n5 (eqb-true k 0x37 t)))
-      (λ t. choose P (eqb k 0x38) _ _ (λ t. absurd (n6 (eqb-true k 0x38 t)))
-      (λ t. choose P (eqb k 0x39) _ _ (λ t. refl)
-      (λ t. choose P (eqb k 0x3A) _ _ (λ t. refl)
-      (λ t. choose P (eqb k 0x3B) _ _ (λ t. refl)
-      (λ t. choose P (eqb k 0x3C) _ _ (λ t. absurd (n2 (eqb-true k 0x3C t)))
-      (λ t. choose P (eqb k 0x3D) _ _ (λ t. absurd (n3 (eqb-true k 0x3D t))) (λ t. refl))))))))))))))
+      cond-elim P (eqb k 0x30) _ _ (λ t. refl)
+      (λ t. cond-elim P (eqb k 0x31) _ _ (λ t. refl)
+      (λ t. cond-elim P (eqb k 0x32) _ _ (λ t. refl)
+      (λ t. cond-elim P (eqb k 0x33) _ _ (λ t. absurd (n1 (eqb-true k 0x33 t)))
+      (λ t. cond-elim P (eqb k 0x34) _ _ (λ t. refl)
+      (λ t. cond-elim P (eqb k 0x35) _ _ (λ t. refl)
+      (λ t. cond-elim P (eqb k 0x36) _ _ (λ t. absurd (n4 (eqb-true k 0x36 t)))
+      (λ t. cond-elim P (eqb k 0x37) _ _ (λ t. absurd (n5 (eqb-true k 0x37 t)))
+      (λ t. cond-elim P (eqb k 0x38) _ _ (λ t. absurd (n6 (eqb-true k 0x38 t)))
+      (λ t. cond-elim P (eqb k 0x39) _ _ (λ t. refl)
+      (λ t. cond-elim P (eqb k 0x3A) _ _ (λ t. refl)
+      (λ t. cond-elim P (eqb k 0x3B) _ _ (λ t. refl)
+      (λ t. cond-elim P (eqb k 0x3C) _ _ (λ t. absurd (n2 (eqb-true k 0x3C t)))
+      (λ t. cond-elim P (eqb k 0x3D) _ _ (λ t. absurd (n3 (eqb-true k 0x3D t))) (λ t. refl))))))))))))))
 
 -- ---- how far it came
 module _ (kind code a b start bits ia ib : List ℕ) where

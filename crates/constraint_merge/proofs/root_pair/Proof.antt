@@ -1,4 +1,4 @@
-use Rattle.constraint_merge.proofs.Uniting.{left-lower, right-lower}
+use Rattle.constraint_merge.proofs.Uniting.{pair-left, pair-right}
 use Rattle.value_classes.proofs.RootLaws.{root-below}
 use native.Mathlib.Omega.{arith}
 use borrow.Author.Needs.{needs}
@@ -38,7 +38,7 @@ returns : tie.Need-returns
 returns c =
     let start = c .before .before .before in
     let args = start .args in
-    left-lower (args .classes) (args .left) (args .right) (c .before .before .canonical .result) (c .before .canonical2 .result)
+    pair-left (args .classes) (args .left) (args .right) (c .before .before .canonical .result) (c .before .canonical2 .result)
     (c .before .before .canonical .ensures) (c .before .canonical2 .ensures) (c .if1 .taken)
 
 -- src/lib.rt:44:20
@@ -63,7 +63,7 @@ returns-2 : tie.Need-returns-2
 returns-2 c =
     let start = c .before .before .before in
     let args = start .args in
-    right-lower (args .classes) (args .left) (args .right) (c .before .before .canonical .result) (c .before .canonical2 .result)
+    pair-right (args .classes) (args .left) (args .right) (c .before .before .canonical .result) (c .before .canonical2 .result)
     (c .before .before .canonical .ensures) (c .before .canonical2 .ensures) (c .if1 .left)
 
 pub root-pair-spec : {M : Type 1} → statement M
