@@ -243,10 +243,6 @@ none-outside : (n : Number) → outside n unboundedRange ≡ false
 none-outside M.Nothing = refl
 none-outside (M.Of x) = refl
 
-and-none : (b : Bool) → (b && false) ≡ false
-and-none true = refl
-and-none false = refl
-
 -- an entry without bounds is crossed by nothing
 entry-crossed : (h : Holder) (present : Bool) (t : ValueRange) → crossed h (entryOf (cond present t unboundedRange)) ≡ crossed h
     (record { present = present; range = t })

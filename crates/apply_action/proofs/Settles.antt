@@ -9,6 +9,7 @@ use native.Mathlib.Omega.{arith}
 use lib.Dec.{T}
 use lib.ListN.{getD, set, length-set}
 use lib.Seq.{getD-set-same, getD-set-other}
+use Rattle.laws.proofs.Bools.{or-inr, or-inl}
 use Rattle.value_range.specs.Ranges.{unboundedRange}
 use Rattle.value_range.specs.declared.ValueRange.{ValueRange}
 use Rattle.value_classes.proofs.ClassLaws.{falling, canonical-idempotent}
@@ -18,7 +19,6 @@ use Rattle.constraint_spec.specs.declared.Entry as En
 use Rattle.constraint_spec.specs.declared.ConstraintSet.{ConstraintSet}
 use Rattle.constraint_set.specs.Checked.{Checked}
 use Rattle.constraint_set.specs.Settled.{nullOn, literalOn, rangeOn, rangeBad, Stands, Settled}
-use Rattle.constraint_set.proofs.Passes.{or-here, or-before}
 use Rattle.constraint_set.proofs.Contents.{null-same, literal-again, range-again, range-tells}
 use Rattle.apply_action.specs.Actions.{firstOf, Proper}
 use Rattle.apply_action.specs.Cells.{cellOf, withCell, nonNullCell, literalCell, boundCell, entryCell, cellAfter}
@@ -56,8 +56,8 @@ made-full x e = go (x .present) (x .range) e
     go false t e = absurd (subst T (sym e) tt)
 
 -- a flag that is set for what comes or was set before for what was there
-told : (f x y was : Bool) → (was ≡ true → f ≡ true) → (x ≡ true) ⊎ (was ≡ true) → ((f || x) || y) ≡ true
-told f x y was h = ⊎-elim (λ (t : x ≡ true). or-before (f || x) y (or-here f x t)) (λ t. or-before (f || x) y (or-before f x (h t)))
+or-told : (f x y was : Bool) → (was ≡ true → f ≡ true) → (x ≡ true) ⊎ (was ≡ true) → ((f || x) || y) ≡ true
+or-told f x y was h = ⊎-elim (λ (t : x ≡ true). or-inl (f || x) y (or-inr f x t)) (λ t. or-inl (f || x) y (or-inl f x (h t)))
 
 module _ (u : ConstraintSet) (g : Settled u) (r : ℕ) (low : r < 128) where
   abbrev old : Cell
@@ -80,15 +80,15 @@ module _ (u : ConstraintSet) (g : Settled u) (r : ℕ) (low : r < 128) where
   fit-after (Literal i v) = record {
     literal-so = literal-again (literalAt u r) (held v) (g .equal .same r low);
     entry-so = g .within .same r low;
-    empty-told = λ e. or-before _ _ (or-before _ _ (g .quiet r low e));
-    stays = λ e. or-before _ _ (or-before _ _ e);
+    empty-told = λ e. or-inl _ _ (or-inl _ _ (g .quiet r low e));
+    stays = λ e. or-inl _ _ (or-inl _ _ e);
   }
   fit-after (Bound i op x) = record {
     literal-so = g .equal .same r low;
     entry-so = range-again (entryAt u r) (entryOf (boundsBy op x)) (g .within .same r low);
-    empty-told = λ e. told (u .contradictory) (rangeBad (entryAt u r) (entryOf (boundsBy op x))) _ (rangeBad noEntry (entryAt u r)) (g .quiet r low)
+    empty-told = λ e. or-told (u .contradictory) (rangeBad (entryAt u r) (entryOf (boundsBy op x))) _ (rangeBad noEntry (entryAt u r)) (g .quiet r low)
         (range-tells (entryAt u r) (entryOf (boundsBy op x)) (g .within .same r low) e);
-    stays = λ e. or-before _ _ (or-before _ _ e);
+    stays = λ e. or-inl _ _ (or-inl _ _ e);
   }
   fit-after (Entry i) = record {
     literal-so = g .equal .same r low;

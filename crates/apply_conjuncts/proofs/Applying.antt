@@ -9,8 +9,8 @@ use native.Mathlib.Numerals.{add-one}
 use lib.ListN.{length, getD, take, drop, drop-of-length-le}
 use lib.Seq.{drop-cons, length-take-le}
 use borrow.Author.Tests.{ltb-true, ltb-false, not-true}
-use Rattle.lists.proofs.RangeLaws.{and-left, and-right}
 use Rattle.value_classes.specs.Classes.{Whole, classesOk, canonicalOf}
+use Rattle.laws.proofs.Bools.{and-left, and-right}
 use Rattle.value_classes.specs.Listed.{rootsOf}
 use Rattle.value_classes.specs.declared.Roots.{Roots}
 use Rattle.value_classes.specs.declared.ValueEquivalenceClasses.{ValueEquivalenceClasses}
@@ -27,6 +27,7 @@ use Rattle.constraint_set.specs.declared.Kept.{Kept}
 use Rattle.constraint_set.proofs.Checking.{just-checked}
 use Rattle.plan_data.specs.declared.ExprData.{ExprData}
 use Rattle.apply_spec.specs.Apply.{conjunctApplied, allApplied}
+use Rattle.apply_spec.proofs.Applications.{refused-stays}
 use Rattle.apply_action.specs.Actions.{acted, actionOf, firstOf, secondOf, isChecking, isResidual, Proper}
 use Rattle.apply_action.specs.Cells.{cellOf, withCell, cellAfter}
 use Rattle.apply_action.specs.declared.Action.{Action}
@@ -47,12 +48,6 @@ pub record Turning (apply : ConstraintSet → ℕ → Applied) (hs : List ℕ) (
     pub to-come : allApplied apply hs (done s) ≡ allApplied apply (drop k hs) (appliedOf q refused)
 
 module _ (apply : ConstraintSet → ℕ → Applied) where
-  -- a refusal stays
-  pub refused-stays : (hs : List ℕ) (a : Applied) → a .refused ≡ true → allApplied apply hs a ≡ a
-  unfolding allApplied
-  refused-stays [] a e = refl
-  refused-stays (h ∷ hs) a e = ap (λ (t : Bool). allApplied apply hs (cond t a (apply (a .constraints) h))) e ∙ refused-stays hs a e
-
   -- the conjuncts of two lists, one after the other
   pub applied-append : (xs ys : List ℕ) (a : Applied) → allApplied apply (xs ++ ys) a ≡ allApplied apply ys (allApplied apply xs a)
   unfolding allApplied
@@ -73,7 +68,7 @@ module _ (apply : ConstraintSet → ℕ → Applied) where
     where
       go : (t r : Bool) → ltb k n ≡ t → refused ≡ r → (t && not r) ≡ false → allApplied apply (drop k hs) (appliedOf q refused) ≡ appliedOf q refused
       go false r p z f = let d : k ≡ n = omega (arith, ltb-false k n p) in rw (drop-of-length-le hs {i = k} (omega arith))
-      go true true p z f = refused-stays (drop k hs) (appliedOf q refused) z
+      go true true p z f = refused-stays apply (drop k hs) (appliedOf q refused) z
       go true false p z f = cc
 
 -- ---- the table of representatives

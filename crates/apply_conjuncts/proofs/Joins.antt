@@ -5,8 +5,8 @@ use mathlib.Core.Bool.{true}
 use native.Mathlib.Omega.{arith}
 use Rattle.value_classes.specs.Classes.{Whole, classesOk, joinedClasses, rootsJoined}
 use Rattle.value_classes.specs.declared.ValueEquivalenceClasses.{ValueEquivalenceClasses}
-use Rattle.value_classes.proofs.ClassLaws.{falling, canonical-small, canonical-idempotent, joined-whole, rootsAnswered, roots-answered, joined-to-left}
-use Rattle.value_classes.proofs.ClassLaws.{joined-to-right}
+use Rattle.value_classes.proofs.ClassLaws.{falling, canonical-small, canonical-idempotent, joined-whole, rootsAnswered, roots-answered}
+use Rattle.value_classes.proofs.ClassLaws.{joined-to-left, joined-to-right}
 use Rattle.constraint_spec.specs.Sets.{none, noEntry, classesOf, canonicalAt, withClasses, normalized, unionValues}
 use Rattle.constraint_spec.specs.declared.Holder.{Holder}
 use Rattle.constraint_spec.specs.declared.Entry.{Entry}
@@ -16,8 +16,9 @@ use Rattle.constraint_spec.proofs.Operations.{union-one, union-two}
 use Rattle.constraint_set.specs.Settled.{nullOn, placeAt, Settled, unitedRoots}
 use Rattle.constraint_set.specs.declared.Place.{Place}
 use Rattle.constraint_set.specs.declared.RootPair.{RootPair}
-use Rattle.constraint_set.proofs.Settling.{normalized-settled, joined-normalized}
+use Rattle.constraint_set.proofs.Settling.{normalized-settled}
 use Rattle.constraint_set.proofs.Uniting.{rootsWritten}
+use Rattle.constraint_set.proofs.RootJoins.{united-left, united-right}
 
 -- ---- what the code writes for two representatives
 abbrev pub rootsBy : ValueEquivalenceClasses → ℕ → ℕ → RootPair
@@ -40,20 +41,11 @@ module _ (s : ConstraintSet) (i j : ℕ) (hi : i < 128) (hj : j < 128) where
     y-low : y < 128
     y-low = canonical-small (classesOf s) j y (g .many) ey hj
 
-    own : (k z : ℕ) → z ≡ canonicalAt s k → canonicalAt s z ≡ z
-    own k z e = subst (λ (n : ℕ). canonicalAt s n ≡ n) (sym e) (canonical-idempotent (classesOf s) (falling (classesOf s) (g .ok)) k)
-
-    united-is : (a b : ℕ) → a < b → b < 128 → canonicalAt s a ≡ a → joinedClasses (classesOf s) i j ≡ rootsJoined (classesOf s) a b → (x ≡ y → ⊥)
-        → unitedRoots s a b ≡ unionValues s i j
-    united-is a b less high o e d =
-        sym (union-two s i j hi hj (λ z. d (ex ∙ z ∙ sym ey)) ∙ ap (λ (k : ValueEquivalenceClasses). normalized (withClasses s k)) e
-        ∙ joined-normalized s g a b less high o)
-
     pub left-lower : (t : ConstraintSet) → x < y → t ≡ unitedRoots s x y → t ≡ unionValues s i j
-    left-lower t h e = e ∙ united-is x y h y-low (own i x ex) (joined-to-left (classesOf s) i j x y ex ey (omega arith)) (λ z. omega arith)
+    left-lower t h e = e ∙ (λ k. unitedRoots s (ex k) (ey k)) ∙ united-left s g i j hi hj (rw (← ex, ← ey) h)
 
     pub right-lower : (t : ConstraintSet) → y < x → t ≡ unitedRoots s y x → t ≡ unionValues s i j
-    right-lower t h e = e ∙ united-is y x h x-low (own j y ey) (joined-to-right (classesOf s) i j x y ex ey (omega arith)) (λ z. omega arith)
+    right-lower t h e = e ∙ (λ k. unitedRoots s (ey k) (ex k)) ∙ united-right s g i j hi hj (rw (← ex, ← ey) h)
 
     pub neither-lower : (x < y → ⊥) → (y < x → ⊥) → s ≡ unionValues s i j
     neither-lower n m = let e : x ≡ y = omega arith in sym (union-one s i j hi hj (sym ex ∙ e ∙ ey))

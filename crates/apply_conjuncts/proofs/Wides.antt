@@ -5,6 +5,7 @@ use mathlib.Core.Bool.{Bool, true, false, cond}
 use native.Mathlib.Omega.{arith}
 use native.Mathlib.Decide.{ℕ-discrete}
 use lib.ListN.{replicate, length-set, length-replicate}
+use Rattle.laws.proofs.Bools.{cond-T-elim}
 use Rattle.scalar.specs.declared.ScalarValue.{ScalarValue}
 use Rattle.value_range.specs.declared.ValueRange.{ValueRange}
 use Rattle.value_classes.specs.Classes.{Whole}
@@ -17,7 +18,7 @@ use Rattle.constraint_spec.specs.declared.Entry.{Entry}
 use Rattle.constraint_spec.specs.declared.ConstraintSet.{ConstraintSet}
 use Rattle.constraint_spec.proofs.Beside.{beside-self, beside-normalized}
 use Rattle.constraint_spec.proofs.Operations.{union-one, union-two}
-use Rattle.constraint_spec.proofs.Steps.{steps-good, pick-has}
+use Rattle.constraint_spec.proofs.Steps.{steps-good}
 use Rattle.apply_action.specs.Cells.{withCell}
 use Rattle.apply_action.specs.declared.Cell.{Cell}
 use Rattle.apply_action.proofs.CellLaws.{Long}
@@ -44,14 +45,14 @@ module _ (s : ConstraintSet) (l : Long s) where
   nulls-long : Long (nonNullsMoved s)
   unfolding nonNullsMoved
   nulls-long =
-      steps-good Long (moveNonNull s) 128 (λ i h u e. pick-has Long (nonNullAt s i) (putNonNull u (canonicalAt s i)) u (λ c. null-long u e (canonicalAt s i))
+      steps-good Long (moveNonNull s) 128 (λ i h u e. cond-T-elim Long (nonNullAt s i) (putNonNull u (canonicalAt s i)) u (λ c. null-long u e (canonicalAt s i))
       e) 128 (omega arith) (withNonNulls s (replicate 128 false)) l
 
   literals-long : Long (literalsMoved s)
   unfolding literalsMoved
   literals-long =
       steps-good Long (moveLiteral s) 128
-      (λ i h u e. pick-has Long (literalAt s i .present) (putLiteral u (canonicalAt s i) (literalAt s i .value)) u
+      (λ i h u e. cond-T-elim Long (literalAt s i .present) (putLiteral u (canonicalAt s i) (literalAt s i .value)) u
       (λ c. literal-long u e (canonicalAt s i) (literalAt s i .value)) e)
       128 (omega arith) (withLiterals s (replicate 128 none)) (length-replicate {A = Holder} 128 none, l .1)
 
@@ -59,7 +60,7 @@ module _ (s : ConstraintSet) (l : Long s) where
   unfolding rangesMoved
   ranges-long =
       steps-good Long (moveRange s) 128
-      (λ i h u e. pick-has Long (entryAt s i .present) (putRange u (canonicalAt s i) (entryAt s i .range)) u
+      (λ i h u e. cond-T-elim Long (entryAt s i .present) (putRange u (canonicalAt s i) (entryAt s i .range)) u
       (λ c. range-long u e (canonicalAt s i) (entryAt s i .range)) e)
       128 (omega arith) (withRanges s (replicate 128 noEntry)) (l .0, length-replicate {A = Entry} 128 noEntry)
 

@@ -9,7 +9,7 @@ use lib.Dec.{ltb}
 use lib.ListN.{length, getD, set, take, length-set}
 use lib.Seq.{take-suc-set}
 use borrow.Author.Tests.{ltb-true, ltb-false}
-use Rattle.lists.proofs.RangeLaws.{and-left, and-right}
+use Rattle.laws.proofs.Bools.{and-left, and-right}
 use Rattle.plan_data.specs.Nodes.{nodeOf}
 use Rattle.apply_walk.specs.declared.Walk.{Walk}
 use Rattle.apply_walk.proofs.Rests.{Good, restOf, stepsLeft}
@@ -17,7 +17,7 @@ use Rattle.apply_walk.specs.declared.Move.{Move}
 use Rattle.apply_walk.specs.declared.Move.the-variants.{Pop, Skip, Enter, Found}
 use Rattle.apply_walk.specs.Walks.{ownerAt, placeAt, leftAt, popped, passed, turnOf}
 use Rattle.apply_walk.proofs.Stepping.{Goes, no-steps, some-steps}
-use Rattle.apply_walk.proofs.WalkTurns.{turn-said, deeper, pop-turn, skip-turn, found-turn, enter-turn, enter-within}
+use Rattle.apply_walk.proofs.WalkTurns.{move-said, deeper, pop-turn, skip-turn, found-turn, enter-turn, enter-within}
 
 module _ (kind code a start items : List ℕ) where
   abbrev steps : Walk → ℕ
@@ -76,8 +76,8 @@ at-most had = omega (arith, had .one-each, had .few)
 -- the walk is done, or 1,024 turns are: something was done either way
 module _ {kind code a start items : List ℕ} {w v : Walk} {handles : List ℕ} {n j : ℕ} (long : length items ≡ 2048)
     (had : Collected kind code a start items w v handles n j) where
-  pub less-left : (ltb 0 (v .depth) && ltb j 1024) ≡ false → 0 < w .depth → stepsLeft kind code a start items v < stepsLeft kind code a start items w
-  less-left ended some = go (ltb 0 (v .depth)) (ltb j 1024) refl refl ended
+  pub walk-less-left : (ltb 0 (v .depth) && ltb j 1024) ≡ false → 0 < w .depth → stepsLeft kind code a start items v < stepsLeft kind code a start items w
+  walk-less-left ended some = go (ltb 0 (v .depth)) (ltb j 1024) refl refl ended
     where
       go : (t u : Bool) → ltb 0 (v .depth) ≡ t → ltb j 1024 ≡ u → (t && u) ≡ false → stepsLeft kind code a start items v < stepsLeft kind code a start items w
       go false u p q f =
@@ -145,13 +145,13 @@ module _ {kind code a start items : List ℕ} {w v : Walk} {handles : List ℕ} 
   Operand = (1 ≤ leftAt v k) × (placeAt v k < 2048)
 
   pub skip-operand : m ≡ Skip → Operand
-  skip-operand e = let f = turn-said kind code items (ownerAt v k) (placeAt v k) (leftAt v k) Skip (says Skip e) in (f .0, f .1)
+  skip-operand e = let f = move-said kind code items (ownerAt v k) (placeAt v k) (leftAt v k) Skip (says Skip e) in (f .0, f .1)
 
   pub found-operand : (x : ℕ) → m ≡ Found x → Operand
-  found-operand x e = let f = turn-said kind code items (ownerAt v k) (placeAt v k) (leftAt v k) (Found x) (says (Found x) e) in (f .0, f .1)
+  found-operand x e = let f = move-said kind code items (ownerAt v k) (placeAt v k) (leftAt v k) (Found x) (says (Found x) e) in (f .0, f .1)
 
   pub enter-operand : (x : ℕ) → m ≡ Enter x → Operand
-  enter-operand x e = let f = turn-said kind code items (ownerAt v k) (placeAt v k) (leftAt v k) (Enter x) (says (Enter x) e) in (f .0, f .1)
+  enter-operand x e = let f = move-said kind code items (ownerAt v k) (placeAt v k) (leftAt v k) (Enter x) (says (Enter x) e) in (f .0, f .1)
 
   pub enter-frame : (x : ℕ) → m ≡ Enter x → v .depth < 1024
   enter-frame x e = enter-within kind code a start items (t .long) v (t .had .good) k top x (says (Enter x) e)

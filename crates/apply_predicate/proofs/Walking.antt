@@ -7,20 +7,22 @@ use native.Mathlib.Omega.{arith}
 use lib.Dec.{ltb}
 use lib.ListN.{length}
 use borrow.Author.Tests.{ltb-true, ltb-false, not-true}
-use Rattle.lists.proofs.RangeLaws.{and-left, and-right}
 use Rattle.constraint_spec.specs.Sets.{appliedOf, done}
+use Rattle.laws.proofs.Bools.{and-left, and-right}
 use Rattle.constraint_spec.specs.declared.ConstraintSet.{ConstraintSet}
 use Rattle.constraint_spec.specs.declared.Applied.{Applied}
 use Rattle.plan_data.specs.Nodes.{nodeOf}
 use Rattle.plan_data.specs.declared.ExprData.{ExprData}
 use Rattle.apply_spec.specs.Conjuncts.{conjunctsTo, conjunctsOf}
 use Rattle.apply_spec.specs.Apply.{conjunctApplied, allApplied}
+use Rattle.apply_spec.proofs.Readings.{conjuncts-at}
+use Rattle.apply_spec.proofs.Applications.{refused-stays}
 use Rattle.apply_walk.specs.Walks.{isAnd, emptyWalk, entered}
 use Rattle.apply_walk.specs.declared.Walk.{Walk}
-use Rattle.apply_walk.proofs.Entries.{entry-at, other-entry}
+use Rattle.apply_walk.proofs.Entries.{other-entry}
 use Rattle.apply_walk.proofs.Rests.{restOf, Good}
 use Rattle.apply_walk.proofs.Stepping.{nothing-left, and-within, start-good, start-rest}
-use Rattle.apply_conjuncts.proofs.Applying.{refused-stays, applied-append}
+use Rattle.apply_conjuncts.proofs.Applying.{applied-append}
 
 module _ (apply : ConstraintSet → ℕ → Applied) where
   accepted : (a : Applied) → a .refused ≡ false → a ≡ done (a .constraints)
@@ -83,5 +85,5 @@ unfolding allApplied
 alone-applied kind code a b bits start items lineage e f s =
     sym
     (ap (λ (l : List ℕ). allApplied (conjunctApplied lineage (nodeOf kind code a b bits start)) l (done s))
-    (entry-at (nodeOf kind code a b bits start) items (suc e) e (omega arith)
+    (conjuncts-at (nodeOf kind code a b bits start) items (suc e) e (omega arith)
     ∙ other-entry (conjunctsTo (nodeOf kind code a b bits start) items e) items e kind code a b bits start f))

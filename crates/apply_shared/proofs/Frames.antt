@@ -1,23 +1,22 @@
 -- What a frame of a walk has to come, and what the frames of a walk cover as its turns move it. Assumes nothing.
-use Prim.Native.Nat.{ℕ, zero, suc, _+_, _-_, _<_, _≤_}
+use Prim.Native.Nat.{ℕ, suc, _+_, _-_, _<_, _≤_}
 use mathlib.Core.Path.{_≡_, refl, sym, ap, subst, _∙_}
 use mathlib.Core.Bool.{true, false, _||_}
 use mathlib.Core.List.{List, [], _∷_, _++_}
 use native.Mathlib.Omega.{arith}
 use native.Mathlib.Numerals.{add-one}
 use lib.Dec.{ltb, leb, eqb}
-use lib.ListN.{length, getD, take, drop}
-use borrow.Author.Tests.{leb-true, ne-eqb}
+use lib.ListN.{length, getD}
 use Rattle.plan_data.specs.Nodes.{nodeOf}
 use Rattle.plan_data.specs.declared.ExprData.{ExprData}
-use Rattle.apply_spec.specs.Conjuncts.{joinedOf, conjunctsTo, conjunctsOf}
+use Rattle.apply_spec.specs.Conjuncts.{conjunctsTo, conjunctsOf}
+use Rattle.apply_spec.proofs.Readings.{conjuncts-past, conjuncts-at}
 use Rattle.apply_walk.specs.declared.Walk.{Walk}
 use Rattle.apply_walk.specs.Walks.{isAnd, emptyWalk, ownerAt, placeAt, leftAt, pushed, popped, passed, entered}
-use Rattle.apply_walk.proofs.Guards.{or-second}
-use Rattle.apply_walk.proofs.Entries.{entry-at, entry-past, and-entry, other-entry}
-use Rattle.apply_walk.proofs.Rests.{frameOf, runRest, restOf, runSteps, stepsLeft, Good, run-cons, run-none, passed-good, passed-top, passed-below}
+use Rattle.apply_walk.proofs.Entries.{and-entry, other-entry}
+use Rattle.apply_walk.proofs.Rests.{frameOf, runRest, restOf, runSteps, stepsLeft, Good, passed-good, passed-top, passed-below}
 use Rattle.apply_walk.proofs.Rests.{pushed-top, pushed-below, fold-pushed}
-use Rattle.apply_walk.proofs.Stepping.{Goes, enter-goes, enter-room}
+use Rattle.apply_walk.proofs.Stepping.{Goes, enter-goes, enter-room, run-done, run-rest}
 use Rattle.apply_walk.proofs.WalkTurns.{deeper}
 use Rattle.apply_shared.proofs.Within.{Within}
 use Rattle.apply_shared.proofs.Chains.{Chain, done-within, done-chain, passed-chain, entered-chain, first-chain}
@@ -47,31 +46,19 @@ module _ (kind code a b bits start items : List ℕ) where
   firstOf o x = getD (conjunctsTo node items o) x []
 
   pub first-below : (o x : ℕ) → x < o → firstOf o x ≡ conj x
-  first-below o x l = entry-at node items o x l ∙ sym (entry-at node items (suc x) x (omega arith))
+  first-below o x l = conjuncts-at node items o x l ∙ sym (conjuncts-at node items (suc x) x (omega arith))
 
   pub first-past : (o x : ℕ) → o ≤ x → firstOf o x ≡ []
-  first-past o x l = entry-past node items o x l
+  first-past o x l = conjuncts-past node items o x l
 
   pub conj-other : (x : ℕ) → isAnd kind code x ≡ false → conj x ≡ x ∷ []
-  conj-other x f = entry-at node items (suc x) x (omega arith) ∙ other-entry (conjunctsTo node items x) items x kind code a b bits start f
+  conj-other x f = conjuncts-at node items (suc x) x (omega arith) ∙ other-entry (conjunctsTo node items x) items x kind code a b bits start f
 
   pub conj-and : (x : ℕ) → isAnd kind code x ≡ true → conj x ≡ run x (getD start x 0) (getD a x 0)
   unfolding runRest
-  conj-and x y = entry-at node items (suc x) x (omega arith) ∙ and-entry (conjunctsTo node items x) items x kind code a b bits start y
+  conj-and x y = conjuncts-at node items (suc x) x (omega arith) ∙ and-entry (conjunctsTo node items x) items x kind code a b bits start y
 
   module _ (long : length items ≡ 2048) where
-    empty-run : (left at : ℕ) → (eqb left 0 || leb 2048 at) ≡ true → take left (drop at items) ≡ []
-    empty-run zero at e = refl
-    empty-run (suc left) at e = run-none items long at (suc left) (leb-true 2048 at (or-second (eqb (suc left) 0) _ (ne-eqb (suc left) 0 (λ q. omega arith)) e))
-
-    run-done : (o at left : ℕ) → (eqb left 0 || leb 2048 at) ≡ true → run o at left ≡ []
-    unfolding runRest joinedOf
-    run-done o at left e = ap (joinedOf (conjunctsTo node items o)) (empty-run left at e)
-
-    run-first : (o at left : ℕ) → 1 ≤ left → at < 2048 → run o at left ≡ firstOf o (getD items at 0) ++ run o (at + 1) (left - 1)
-    unfolding runRest joinedOf
-    run-first o at left some low = ap (joinedOf (conjunctsTo node items o)) (run-cons items long at left some low)
-
     module _ (there : List ℕ) (w : Walk) (g : Good w) (k : ℕ) (top : w .depth ≡ suc k) (c : Covered there w) where
       at-top : Chain there (owns w) (runs w) (suc k) []
       at-top = subst (λ (n : ℕ). Chain there (owns w) (runs w) n []) top c
@@ -79,15 +66,15 @@ module _ (kind code a b bits start items : List ℕ) where
       -- the frame on top is done
       module _ (e : (eqb (leftAt w k) 0 || leb 2048 (placeAt w k)) ≡ true) where
         pub popped-within : Within (conj (ownerAt w k)) there
-        popped-within = done-within there (owns w) (runs w) k (run-done (ownerAt w k) (placeAt w k) (leftAt w k) e) at-top
+        popped-within = done-within there (owns w) (runs w) k (run-done kind code a b bits start items long (ownerAt w k) (placeAt w k) (leftAt w k) e) at-top
 
         pub popped-covered : Covered there (popped w k)
-        popped-covered = done-chain there (owns w) (runs w) k (run-done (ownerAt w k) (placeAt w k) (leftAt w k) e) at-top
+        popped-covered = done-chain there (owns w) (runs w) k (run-done kind code a b bits start items long (ownerAt w k) (placeAt w k) (leftAt w k) e) at-top
 
       -- it has an operand
       module _ (some : 1 ≤ leftAt w k) (low : placeAt w k < 2048) (first : List ℕ) (is : firstOf (ownerAt w k) (getD items (placeAt w k) 0) ≡ first) where
         split : (run2 : List ℕ) → run2 ≡ run (ownerAt w k) (placeAt w k + 1) (leftAt w k - 1) → runs w k ≡ first ++ run2
-        split run2 e = run-first (ownerAt w k) (placeAt w k) (leftAt w k) some low ∙ (λ i. is i ++ sym e i)
+        split run2 e = run-rest kind code a b bits start items long (ownerAt w k) (placeAt w k) (leftAt w k) some low ∙ (λ i. is i ++ sym e i)
 
         pub passed-covered : (there2 : List ℕ) → Within there there2 → Within first there2 → Covered there2 (passed w k)
         unfolding passed

@@ -4,7 +4,7 @@ use mathlib.Core.Path.{_≡_, refl, sym, subst, _∙_}
 use mathlib.Core.Bool.{Bool, true, false}
 use mathlib.Core.List.{List, [], _∷_}
 use lib.Dec.{eqb}
-use lib.ListN.{getD, set, replicate}
+use lib.ListN.{getD, set}
 use lib.Seq.{getD-set-other}
 use borrow.Author.Tests.{eqb-true, eqb-false}
 
@@ -33,8 +33,3 @@ mark-stays (t ∷ ts) zero zero e = refl
 mark-stays (t ∷ ts) zero (suc h) e = e
 mark-stays (t ∷ ts) (suc i) zero e = e
 mark-stays (t ∷ ts) (suc i) (suc h) e = mark-stays ts i h e
-
-pub none-marked : (n h : ℕ) → getD (replicate n false) h false ≡ false
-none-marked zero h = refl
-none-marked (suc n) zero = refl
-none-marked (suc n) (suc h) = none-marked n h

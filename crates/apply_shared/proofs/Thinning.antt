@@ -11,7 +11,9 @@ use lib.Dec.{ltb, eqb}
 use lib.ListN.{length, getD, set, take, replicate, length-set, length-replicate, List·getD-eq-default}
 use lib.Seq.{take-suc-set, getD-set-same}
 use borrow.Author.Tests.{ltb-true, ltb-false, eqb-true}
-use Rattle.lists.proofs.RangeLaws.{and-left, and-right, below-or-not}
+use Rattle.laws.proofs.Bools.{and-left, and-right}
+use Rattle.laws.proofs.Lists.{getD-replicate-self}
+use Rattle.lists.proofs.RangeLaws.{below-or-not}
 use Rattle.plan_data.specs.Nodes.{nodeOf}
 use Rattle.apply_spec.specs.Conjuncts.{conjunctsTo}
 use Rattle.apply_walk.specs.declared.Walk.{Walk}
@@ -20,10 +22,10 @@ use Rattle.apply_walk.specs.declared.Move.the-variants.{Pop, Skip, Enter, Found
 use Rattle.apply_walk.specs.Walks.{isAnd, emptyWalk, ownerAt, placeAt, leftAt, popped, passed, entered, turnOf}
 use Rattle.apply_walk.proofs.Rests.{Good, restOf, stepsLeft, passed-good}
 use Rattle.apply_walk.proofs.Stepping.{Goes, nothing-left, and-within, start-good, start-rest}
-use Rattle.apply_walk.proofs.WalkTurns.{Said, turn-said, deeper, pop-turn, skip-turn, found-turn, enter-turn, enter-within}
+use Rattle.apply_walk.proofs.WalkTurns.{Said, move-said, deeper, pop-turn, skip-turn, found-turn, enter-turn, enter-within}
 use Rattle.apply_shared.specs.Thinned.{Thinned}
 use Rattle.apply_shared.proofs.Within.{Within, contrary, within-none, within-left, within-right, thin-drop, thin-keep}
-use Rattle.apply_shared.proofs.Marks.{mark-either, mark-taken, mark-stays, none-marked}
+use Rattle.apply_shared.proofs.Marks.{mark-either, mark-taken, mark-stays}
 use Rattle.apply_shared.proofs.Frames.{conj, Covered, first-below, first-past, conj-other, popped-within, popped-covered, passed-covered}
 use Rattle.apply_shared.proofs.Frames.{deeper-covered, over-rest, over-less, start-covered}
 
@@ -127,24 +129,24 @@ module _ {kind code a start items : List ℕ} {e : ℕ} {v : Walk} {seen owed : 
   abbrev Becomes : Walk → List Bool → List Bool → List ℕ → ℕ → Type 0
   Becomes u s d hs i = Collected kind code a start items e u s d hs i × (steps kind code a start items u < steps kind code a start items v)
 
-  pub some-frame : 0 < v .depth
-  some-frame = ltb-true 0 (v .depth) (and-left (ltb 0 (v .depth)) (ltb n 2048) (t .more))
+  pub thin-some-frame : 0 < v .depth
+  thin-some-frame = ltb-true 0 (v .depth) (and-left (ltb 0 (v .depth)) (ltb n 2048) (t .more))
 
   pub found-room : n < 2048
   found-room = ltb-true n 2048 (and-right (ltb 0 (v .depth)) (ltb n 2048) (t .more))
 
   top : v .depth ≡ suc k
-  top = omega (arith, some-frame)
+  top = omega (arith, thin-some-frame)
 
   says : (x : Move) → m ≡ x → x ≡ turnOf kind code items o (placeAt v k) (leftAt v k)
   says x p = sym p ∙ t .next
 
   said : (x : Move) → m ≡ x → Said kind code items o (placeAt v k) (leftAt v k) x
-  said x p = turn-said kind code items o (placeAt v k) (leftAt v k) x (says x p)
+  said x p = move-said kind code items o (placeAt v k) (leftAt v k) x (says x p)
 
   -- the And of the frame stands in the tables
   pub owner-within : o < 1024
-  owner-within = omega (arith, g .low k (omega (arith, some-frame)))
+  owner-within = omega (arith, g .low k (omega (arith, thin-some-frame)))
 
   -- the same is to come, in other words
   said-so : (b bits : List ℕ) (d : List Bool) (l l2 : List ℕ) → l ≡ l2 → SoFar (own b bits) (whole b bits) there l d → SoFar (own b bits) (whole b bits) there
@@ -152,8 +154,8 @@ module _ {kind code a start items : List ℕ} {e : ℕ} {v : Walk} {seen owed : 
   said-so b bits d l l2 e = subst (λ (x : List ℕ). SoFar (own b bits) (whole b bits) there x d) e
 
   -- ---- the frame is done: all conjuncts of its And are there
-  pub popped-on : m ≡ Pop → Becomes (popped v k) (set seen o true) owed handles n
-  popped-on p =
+  pub thin-popped-on : m ≡ Pop → Becomes (popped v k) (set seen o true) owed handles n
+  thin-popped-on p =
       let go = pop-turn kind code a start items (t .long) v g k top (says Pop p) in (
         record {
           good = go [] [] .good;
@@ -198,8 +200,8 @@ module _ {kind code a start items : List ℕ} {e : ℕ} {v : Walk} {seen owed : 
               };
         }
 
-  pub skipped-on : m ≡ Skip → Becomes (passed v k) seen owed handles n
-  skipped-on p =
+  pub thin-skipped-on : m ≡ Skip → Becomes (passed v k) seen owed handles n
+  thin-skipped-on p =
       let f = said Skip p in
       let go = skip-turn kind code a start items (t .long) v g k top (says Skip p) in (
         passed-on owed refl (f .0) (f .1) (λ b bits. []) (λ b bits. first-past kind code a b bits start items o operand (ltb-false operand o (f .2)))
@@ -213,11 +215,11 @@ module _ {kind code a start items : List ℕ} {e : ℕ} {v : Walk} {seen owed : 
     found-said : Said kind code items o (placeAt v k) (leftAt v k) (Found x)
     found-said = said (Found x) p
 
-    pub found-within : x < 1024
-    found-within = omega (arith, found-said .4, ltb-true operand o (found-said .2), owner-within)
+    pub thin-found-within : x < 1024
+    thin-found-within = omega (arith, found-said .4, ltb-true operand o (found-said .2), owner-within)
 
     found-owed : x < length owed
-    found-owed = omega (arith, found-within, t .had .debts)
+    found-owed = omega (arith, thin-found-within, t .had .debts)
 
     found-alone : (b bits : List ℕ) → conj kind code a b bits start items x ≡ x ∷ []
     found-alone b bits = conj-other kind code a b bits start items x (subst (λ (y : ℕ). isAnd kind code y ≡ false) (found-said .4) (found-said .3))
@@ -311,8 +313,8 @@ module _ {kind code a start items : List ℕ} {e : ℕ} {v : Walk} {seen owed : 
     )
 
     -- its operands come next
-    pub entered-on : (at left : ℕ) → at ≡ getD start x 0 → left ≡ getD a x 0 → Becomes (deeper v k x at left) seen (set owed x false) handles n
-    entered-on at left q r =
+    pub thin-entered-on : (at left : ℕ) → at ≡ getD start x 0 → left ≡ getD a x 0 → Becomes (deeper v k x at left) seen (set owed x false) handles n
+    thin-entered-on at left q r =
         let go = enter-turn kind code a start items (t .long) v g k top x at left (says (Enter x) p) q r in (
           record {
             good = go [] [] .good;
@@ -333,28 +335,28 @@ module _ {kind code a start items : List ℕ} {e : ℕ} {v : Walk} {seen owed : 
                       (deeper-covered kind code a b bits start items (t .long) there v g k top (was .frames) (enter-said .0) (enter-said .1)
                       (conj kind code a b bits start items x) (enter-first b bits) x
                       (subst (λ (y : ℕ). isAnd kind code y ≡ true) (enter-said .4) (enter-said .3)) refl
-                      (omega (arith, top, g .low k (omega (arith, some-frame)), enter-said .4, ltb-true operand o (enter-said .2))));
+                      (omega (arith, top, g .low k (omega (arith, thin-some-frame)), enter-said .4, ltb-true operand o (enter-said .2))));
                 };
           },
           go [] [] .less,
         )
 
     -- there is a frame for it
-    pub enter-frame : v .depth < 1024
-    enter-frame = enter-within kind code a start items (t .long) v g k top x (says (Enter x) p)
+    pub thin-enter-frame : v .depth < 1024
+    thin-enter-frame = enter-within kind code a start items (t .long) v g k top x (says (Enter x) p)
 
   -- ---- the frame has an operand
   abbrev Operand : Type 0
   Operand = (1 ≤ leftAt v k) × (placeAt v k < 2048)
 
-  pub skip-operand : m ≡ Skip → Operand
-  skip-operand p = let f = said Skip p in (f .0, f .1)
+  pub thin-skip-operand : m ≡ Skip → Operand
+  thin-skip-operand p = let f = said Skip p in (f .0, f .1)
 
-  pub found-operand : (x : ℕ) → m ≡ Found x → Operand
-  found-operand x p = (found-said x p .0, found-said x p .1)
+  pub thin-found-operand : (x : ℕ) → m ≡ Found x → Operand
+  thin-found-operand x p = (found-said x p .0, found-said x p .1)
 
-  pub enter-operand : (x : ℕ) → m ≡ Enter x → Operand
-  enter-operand x p = (enter-said x p .0, enter-said x p .1)
+  pub thin-enter-operand : (x : ℕ) → m ≡ Enter x → Operand
+  thin-enter-operand x p = (enter-said x p .0, enter-said x p .1)
 
 -- ---- what the tests of the loop say
 pub test-frame : (d n : ℕ) → (ltb 0 d && ltb n 2048) ≡ true → 1 ≤ d
@@ -385,7 +387,7 @@ module _ (kind code a start items : List ℕ) (long : length items ≡ 2048) (sh
             λ comes ks.
             subst (λ (l : List ℕ). Thinned [] l ks → Thinned [] (conj kind code a b bits start items e) ks)
             (start-rest kind code a b bits start items long e (in-table b bits) y) (λ t. t);
-        known = λ h q. contrary (getD (replicate 1024 false) h false) (none-marked 1024 h) q;
+        known = λ h q. contrary (getD (replicate 1024 false) h false) (getD-replicate-self 1024 h false) q;
         frames = start-covered kind code a b bits start items long e y;
       }
 
@@ -412,7 +414,7 @@ none-more ts i this none h l =
     ⊎-elim (none h) (λ m. let e : h ≡ i = omega arith in subst (λ (x : ℕ). getD ts x false ≡ false) (sym e) this) (below-or-not h i)
 
 -- ---- an expression that is no And is its own conjunct
-pub alone : (kind code a b bits start items : List ℕ) (e : ℕ) → isAnd kind code e ≡ false
+pub thinned-alone : (kind code a b bits start items : List ℕ) (e : ℕ) → isAnd kind code e ≡ false
     → Thinned [] (conj kind code a b bits start items e) (take 1 (replicate 2048 e))
-alone kind code a b bits start items e f =
+thinned-alone kind code a b bits start items e f =
     subst (λ (l : List ℕ). Thinned [] l (e ∷ [])) (sym (conj-other kind code a b bits start items e f)) (thin-keep [] e [] [] refl)

@@ -4,6 +4,7 @@ use mathlib.Core.Path.{_≡_, refl, sym, ap, ap₂, _∙_}
 use mathlib.Core.Bool.{Bool, true, false, not, _||_, false≢true}
 use mathlib.Core.Logic.{inl, inr}
 use native.Mathlib.Omega.{arith}
+use Rattle.laws.proofs.Bools.{or-inr, or-inl}
 use Rattle.scalar.specs.Scalars.{sameScalar, holdsNan}
 use Rattle.scalar.specs.declared.ScalarValue.{ScalarValue}
 use Rattle.scalar.proofs.ScalarLaws.{same-self}
@@ -12,7 +13,7 @@ use Rattle.value_range.specs.declared.ValueRange.{ValueRange}
 use Rattle.constraint_spec.specs.Sets.{entryOf, clashes, rangeIn, tightenBy, crossed, boundsBy}
 use Rattle.constraint_spec.specs.declared.Holder.{Holder}
 use Rattle.constraint_spec.specs.declared.Entry as En
-use Rattle.constraint_set.proofs.Passes.{or-here, or-before, or-keeps}
+use Rattle.constraint_set.proofs.Passes.{or-keeps}
 use Rattle.apply_action.specs.Cells.{literalCell, boundCell, entryCell, cellAfter}
 use Rattle.apply_action.specs.declared.Action.{Action}
 use Rattle.apply_action.specs.declared.Action.the-variants.{Nothing, Contradiction, Residual, Same, Literal, Bound, Entry}
@@ -39,8 +40,8 @@ has-after (Same i j true) c = λ e. refl
 has-after (Same i j false) c = λ e. absurd (false≢true e)
 has-after (Literal i w) c = (
   refl,
-  literal-comes (c .literal) w (c .contradictory) _ (λ e. or-before _ _ (or-before _ _ e))
-      (λ e. or-before (c .contradictory || clashes (c .literal) w) _ (or-here (c .contradictory) (clashes (c .literal) w) e)) w (inl (self w)),
+  literal-comes (c .literal) w (c .contradictory) _ (λ e. or-inl _ _ (or-inl _ _ e))
+      (λ e. or-inl (c .contradictory || clashes (c .literal) w) _ (or-inr (c .contradictory) (clashes (c .literal) w) e)) w (inl (self w)),
 )
 has-after (Bound i op x) c = (refl, (refl, taken-once-only op x (rangeIn (c .entry))))
 has-after (Entry i) c = (refl, refl)

@@ -6,34 +6,24 @@ use mathlib.Core.List.{List}
 use mathlib.Core.Logic.{inl}
 use native.Mathlib.Decide.{decLt, ℕ-discrete}
 use native.Mathlib.Omega.{arith}
-use lib.ListN.{length, getD, set, length-set}
-use lib.Seq.{getD-set-same, getD-set-other}
+use lib.ListN.{length, set}
 use Rattle.value_classes.specs.Classes.{Whole, Falling, canonicalOf, joinedClasses, rootsJoined}
 use Rattle.value_classes.specs.declared.ValueEquivalenceClasses.{ValueEquivalenceClasses}
 use Rattle.value_classes.proofs.ClassLaws.{falling, canonical-small, canonical-idempotent, joined-met, joined-to-left, joined-to-right}
-use Rattle.constraint_spec.specs.Sets.{none, noEntry, blank, classesOf, nonNulls, literals, nonNullAt, literalAt, entryAt, canonicalAt, withClasses}
-use Rattle.constraint_spec.specs.Sets.{normalized, unionValues}
+use Rattle.constraint_spec.specs.Sets.{none, noEntry, blank, classesOf, nonNulls, literals, nonNullAt, literalAt, entryAt, canonicalAt}
+use Rattle.constraint_spec.specs.Sets.{unionValues}
+use Rattle.laws.proofs.Bools.{or-inl}
 use Rattle.constraint_spec.specs.declared.ConstraintSet.{ConstraintSet}
-use Rattle.constraint_spec.proofs.Operations.{union-one, union-two}
-use Rattle.constraint_set.specs.Settled.{Settled, nullOn, movedTo, placeAt, unitedRoots}
-use Rattle.constraint_set.proofs.Passes.{goesTo, goes-b, goes-other, or-before}
-use Rattle.constraint_set.proofs.Settling.{canonical-goes, joined-normalized, united-settled}
+use Rattle.constraint_spec.proofs.Operations.{union-one}
+use Rattle.constraint_set.specs.Settled.{Settled, nullOn, placeAt, unitedRoots}
+use Rattle.constraint_set.proofs.Passes.{goesTo, goes-b, goes-other}
+use Rattle.constraint_set.proofs.Settling.{canonical-goes, united-settled, moved-a, moved-b, moved-other}
+use Rattle.constraint_set.proofs.RootJoins.{canonical-low, canonical-own, united-left, united-right}
 use Rattle.constraint_normal.specs.Ready.{Bounded, Ready}
 use Rattle.apply_action.specs.Cells.{cellOf}
 use Rattle.apply_action.specs.declared.Cell.{Cell}
 use Rattle.apply_shared_laws.proofs.Growing.{Grows, grows-flag, joinedCell, grows-left, grows-right, bounded-joined}
 use Rattle.apply_shared_laws.proofs.Keeping.{Keeps, keeps-self}
-
--- ---- what stood at b stands at a
-module _ {A : Type 0} (l : List A) (a b : ℕ) (now none d : A) (less : a < b) (high : b < 128) (long : length l ≡ 128) where
-  pub moved-a : getD (movedTo l a b now none) a d ≡ now
-  moved-a = getD-set-other (set l a now) b a none d (omega arith) ∙ getD-set-same l a now d (omega arith)
-
-  moved-b : getD (movedTo l a b now none) b d ≡ none
-  moved-b = getD-set-same (set l a now) b none d (omega (arith, length-set l a now))
-
-  pub moved-other : (k : ℕ) → (k ≡ a → ⊥) → (k ≡ b → ⊥) → getD (movedTo l a b now none) k d ≡ getD l k d
-  moved-other k n m = getD-set-other (set l a now) b k none d m ∙ getD-set-other l a k now d n
 
 -- ---- two representatives joined
 module _ (s : ConstraintSet) (rd : Ready s) (a b : ℕ) (less : a < b) (high : b < 128) (own-a : canonicalAt s a ≡ a) (own-b : canonicalAt s b ≡ b) where
@@ -65,7 +55,7 @@ module _ (s : ConstraintSet) (rd : Ready s) (a b : ℕ) (less : a < b) (high : b
 
   flag-stays : s .contradictory ≡ true → t .contradictory ≡ true
   unfolding unitedRoots
-  flag-stays e = or-before (s .contradictory) _ e
+  flag-stays e = or-inl (s .contradictory) _ e
 
   cell-a : cellOf t a ≡ joinedCell (cellOf s a) (cellOf s b)
   unfolding unitedRoots joinedCell
@@ -146,31 +136,20 @@ module _ (s : ConstraintSet) (rd : Ready s) (i j : ℕ) (hi : i < 128) (hj : j <
   y = canonicalAt s j
 
   pub x-low : x < 128
-  x-low = canonical-small (classesOf s) i x (gs .many) refl hi
+  x-low = canonical-low s gs i hi
 
   pub y-low : y < 128
-  y-low = canonical-small (classesOf s) j y (gs .many) refl hj
+  y-low = canonical-low s gs j hj
 
   pub own : (k : ℕ) → canonicalAt s (canonicalAt s k) ≡ canonicalAt s k
-  own k = canonical-idempotent (classesOf s) (falling (classesOf s) (gs .ok)) k
-
-  united-is : (a b : ℕ) → a < b → b < 128 → canonicalAt s a ≡ a → joinedClasses (classesOf s) i j ≡ rootsJoined (classesOf s) a b → (x ≡ y → ⊥)
-      → unitedRoots s a b ≡ unionValues s i j
-  united-is a b less high o e d =
-      sym (union-two s i j hi hj d ∙ ap (λ (q : ValueEquivalenceClasses). normalized (withClasses s q)) e ∙ joined-normalized s gs a b less high o)
-
-  pub left-lower : x < y → unitedRoots s x y ≡ unionValues s i j
-  left-lower h = united-is x y h y-low (own i) (joined-to-left (classesOf s) i j x y refl refl (omega arith)) (λ z. omega arith)
-
-  pub right-lower : y < x → unitedRoots s y x ≡ unionValues s i j
-  right-lower h = united-is y x h x-low (own j) (joined-to-right (classesOf s) i j x y refl refl (omega arith)) (λ z. omega arith)
+  own k = canonical-own s gs k
 
   -- what holds of the set where the two are in one class, and of it with their two representatives joined, holds of it after a union
   pub union-so : (P : ConstraintSet → Type 0) → (x ≡ y → P s) → (x < y → P (unitedRoots s x y)) → (y < x → P (unitedRoots s y x)) → P (unionValues s i j)
   union-so P same left right = elim (decLt x y) [
-    | yes h ↦ subst P (left-lower h) (left h)
+    | yes h ↦ subst P (united-left s gs i j hi hj h) (left h)
     | no n ↦ elim (decLt y x) [
-      | yes h ↦ subst P (right-lower h) (right h)
+      | yes h ↦ subst P (united-right s gs i j hi hj h) (right h)
       | no m ↦ (let e : x ≡ y = omega arith in subst P (sym (union-one s i j hi hj e)) (same e))
     ]
   ]

@@ -7,7 +7,7 @@ use mathlib.Core.Logic.{_⊎_, inl, inr}
 use native.Mathlib.Omega.{arith}
 use lib.Dec.{eqb}
 use borrow.Author.Tests.{eqb-true}
-use Rattle.lists.proofs.RangeLaws.{and-left, and-right}
+use Rattle.laws.proofs.Bools.{and-left, and-right}
 use Rattle.scalar.specs.declared.ScalarValue.{ScalarValue}
 use Rattle.constraint_spec.specs.Sets.{appliedOf, done, refusedWith}
 use Rattle.constraint_spec.specs.declared.ConstraintSet.{ConstraintSet}
@@ -15,6 +15,7 @@ use Rattle.constraint_spec.specs.declared.Applied.{Applied}
 use Rattle.plan_data.specs.Nodes.{nodeOf}
 use Rattle.plan_data.specs.declared.ExprData.{ExprData}
 use Rattle.apply_spec.specs.Apply.{conjunctApplied, allApplied}
+use Rattle.apply_spec.proofs.Applications.{refused-stays}
 use Rattle.constraint_normal.specs.Ready.{Ready}
 use Rattle.apply_shared.specs.Thinned.{isIn, Thinned}
 use Rattle.apply_action.specs.Actions.{acted, actionOf, Proper}
@@ -29,11 +30,6 @@ use Rattle.apply_shared_laws.proofs.Numbers.{numbered}
 use Rattle.apply_shared_laws.proofs.LiteralAgain.{again, again-twice, Next, next}
 
 -- ---- a refusal stays
-refused-stays : (apply : ConstraintSet → ℕ → Applied) (hs : List ℕ) (a : Applied) → a .refused ≡ true → allApplied apply hs a ≡ a
-unfolding allApplied
-refused-stays apply [] a e = refl
-refused-stays apply (h ∷ hs) a e = ap (λ (t : Bool). allApplied apply hs (cond t a (apply (a .constraints) h))) e ∙ refused-stays apply hs a e
-
 refused-given : (apply : ConstraintSet → ℕ → Applied) (hs : List ℕ) (a : Applied) (g : ConstraintSet) → a .refused ≡ true → orGiven g (allApplied apply hs a)
     ≡ refusedWith g
 refused-given apply hs a g e = ap (orGiven g) (refused-stays apply hs a e) ∙ ap (λ (t : Bool). cond t (refusedWith g) a) e

@@ -3,6 +3,7 @@ use mathlib.Core.Path.{_≡_, refl, sym, ap, _∙_, subst}
 use mathlib.Core.Bool.{Bool, true, false, not, cond, _&&_, _||_}
 use mathlib.Core.Logic.{_⊎_, inl, inr}
 use lib.Ieee.{Float}
+use Rattle.laws.proofs.Bools.{or-inr, or-inl}
 use Rattle.scalar.specs.Scalars.{sameScalar}
 use Rattle.scalar.specs.declared.ScalarValue.{ScalarValue}
 use Rattle.scalar.proofs.ScalarLaws.{same-left}
@@ -13,7 +14,6 @@ use Rattle.constraint_spec.specs.Sets.{held, entryOf, clashes, rangeIn, tighten
 use Rattle.constraint_spec.specs.declared.Holder.{Holder}
 use Rattle.constraint_spec.specs.declared.Entry as En
 use Rattle.constraint_set.specs.Settled.{nullOn, literalOn, literalBad, rangeOn, rangeBad, placeOf}
-use Rattle.constraint_set.proofs.Passes.{or-here, or-before}
 use Rattle.constraint_normal.specs.Ready.{Bounded}
 use Rattle.apply_action.specs.Cells.{literalCell, boundCell, entryCell, cellAfter}
 use Rattle.apply_action.specs.declared.Action.{Action}
@@ -59,10 +59,10 @@ clash-there : (p q : Bool) → (p && not q) ≡ true → p ≡ true
 clash-there true q e = refl
 clash-there false q e = e
 
-pub alike : (p q : Bool) → p ≡ true → (p && not q) ≡ false → q ≡ true
-alike p true h e = refl
-alike true false h e = sym e
-alike false false h e = h
+pub true-of-and-not-false : (p q : Bool) → p ≡ true → (p && not q) ≡ false → q ≡ true
+true-of-and-not-false p true h e = refl
+true-of-and-not-false true false h e = sym e
+true-of-and-not-false false false h e = h
 
 -- what is alike to the one is alike to the other
 alike-by : (x w v : ScalarValue) → sameScalar x w ≡ true → Alike x v → Alike w v
@@ -84,7 +84,7 @@ module _ (old : Holder) (w : ScalarValue) (was f : Bool) (stays : was ≡ true �
       go false e = (
         refl,
         elim (h .1) [
-          | inl s ↦ inl (alike-by (old .value) w v (alike (old .present) (sameScalar (old .value) w) (h .0) e) s)
+          | inl s ↦ inl (alike-by (old .value) w v (true-of-and-not-false (old .present) (sameScalar (old .value) w) (h .0) e) s)
           | inr k ↦ inr (stays k)
         ],
       )
@@ -122,18 +122,18 @@ grows-after (Same i j true) c = grows-flag c true (c .contradictory) (λ e. refl
 grows-after (Same i j false) c = grows-flag c (c .«non_null») (c .contradictory) (λ e. e) (λ e. e)
 grows-after (Literal i w) c = record {
   null = λ e. refl;
-  literal = literal-stays (c .literal) w (c .contradictory) _ (λ e. or-before _ _ (or-before _ _ e))
-      (λ e. or-before (c .contradictory || clashes (c .literal) w) _ (or-here (c .contradictory) (clashes (c .literal) w) e));
+  literal = literal-stays (c .literal) w (c .contradictory) _ (λ e. or-inl _ _ (or-inl _ _ e))
+      (λ e. or-inl (c .contradictory || clashes (c .literal) w) _ (or-inr (c .contradictory) (clashes (c .literal) w) e));
   bound = λ op x p. p;
   entry = λ p. p;
-  flag = λ e. or-before _ _ (or-before _ _ e);
+  flag = λ e. or-inl _ _ (or-inl _ _ e);
 }
 grows-after (Bound i o y) c = record {
   null = λ e. refl;
-  literal = λ v p. (p .0, flag-on (c .contradictory) _ (λ e. or-before _ _ (or-before _ _ e)) (p .1));
+  literal = λ v p. (p .0, flag-on (c .contradictory) _ (λ e. or-inl _ _ (or-inl _ _ e)) (p .1));
   bound = λ op x p. (refl, bound-stays op x (c .entry) (boundsBy o y) (p .0) (p .1));
   entry = λ p. refl;
-  flag = λ e. or-before _ _ (or-before _ _ e);
+  flag = λ e. or-inl _ _ (or-inl _ _ e);
 }
 grows-after (Entry i) c = record {
   null = λ e. refl;
@@ -159,13 +159,13 @@ module _ (c d : Cell) where
   clash-told h e =
       let bad = d .literal .present && clashes (c .literal) (d .literal .value) in
       let empty = rangeBad (c .entry) (d .entry) in
-      or-here (c .contradictory) ((bad || empty) || crossed (literalOn (c .literal) (d .literal)) (rangeOn (c .entry) (d .entry)))
-      (or-before (bad || empty) (crossed (literalOn (c .literal) (d .literal)) (rangeOn (c .entry) (d .entry)))
-      (or-before bad empty (ap (λ (b : Bool). b && clashes (c .literal) (d .literal .value)) h ∙ e)))
+      or-inr (c .contradictory) ((bad || empty) || crossed (literalOn (c .literal) (d .literal)) (rangeOn (c .entry) (d .entry)))
+      (or-inl (bad || empty) (crossed (literalOn (c .literal) (d .literal)) (rangeOn (c .entry) (d .entry)))
+      (or-inl bad empty (ap (λ (b : Bool). b && clashes (c .literal) (d .literal .value)) h ∙ e)))
 
   flag-stays : c .contradictory ≡ true → joinedCell c d .contradictory ≡ true
   unfolding joinedCell
-  flag-stays e = or-before _ _ e
+  flag-stays e = or-inl _ _ e
 
   abbrev flagged : Bool
   flagged = joinedCell c d .contradictory
@@ -211,7 +211,7 @@ module _ (c d : Cell) where
 
   left-null : c .«non_null» ≡ true → joinedCell c d .«non_null» ≡ true
   unfolding joinedCell nullOn
-  left-null e = or-before (c .«non_null») (d .«non_null») e
+  left-null e = or-inl (c .«non_null») (d .«non_null») e
 
   pub grows-left : Grows c (joinedCell c d)
   grows-left = record { null = left-null; literal = left-literal; bound = left-bound; entry = left-entry; flag = flag-stays }
@@ -234,7 +234,7 @@ module _ (c d : Cell) where
 
     right-null : d .«non_null» ≡ true → joinedCell c d .«non_null» ≡ true
     unfolding joinedCell nullOn
-    right-null e = or-here (c .«non_null») (d .«non_null») e
+    right-null e = or-inr (c .«non_null») (d .«non_null») e
 
     pub grows-right : Grows d (joinedCell c d)
     grows-right = record { null = right-null; literal = right-literal; bound = right-bound; entry = right-entry; flag = λ e. flag-stays (same e) }

@@ -1,36 +1,33 @@
 -- A handle that is kept as a residual leaves an ready set ready and keeps what was there; one that is there is not kept again. Assumes nothing.
 use Prim.Native.Nat.{ℕ, zero, suc, _+_, _<_, min}
 use mathlib.Core.Path.{_≡_, refl, sym, ap, ap₂, _∙_}
-use mathlib.Core.Bool.{Bool, true, false, cond, _||_, or-false, true≢false}
+use mathlib.Core.Bool.{Bool, true, false, cond, _||_, or-false, true≢false, or-assoc}
 use mathlib.Core.List.{List}
 use native.Mathlib.Omega.{arith}
 use borrow.Author.Tests.{ltb-true, eq-eqb}
 use lib.Dec.{ltb, eqb}
 use lib.ListN.{length, getD, set, length-set}
 use lib.Seq.{getD-set-same, getD-set-other}
+use Rattle.laws.proofs.Bools.{or-inr, or-inl}
 use Rattle.lists.specs.Ranges.{anyFrom}
 use Rattle.lists.proofs.RangeLaws.{any-same}
 use Rattle.constraint_spec.specs.Sets.{handles, nonNullAt, canonicalAt, withResiduals, hasHandle, pushResidual, addResidual, done, refusedWith}
 use Rattle.constraint_spec.specs.declared.ConstraintSet.{ConstraintSet}
 use Rattle.constraint_set.specs.Kept.{hasIn}
 use Rattle.constraint_set.specs.Settled.{Settled}
-use Rattle.constraint_set.proofs.Passes.{or-here, or-before}
 use Rattle.constraint_normal.specs.Ready.{Ready}
 use Rattle.apply_action.specs.Cells.{cellOf}
 use Rattle.apply_shared_laws.proofs.Growing.{grows-flag}
 use Rattle.apply_shared_laws.proofs.Keeping.{Keeps, keeps-self}
 
 -- ---- one more place
-or-group : (a b c : Bool) → (a || (b || c)) ≡ ((a || b) || c)
-or-group true b c = refl
-or-group false b c = refl
-
 any-last : (f : ℕ → Bool) (n i : ℕ) → anyFrom f i (suc n) ≡ (anyFrom f i n || f (i + n))
 unfolding anyFrom
 any-last f zero i = let e : i + 0 ≡ i = omega arith in or-false (f i) ∙ ap f (sym e)
 any-last f (suc n) i =
     let e : suc i + n ≡ i + suc n = omega arith in
-    ap (λ (b : Bool). f i || b) (any-last f n (suc i) ∙ ap (λ (k : ℕ). anyFrom f (suc i) n || f k) e) ∙ or-group (f i) (anyFrom f (suc i) n) (f (i + suc n))
+    ap (λ (b : Bool). f i || b) (any-last f n (suc i) ∙ ap (λ (k : ℕ). anyFrom f (suc i) n || f k) e)
+    ∙ sym (or-assoc (f i) (anyFrom f (suc i) n) (f (i + suc n)))
 
 module _ (l : List ℕ) (n h : ℕ) (long : length l ≡ 64) (low : n < 64) where
   -- the handle is put after the others
@@ -47,10 +44,10 @@ module _ (l : List ℕ) (n h : ℕ) (long : length l ≡ 64) (low : n < 64) wher
       (ap (λ (z : ℕ). eqb z k) (getD-set-same l n h 0 (omega arith)))
 
   pub more-stays : (k : ℕ) → hasIn l n k ≡ true → hasIn (set l n h) (n + 1) k ≡ true
-  more-stays k e = more k ∙ or-before (hasIn l n k) (eqb h k) e
+  more-stays k e = more k ∙ or-inl (hasIn l n k) (eqb h k) e
 
   pub more-has : hasIn (set l n h) (n + 1) h ≡ true
-  more-has = more h ∙ or-here (hasIn l n h) (eqb h h) (eq-eqb h h refl)
+  more-has = more h ∙ or-inr (hasIn l n h) (eqb h h) (eq-eqb h h refl)
 
 -- ---- a residual
 module _ (u : ConstraintSet) (h : ℕ) where

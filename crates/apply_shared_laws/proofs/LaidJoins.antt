@@ -18,8 +18,10 @@ use Rattle.constraint_spec.specs.declared.ConstraintSet.{ConstraintSet}
 use Rattle.constraint_spec.proofs.Operations.{union-one}
 use Rattle.constraint_set.specs.Settled.{nullOn, literalOn, literalBad, rangeOn, rangeBad, movedTo, placeOf, unitedRoots}
 use Rattle.constraint_set.proofs.Passes.{goesTo, goes-b, goes-other}
+use Rattle.constraint_set.proofs.Settling.{moved-a, moved-other}
+use Rattle.constraint_set.proofs.RootJoins.{united-left, united-right}
 use Rattle.constraint_normal.specs.Ready.{Ready}
-use Rattle.apply_shared_laws.proofs.ClassJoins.{moved-a, moved-other, root-moves, x-low, y-low, own, left-lower, right-lower, union-so}
+use Rattle.apply_shared_laws.proofs.ClassJoins.{root-moves, x-low, y-low, own, union-so}
 use Rattle.apply_shared_laws.proofs.SameLiterals.{crossed-same, Joins, joins-old, joins-new}
 use Rattle.apply_shared_laws.proofs.LaidSets.{set-twice, set-swap, laid, Passed}
 
@@ -139,9 +141,9 @@ module _ (x v : ScalarValue) (same : sameScalar x v ≡ true) where
     union-passes j k hj hk =
         union-so s rd j k hj hk (λ (u : ConstraintSet). Passed x v same i u (unionValues t j k))
         (λ q. subst (Passed x v same i s) (sym (union-one t j k hj hk q)) (inr (e, refl)))
-        (λ q. subst (Passed x v same i (unitedRoots s (canonicalAt s j) (canonicalAt s k))) (left-lower t rt j k hj hk q)
+        (λ q. subst (Passed x v same i (unitedRoots s (canonicalAt s j) (canonicalAt s k))) (united-left t (rt .settled) j k hj hk q)
         (united-passes (canonicalAt s j) (canonicalAt s k) q (y-low s rd j k hj hk) (own s rd j k hj hk j) (own s rd j k hj hk k)))
-        (λ q. subst (Passed x v same i (unitedRoots s (canonicalAt s k) (canonicalAt s j))) (right-lower t rt j k hj hk q)
+        (λ q. subst (Passed x v same i (unitedRoots s (canonicalAt s k) (canonicalAt s j))) (united-right t (rt .settled) j k hj hk q)
         (united-passes (canonicalAt s k) (canonicalAt s j) q (x-low s rd j k hj hk) (own s rd j k hj hk k) (own s rd j k hj hk j)))
 
 -- ---- with the flag
@@ -150,8 +152,8 @@ pub union-flagged : (s : ConstraintSet) → Ready s → Ready (withFlag s true) 
 union-flagged s rd rt j k hj hk =
     union-so s rd j k hj hk (λ (u : ConstraintSet). unionValues (withFlag s true) j k ≡ withFlag u true)
     (λ q. union-one (withFlag s true) j k hj hk q)
-    (λ q. sym (left-lower (withFlag s true) rt j k hj hk q) ∙ united (canonicalAt s j) (canonicalAt s k))
-    (λ q. sym (right-lower (withFlag s true) rt j k hj hk q) ∙ united (canonicalAt s k) (canonicalAt s j))
+    (λ q. sym (united-left (withFlag s true) (rt .settled) j k hj hk q) ∙ united (canonicalAt s j) (canonicalAt s k))
+    (λ q. sym (united-right (withFlag s true) (rt .settled) j k hj hk q) ∙ united (canonicalAt s k) (canonicalAt s j))
   where
     united : (a b : ℕ) → unitedRoots (withFlag s true) a b ≡ withFlag (unitedRoots s a b) true
     united a b = unfold unitedRoots in refl

@@ -9,6 +9,7 @@ use native.Mathlib.Decide.{ℕ-discrete}
 use native.Mathlib.Omega.{arith}
 use lib.ListN.{length, set}
 use lib.Seq.{set-getD, getD-set-same, getD-set-other}
+use Rattle.laws.proofs.Bools.{or-inr, or-inl}
 use Rattle.scalar.specs.Scalars.{sameScalar, holdsNan}
 use Rattle.scalar.specs.declared.ScalarValue.{ScalarValue}
 use Rattle.scalar.proofs.ScalarLaws.{same-self, same-left}
@@ -17,7 +18,7 @@ use Rattle.constraint_spec.specs.Sets.{canonicalAt, clashes, crossed, addLitera
 use Rattle.constraint_spec.specs.declared.Holder.{Holder}
 use Rattle.constraint_spec.specs.declared.Entry as En
 use Rattle.constraint_spec.specs.declared.ConstraintSet.{ConstraintSet}
-use Rattle.constraint_set.proofs.Passes.{or-here, or-before, or-keeps}
+use Rattle.constraint_set.proofs.Passes.{or-keeps}
 use Rattle.constraint_normal.specs.Ready.{Ready}
 use Rattle.apply_action.specs.Actions.{firstOf, Proper}
 use Rattle.apply_action.specs.Cells.{cellOf, withCell, flaggedCell, literalCell, cellAfter}
@@ -78,8 +79,8 @@ module _ (u : ConstraintSet) (rd : Ready u) (i : ℕ) (v : ScalarValue) (p : Pro
           «non_null» = sym nn k;
           literal = ap (λ (b : Bool). cond b old (held v)) e k;
           entry = entryAt u r;
-          contradictory = or-before (u .contradictory || clashes old v) (crossed (cond (clashes old v) old (held v)) (entryAt u r))
-              (or-here (u .contradictory) (clashes old v) e) k;
+          contradictory = or-inl (u .contradictory || clashes old v) (crossed (cond (clashes old v) old (held v)) (entryAt u r))
+              (or-inr (u .contradictory) (clashes old v) e) k;
         }
 
     -- and any other is put there

@@ -27,7 +27,7 @@ use Rattle.apply_action.specs.declared.Action.the-variants.{Nothing, Contradict
 use Rattle.apply_action.specs.declared.Cell.{Cell}
 use Rattle.apply_action.proofs.CellLaws.{joinedBy, recordedIn, acted-is}
 use Rattle.apply_shared_laws.specs.Has.{Numbered, Has}
-use Rattle.apply_shared_laws.proofs.Growing.{alike}
+use Rattle.apply_shared_laws.proofs.Growing.{true-of-and-not-false}
 use Rattle.apply_shared_laws.proofs.Recording.{recorded-is, recorded-ready}
 use Rattle.apply_shared_laws.proofs.HandleKept.{added-so}
 use Rattle.apply_shared_laws.proofs.ActedTwice.{joined-ready, acted-so, acted-ready, acted-keeps, acted-has}
@@ -161,7 +161,7 @@ module _ (i : ℕ) (v : ScalarValue) (pa : Proper (Literal i v)) (n : ℕ) where
       where
         go : s .contradictory ≡ true → (b : Bool) → clashes (literalAt s r) v ≡ b → P
         go z true e = idle (clash-form s rd i v pa (known .cell .0) e ∙ (λ k. withFlag s (sym z k)))
-        go z false e = same (alike (literalAt s r .present) (sameScalar x v) (known .cell .1 .0) e)
+        go z false e = same (true-of-and-not-false (literalAt s r .present) (sameScalar x v) (known .cell .1 .0) e)
 
     laid-ready : sameScalar x v ≡ true → Ready (laid s r v)
     laid-ready e = subst Ready (same-again e) (again-ready s rd)

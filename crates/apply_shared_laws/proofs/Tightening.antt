@@ -4,7 +4,7 @@ use mathlib.Core.Path.{_≡_, refl, sym, ap, _∙_, subst}
 use mathlib.Core.Bool.{Bool, true, false, not, cond, _&&_, _||_, true≢false, false≢true}
 use mathlib.Core.Logic.{_⊎_, inl, inr}
 use lib.Ieee.{Float, isNan, lt, eq}
-use Rattle.lists.proofs.RangeLaws.{and-left, and-right, and-both}
+use Rattle.laws.proofs.Bools.{and-left, and-right, and-both, or-cases, ne-false-of-true, cond-apply, cond-T-elim}
 use Rattle.scalar.proofs.FloatLaws.{eq-comm, eq-left, lt-left, lt-right, lt-self, lt-trans, lt-total}
 use Rattle.value_range.specs.Ranges.{noBound, boundAt, unboundedRange, takesLower, takesUpper, tightenLower, tightenUpper}
 use Rattle.value_range.specs.declared.Bound.{Bound}
@@ -12,22 +12,14 @@ use Rattle.value_range.specs.declared.ValueRange.{ValueRange}
 use Rattle.comparison.specs.declared.BinaryOp.{BinaryOp}
 use Rattle.comparison.specs.declared.BinaryOp.the-variants.{Eq, NotEq, Lt, LtEq, Gt, GtEq, IsNotDistinctFrom}
 use Rattle.constraint_spec.specs.Sets.{lowerBy, upperBy, tightenBy, boundsBy}
-use Rattle.constraint_spec.proofs.Steps.{pick-has}
 use Rattle.constraint_normal.specs.Ready.{Comparable}
 use Rattle.apply_shared_laws.specs.Has.{takenBy}
 
 -- ---- tests
-or-split : (a b : Bool) → (a || b) ≡ true → (a ≡ true) ⊎ (b ≡ true)
-or-split true b e = inl refl
-or-split false b e = inr e
-
 neither : (a b : Bool) → (a ≡ true → ⊥) → (b ≡ true → ⊥) → (a || b) ≡ false
 neither true b f g = absurd (f refl)
 neither false true f g = absurd (g refl)
 neither false false f g = refl
-
-differ : (b : Bool) → b ≡ true → b ≡ false → ⊥
-differ b p q = true≢false (sym p ∙ q)
 
 -- ---- an order of floats, upwards or downwards: F a b says that b is tighter than a
 record Tighter (F : Float → Float → Bool) : Type 0 where
@@ -38,7 +30,7 @@ record Tighter (F : Float → Float → Bool) : Type 0 where
   pub total : (x y : Float) → isNan x ≡ false → isNan y ≡ false → F x y ≡ false → (eq y x ≡ true) ⊎ (F y x ≡ true)
 
 ordered : (x y : Float) → isNan x ≡ false → isNan y ≡ false → lt x y ≡ false → (eq x y ≡ true) ⊎ (lt y x ≡ true)
-ordered x y p q n = or-split (eq x y) (lt y x) (sym (ap (λ (b : Bool). b || (eq x y || lt y x)) n) ∙ lt-total x y p q)
+ordered x y p q n = or-cases (eq x y) (lt y x) (sym (ap (λ (b : Bool). b || (eq x y || lt y x)) n) ∙ lt-total x y p q)
 
 turned : {X : Type 0} (x y : Float) → (eq x y ≡ true) ⊎ X → (eq y x ≡ true) ⊎ X
 turned x y (inl e) = inl (eq-comm y x ∙ e)
@@ -81,7 +73,7 @@ module _ (F : Float → Float → Bool) (o : Tighter F) where
       both false = refl
 
       go : (t : Bool) → takes b v i ≡ t → takes (cond t (boundAt v i) b) v i ≡ false
-      go true e = neither (F v v) _ (λ h. differ _ h (o .self v)) (λ h. differ _ (and-right (eq v v) (i && not i) h) (both i))
+      go true e = neither (F v v) _ (λ h. ne-false-of-true _ h (o .self v)) (λ h. ne-false-of-true _ (and-right (eq v v) (i && not i) h) (both i))
       go false e = e
 
   -- what is not taken is not taken by a tighter end
@@ -93,12 +85,12 @@ module _ (F : Float → Float → Bool) (o : Tighter F) where
 
       over : F (b .value) v ≡ true → takes (boundAt v j) x i ≡ false
       over h = neither (F v x) _
-          (λ k. differ _ (o .through (b .value) v x h k) (l .not-over))
-          (λ k. differ _ (o .to x v (b .value) (and-left (eq x v) (j && not i) k) ∙ h) (l .not-over))
+          (λ k. ne-false-of-true _ (o .through (b .value) v x h k) (l .not-over))
+          (λ k. ne-false-of-true _ (o .to x v (b .value) (and-left (eq x v) (j && not i) k) ∙ h) (l .not-over))
 
       at : (eq v (b .value) && (b .inclusive && not j)) ≡ true → takes (boundAt v j) x i ≡ false
       at h = neither (F v x) _
-          (λ k. differ _ (sym (o .from v (b .value) x (and-left (eq v (b .value)) (b .inclusive && not j) h)) ∙ k) (l .not-over))
+          (λ k. ne-false-of-true _ (sym (o .from v (b .value) x (and-left (eq v (b .value)) (b .inclusive && not j) h)) ∙ k) (l .not-over))
           (λ k. no-two j (and-left j (not i) (and-right (eq x v) (j && not i) k))
           (and-right (b .inclusive) (not j) (and-right (eq v (b .value)) (b .inclusive && not j) h)))
         where
@@ -107,8 +99,8 @@ module _ (F : Float → Float → Bool) (o : Tighter F) where
           no-two false p q = false≢true p
 
       come : (p : Bool) → b .present ≡ p → (not p || (F (b .value) v || (eq v (b .value) && (b .inclusive && not j)))) ≡ true → takes (boundAt v j) x i ≡ false
-      come false ep z = absurd (differ _ (l .there) ep)
-      come true ep z = elim (or-split (F (b .value) v) (eq v (b .value) && (b .inclusive && not j)) z) [ inl h ↦ over h | inr h ↦ at h ]
+      come false ep z = absurd (ne-false-of-true _ (l .there) ep)
+      come true ep z = elim (or-cases (F (b .value) v) (eq v (b .value) && (b .inclusive && not j)) z) [ inl h ↦ over h | inr h ↦ at h ]
 
       go : (t : Bool) → takes b v j ≡ t → takes (cond t (boundAt v j) b) x i ≡ false
       go true t = come (b .present) refl t
@@ -122,8 +114,8 @@ module _ (F : Float → Float → Bool) (o : Tighter F) where
 
     through-b : F (b .value) x ≡ true → ⊥
     through-b k = elim side [
-      | inl q ↦ differ _ (o .from (c .value) (b .value) x q ∙ k) (l .not-over)
-      | inr q ↦ differ _ (o .through (c .value) (b .value) x q k) (l .not-over)
+      | inl q ↦ ne-false-of-true _ (o .from (c .value) (b .value) x q ∙ k) (l .not-over)
+      | inr q ↦ ne-false-of-true _ (o .through (c .value) (b .value) x q k) (l .not-over)
     ]
 
     at-c : eq (c .value) (b .value) ≡ true → eq x (b .value) ≡ true → (b .inclusive && not i) ≡ true → ⊥
@@ -133,13 +125,13 @@ module _ (F : Float → Float → Bool) (o : Tighter F) where
         x-c = eq-comm x (c .value) ∙ eq-left (c .value) (b .value) x q ∙ eq-comm (b .value) x ∙ z
 
         go : (w : Bool) → c .inclusive ≡ w → ⊥
-        go true e = differ _ (and-both _ _ x-c (and-both _ _ e (and-right (b .inclusive) (not i) k))) (l .not-at)
-        go false e = differ _ (and-both _ _ q (and-both _ _ (and-left (b .inclusive) (not i) k) (ap not e))) (m .not-at)
+        go true e = ne-false-of-true _ (and-both _ _ x-c (and-both _ _ e (and-right (b .inclusive) (not i) k))) (l .not-at)
+        go false e = ne-false-of-true _ (and-both _ _ q (and-both _ _ (and-left (b .inclusive) (not i) k) (ap not e))) (m .not-at)
 
     at-b : (eq x (b .value) && (b .inclusive && not i)) ≡ true → ⊥
     at-b k = elim side [
       | inl q ↦ at-c q (and-left (eq x (b .value)) (b .inclusive && not i) k) (and-right (eq x (b .value)) (b .inclusive && not i) k)
-      | inr q ↦ differ _ (o .to x (b .value) (c .value) (and-left (eq x (b .value)) (b .inclusive && not i) k) ∙ q) (l .not-over)
+      | inr q ↦ ne-false-of-true _ (o .to x (b .value) (c .value) (and-left (eq x (b .value)) (b .inclusive && not i) k) ∙ q) (l .not-over)
     ]
 
     out : takes b x i ≡ false
@@ -160,14 +152,14 @@ module _ (F : Float → Float → Bool) (o : Tighter F) where
 -- a range that is tightened below keeps its upper end, and the other way round
 lower-upper : (t : ValueRange) (b : Bound) → lowerBy t b .upper ≡ t .upper
 lower-upper t b =
-    pick-has (λ (r : ValueRange). r .upper ≡ t .upper) (b .present) (tightenLower t (b .value) (b .inclusive)) t
-    (λ p. pick-has (λ (r : ValueRange). r .upper ≡ t .upper) (takesLower (t .lower) (b .value) (b .inclusive))
+    cond-T-elim (λ (r : ValueRange). r .upper ≡ t .upper) (b .present) (tightenLower t (b .value) (b .inclusive)) t
+    (λ p. cond-T-elim (λ (r : ValueRange). r .upper ≡ t .upper) (takesLower (t .lower) (b .value) (b .inclusive))
     (record { lower = boundAt (b .value) (b .inclusive); upper = t .upper }) t (λ q. refl) refl) refl
 
 upper-lower : (t : ValueRange) (b : Bound) → upperBy t b .lower ≡ t .lower
 upper-lower t b =
-    pick-has (λ (r : ValueRange). r .lower ≡ t .lower) (b .present) (tightenUpper t (b .value) (b .inclusive)) t
-    (λ p. pick-has (λ (r : ValueRange). r .lower ≡ t .lower) (takesUpper (t .upper) (b .value) (b .inclusive))
+    cond-T-elim (λ (r : ValueRange). r .lower ≡ t .lower) (b .present) (tightenUpper t (b .value) (b .inclusive)) t
+    (λ p. cond-T-elim (λ (r : ValueRange). r .lower ≡ t .lower) (takesUpper (t .upper) (b .value) (b .inclusive))
     (record { lower = t .lower; upper = boundAt (b .value) (b .inclusive) }) t (λ q. refl) refl) refl
 
 -- an end with a bound, where there is one
@@ -177,15 +169,11 @@ withLower a b = cond (b .present) (cond (takesLower a (b .value) (b .inclusive))
 abbrev withUpper : Bound → Bound → Bound
 withUpper a b = cond (b .present) (cond (takesUpper a (b .value) (b .inclusive)) (boundAt (b .value) (b .inclusive)) a) a
 
-of-chosen : {A : Type 0} (g : ValueRange → A) (t : Bool) (r s : ValueRange) → g (cond t r s) ≡ cond t (g r) (g s)
-of-chosen g true r s = refl
-of-chosen g false r s = refl
-
 lower-is : (t new : ValueRange) → tightenBy t new .lower ≡ withLower (t .lower) (new .lower)
 lower-is t new =
     upper-lower (lowerBy t (new .lower)) (new .upper)
-    ∙ of-chosen (λ (r : ValueRange). r .lower) (b .present) (tightenLower t (b .value) (b .inclusive)) t
-    ∙ ap (λ (x : Bound). cond (b .present) x (t .lower)) (of-chosen (λ (r : ValueRange). r .lower) (takesLower (t .lower) (b .value) (b .inclusive))
+    ∙ cond-apply (λ (r : ValueRange). r .lower) (b .present) (tightenLower t (b .value) (b .inclusive)) t
+    ∙ ap (λ (x : Bound). cond (b .present) x (t .lower)) (cond-apply (λ (r : ValueRange). r .lower) (takesLower (t .lower) (b .value) (b .inclusive))
     (record { lower = boundAt (b .value) (b .inclusive); upper = t .upper }) t)
   where
     b : Bound
@@ -193,8 +181,8 @@ lower-is t new =
 
 upper-of : (t : ValueRange) (b : Bound) → upperBy t b .upper ≡ withUpper (t .upper) b
 upper-of t b =
-    of-chosen (λ (r : ValueRange). r .upper) (b .present) (tightenUpper t (b .value) (b .inclusive)) t
-    ∙ ap (λ (x : Bound). cond (b .present) x (t .upper)) (of-chosen (λ (r : ValueRange). r .upper) (takesUpper (t .upper) (b .value) (b .inclusive))
+    cond-apply (λ (r : ValueRange). r .upper) (b .present) (tightenUpper t (b .value) (b .inclusive)) t
+    ∙ ap (λ (x : Bound). cond (b .present) x (t .upper)) (cond-apply (λ (r : ValueRange). r .upper) (takesUpper (t .upper) (b .value) (b .inclusive))
     (record { lower = t .lower; upper = boundAt (b .value) (b .inclusive) }) t)
 
 upper-is : (t new : ValueRange) → tightenBy t new .upper ≡ withUpper (t .upper) (new .upper)
@@ -202,11 +190,11 @@ upper-is t new = upper-of (lowerBy t (new .lower)) (new .upper) ∙ ap (λ (a : 
 
 module _ (x : Float) (i : Bool) where
   lower-stays : (a b : Bound) → takesLower a x i ≡ false → takesLower (withLower a b) x i ≡ false
-  lower-stays a b e = pick-has (λ (z : Bound). takesLower z x i ≡ false) (b .present) (after lt upwards a (b .value) (b .inclusive)) a
+  lower-stays a b e = cond-T-elim (λ (z : Bound). takesLower z x i ≡ false) (b .present) (after lt upwards a (b .value) (b .inclusive)) a
       (λ p. stays-out lt upwards a (b .value) (b .inclusive) x i e) e
 
   upper-stays : (a b : Bound) → takesUpper a x i ≡ false → takesUpper (withUpper a b) x i ≡ false
-  upper-stays a b e = pick-has (λ (z : Bound). takesUpper z x i ≡ false) (b .present) (after (λ (y z : Float). lt z y) downwards a (b .value) (b .inclusive))
+  upper-stays a b e = cond-T-elim (λ (z : Bound). takesUpper z x i ≡ false) (b .present) (after (λ (y z : Float). lt z y) downwards a (b .value) (b .inclusive))
       a (λ p. stays-out (λ (y z : Float). lt z y) downwards a (b .value) (b .inclusive) x i e) e
 
   lower-comes : (a b : Bound) → Comparable a → Comparable b → takesLower b x i ≡ false → takesLower (withLower a b) x i ≡ false

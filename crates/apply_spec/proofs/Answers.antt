@@ -1,6 +1,6 @@
 -- What the answer of `apply_predicate` says of rows, from the answer alone, for one predicate and for any number of them. Assumes nothing.
 use mathlib.Core.Path.{_≡_, refl, sym, ap, _∙_, subst}
-use mathlib.Core.Bool.{Bool, true, false, cond, not, _&&_, _||_}
+use mathlib.Core.Bool.{Bool, true, false, cond, not, _&&_}
 use mathlib.Core.List.{List, [], _∷_}
 use mathlib.Core.Logic.{_↔_}
 use Prim.Native.Nat.{ℕ, _+_, _-_, _<_, _≤_}
@@ -9,8 +9,9 @@ use native.Mathlib.Omega.{arith}
 use lib.Dec.{T, T-not, ltb, leb, eqb}
 use lib.ListN.{getD, length, List·getD-eq-default}
 use borrow.Author.Tests.{ltb-true, leb-true}
+use Rattle.laws.proofs.Bools.{and-left, and-right, or-elim}
 use Rattle.lists.specs.Ranges.{allFrom}
-use Rattle.lists.proofs.RangeLaws.{and-left, and-right, all-at}
+use Rattle.lists.proofs.RangeLaws.{all-at}
 use Rattle.constraint_spec.specs.Sets.{entryAt, setOk}
 use Rattle.constraint_spec.specs.Meets.{SoundEntry}
 use Rattle.constraint_spec.proofs.Empty.{empty-good, empty-meets}
@@ -31,7 +32,7 @@ use Rattle.apply_spec.proofs.Applying.{Within}
 use Rattle.apply_spec.proofs.Predicates.{predicate-good, predicate-sound, predicate-back, predicate-exact}
 
 -- ---- what an accepted answer was made of
-other-outcome : {X : Type 0} (o : Outcome) → (refusalOf o ≡ 0 → ⊥) → o ≡ Accepted → X
+pub other-outcome : {X : Type 0} (o : Outcome) → (refusalOf o ≡ 0 → ⊥) → o ≡ Accepted → X
 other-outcome o f e = absurd (f (ap refusalOf e))
 
 -- what an accepted answer of `apply_predicate` was made of
@@ -74,21 +75,17 @@ apply-parts p f e = go (planOk p && (ltb (e .0) (p .expressions .count) && facts
     go false t q = other-outcome NoSuch (λ z. absurd (omega (arith, z))) q
 
 -- ---- the lineage of facts that keep the rules names identities
-columns-within : (nc ne np used : ℕ) → countsWithin nc ne np used ≡ true → nc ≤ 64
+pub columns-within : (nc ne np used : ℕ) → countsWithin nc ne np used ≡ true → nc ≤ 64
 unfolding countsWithin
 columns-within nc ne np used h = leb-true nc 64 (and-left _ _ h)
-
-or-true-elim : {X : Type 0} (a b : Bool) → (a || b) ≡ true → (a ≡ true → X) → (b ≡ true → X) → X
-or-true-elim true b e f g = f refl
-or-true-elim false b e f g = g e
 
 identity-small : (lineage : List ℕ) (nc c : ℕ) → nc ≤ 64 → lineageOk lineage nc c ≡ true → T (hasLineage lineage c) → identityOf lineage c < 128
 unfolding lineageOk
 identity-small lineage nc c few e t =
-    or-true-elim (eqb (getD lineage c 0) 0) _ e
+    or-elim (eqb (getD lineage c 0) 0) _ e
     (λ z. absurd (T-not (eqb (getD lineage c 0) 0) t (subst T (sym z) tt)))
     (λ z.
-    or-true-elim (ltb (identityOf lineage c) nc) _ (and-right (ltb c nc) _ z)
+    or-elim (ltb (identityOf lineage c) nc) _ (and-right (ltb c nc) _ z)
     (λ y. let k = ltb-true (identityOf lineage c) nc y in omega (arith, k, few))
     (λ y. let k = ltb-true (identityOf lineage c) (64 + nc) (and-right (leb 64 (identityOf lineage c)) _ y) in omega (arith, k, few)))
 

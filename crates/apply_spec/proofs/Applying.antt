@@ -9,6 +9,7 @@ use native.Mathlib.Omega.{arith}
 use lib.Dec.{T, T-not}
 use lib.Ieee.{Float}
 use lib.Ieee.Fits.{and-i, and-l, and-r}
+use Rattle.laws.proofs.Bools.{T-or-elim, T-or-inr}
 use Rattle.scalar.specs.Kinds.{kindOf, isNull, sameKind}
 use Rattle.scalar.specs.Scalars.{scalarToF64, sameScalar, Typed}
 use Rattle.scalar.specs.declared.ScalarValue.{ScalarValue}
@@ -19,6 +20,7 @@ use Rattle.scalar.proofs.NumberLaws.{converts}
 use Rattle.comparison.specs.Operators.{ordinary, bounding, reversedOp}
 use Rattle.comparison.specs.declared.BinaryOp.{BinaryOp}
 use Rattle.comparison.specs.declared.BinaryOp.the-variants.{Eq, NotEq, Lt, LtEq, Gt, GtEq, IsNotDistinctFrom}
+use Rattle.comparison.proofs.OperatorLaws.{bounding-ordinary}
 use Rattle.constraint_spec.specs.Values.{same, equals, placeOf, okRange, isNaN}
 use Rattle.constraint_spec.specs.Sets.{withFlag, unionValues, addNonNull, addLiteral, boundsBy, addBound, addRange, roomFor, pushResidual}
 use Rattle.constraint_spec.specs.Sets.{addResidual, done, refusedWith}
@@ -26,7 +28,7 @@ use Rattle.constraint_spec.specs.Meets.{Like, Meets, Good}
 use Rattle.constraint_spec.specs.declared.ConstraintSet.{ConstraintSet}
 use Rattle.constraint_spec.specs.declared.Ranged.{Ranged}
 use Rattle.constraint_spec.specs.declared.Applied.{Applied}
-use Rattle.constraint_spec.proofs.ValueLaws.{or-elim, or-right, same-null, same-sym, alike-null}
+use Rattle.constraint_spec.proofs.ValueLaws.{same-sym, alike-null, T-same-null}
 use Rattle.constraint_spec.proofs.Bounding.{number-not-null, self-same}
 use Rattle.constraint_spec.proofs.Goods.{flag-good}
 use Rattle.constraint_spec.proofs.Operations.{union-good, union-iff, nonnull-good, nonnull-iff, addLiteral-good, addLiteral-iff, addBound-good}
@@ -41,12 +43,13 @@ use Rattle.apply_spec.specs.declared.Seen.{Seen}
 use Rattle.apply_spec.specs.declared.Seen.the-variants.{Identity, Constant, Unseen}
 use Rattle.rows_spec.specs.Compare.{compareOf, truthOf}
 use Rattle.rows_spec.specs.Values.{nodeValue, valueIn, values, valueAt}
+use Rattle.rows_spec.proofs.ValueLaws.{value-in}
 use Rattle.apply_spec.specs.Meaning.{WholeRow, Consistent, OnNodes, AllOf}
 use Rattle.apply_spec.specs.Conditions.{OneKind, ExactSeen, ExactNode}
-use Rattle.apply_spec.proofs.Readings.{value-here, value-before}
-use Rattle.apply_spec.proofs.Conjunctions.{OperandsBelow, truth-back}
-use Rattle.apply_spec.proofs.Comparisons.{compared-of, of-compared, null-left, null-right, eq-iff, distinct-iff, turned, turned-back}
-use Rattle.apply_spec.proofs.Comparisons.{bounding-ordinary, tests-bound}
+use Rattle.apply_spec.proofs.Readings.{value-here}
+use Rattle.apply_spec.proofs.Conjunctions.{OperandsBelow, truth-back-true}
+use Rattle.apply_spec.proofs.Comparisons.{compared-of, of-compared, null-left, null-right, eq-iff, distinct-iff, compare-turned, compare-turned-back}
+use Rattle.apply_spec.proofs.Comparisons.{tests-bound}
 
 -- a literal holds a value of its type
 abbrev pub TypedNode : ExprData → Type 0
@@ -154,7 +157,7 @@ module _ (node : ℕ → ExprData) (items : List ℕ) (typed : (h : ℕ) → Typ
         (λ m. (let k = b .0 m in let l = a .0 (k .0) in (l .0, (l .1, k .1))), λ m. b .1 (a .1 (m .0, m .1 .0), m .1 .1))
         (λ p. let t = eq-iff (v i) (v j) .0 (q .0 p)
         in (
-          inr (or-right (isNull (v i) && isNull (v j)) (sameScalar (v i) (v j)) (and-r (not (isNull (v i))) (sameScalar (v i) (v j)) t)),
+          inr (T-or-inr (isNull (v i) && isNull (v j)) (sameScalar (v i) (v j)) (and-r (not (isNull (v i))) (sameScalar (v i) (v j)) t)),
           and-l
               (not (isNull (v i))) (sameScalar (v i) (v j)) t,
         ))
@@ -162,7 +165,7 @@ module _ (node : ℕ → ExprData) (items : List ℕ) (typed : (h : ℕ) → Typ
       where
         alike : (i j : ℕ) → (i ≡ j → T (not (isNaN (v i)))) → Like v i j → T (not (isNull (v i))) → T (sameScalar (v i) (v j))
         alike i j x (inl k) m = subst (λ (z : ℕ). T (sameScalar (v i) (v z))) k (self-same (v i) (c .typed i) (x k))
-        alike i j x (inr t) m = or-elim (isNull (v i) && isNull (v j)) (sameScalar (v i) (v j)) t
+        alike i j x (inr t) m = T-or-elim (isNull (v i) && isNull (v j)) (sameScalar (v i) (v j)) t
             (λ b. absurd (T-not (isNull (v i)) m (and-l (isNull (v i)) (isNull (v j)) b))) (λ b. b)
     pair-step NotEq i j hi hj q u = alone s h _ g u
     pair-step Lt i j hi hj q u = alone s h _ g u
@@ -176,7 +179,7 @@ module _ (node : ℕ → ExprData) (items : List ℕ) (typed : (h : ℕ) → Typ
       where
         alike : (i j : ℕ) → (i ≡ j → T (not (isNaN (v i)))) → Like v i j → T (same (v i) (v j))
         alike i j x (inl k) = subst (λ (z : ℕ). T (same (v i) (v z))) k
-            (or-right (isNull (v i) && isNull (v i)) (sameScalar (v i) (v i)) (self-same (v i) (c .typed i) (x k)))
+            (T-or-inr (isNull (v i) && isNull (v i)) (sameScalar (v i) (v i)) (self-same (v i) (c .typed i) (x k)))
         alike i j x (inr t) = t
 
     module _ (i : ℕ) (hi : i < 128) (l : ScalarValue) (tl : Typed l) where
@@ -193,7 +196,7 @@ module _ (node : ℕ → ExprData) (items : List ℕ) (typed : (h : ℕ) → Typ
           (λ p. let m = compared-of op (v i) l (bounding-ordinary op o) (q .0 p)
           in (m .left, subst T (tests-bound op o (v i) l (m .left) (m .kind) (c .typed i) tl x w) (m .holds)))
           (λ k m.
-          q .1 (or-elim (isNull (v i)) (sameKind (kindOf (v i)) (kindOf l)) (k o (number-not-null l x w)) (λ z. absurd (T-not (isNull (v i)) (m .0) z))
+          q .1 (T-or-elim (isNull (v i)) (sameKind (kindOf (v i)) (kindOf l)) (k o (number-not-null l x w)) (λ z. absurd (T-not (isNull (v i)) (m .0) z))
           (λ z.
           of-compared op (v i) l (bounding-ordinary op o)
           (record {
@@ -260,10 +263,10 @@ module _ (node : ℕ → ExprData) (items : List ℕ) (typed : (h : ℕ) → Typ
       flip a b ta tb t =
           let m = and-l (not (isNull a)) (sameScalar a b) t in
           let k = and-r (not (isNull a)) (sameScalar a b) t in
-          and-i (not (isNull b)) (sameScalar b a) (subst (λ (x : Bool). T (not x)) (same-null a b k) m) (same-sym a b k ta tb)
+          and-i (not (isNull b)) (sameScalar b a) (subst (λ (x : Bool). T (not x)) (T-same-null a b k) m) (same-sym a b k ta tb)
 
       turn : (op : BinaryOp) → T (bounding op) → Says op l (v i) → Says (reversedOp op) (v i) l
-      turn op o q = (λ p. turned op l (v i) tl (c .typed i) o (q .0 p), λ p. q .1 (turned-back op l (v i) tl (c .typed i) o p))
+      turn op o q = (λ p. compare-turned op l (v i) tl (c .typed i) o (q .0 p), λ p. q .1 (compare-turned-back op l (v i) tl (c .typed i) o p))
 
       left-step : (op : BinaryOp) → Says op l (v i) → T (not (boundReversed s h op i l .refused)) → Step s (boundReversed s h op i l .constraints) (O h)
           (OneKind (v i) op l)
@@ -311,7 +314,7 @@ module _ (node : ℕ → ExprData) (items : List ℕ) (typed : (h : ℕ) → Typ
         pick (ordinary op && n) (done (withFlag s true)) (operandsApplied s h op A B) s (O h) (ExactSeen v op A B)
         (λ t z. flag s (O h) (ExactSeen v op A B) g (λ p.
         let o = and-l (ordinary op) n t in
-        or-elim (isNullLiteral A) (isNullLiteral B) (and-r (ordinary op) n t)
+        T-or-elim (isNullLiteral A) (isNullLiteral B) (and-r (ordinary op) n t)
         (λ w. null-left op a b o (null-seen A a x w) (q .0 p))
         (λ w. null-right op a b o (null-seen B b y w) (q .0 p))))
         (λ t z. operands-step op A B a b x y q z)
@@ -361,11 +364,11 @@ module _ (node : ℕ → ExprData) (items : List ℕ) (typed : (h : ℕ) → Typ
         let vals = values (row .cols) node items h in
         let k = ap truthOf (value-here (row .cols) node items h) ∙ ap (λ (x : ExprData). truthOf (nodeValue (row .cols) (valueIn vals) (operandsOf items) x))
         e in
-        let w = truth-back (compareOf op (valueIn vals (l .0)) (valueIn vals (r .0))) in
+        let w = truth-back-true (compareOf op (valueIn vals (l .0)) (valueIn vals (r .0))) in
         comparison-step op (seenOf lineage (node (l .0))) (seenOf lineage (node (r .0))) (valueAt (row .cols) node items (l .0))
         (valueAt (row .cols) node items (r .0)) (sees (l .0)) (sees (r .0))
         (along op (valueIn vals (l .0)) (valueIn vals (r .0)) (valueAt (row .cols) node items (l .0)) (valueAt (row .cols) node items (r .0))
-        (value-before (row .cols) node items h (l .0) (b .0)) (value-before (row .cols) node items h (r .0) (b .1))
+        (value-in (row .cols) node items h (l .0) (b .0)) (value-in (row .cols) node items h (r .0) (b .1))
         (λ p. w .0 (sym k ∙ p), λ t. k ∙ w .1 t)) u
     node-step (Nary op es) b e u = alone s h _ g u
 

@@ -30,7 +30,7 @@ use Rattle.rows_spec.specs.Compare.{compareOf}
 use Rattle.rows_spec.specs.InOrder.{inOrder}
 use Rattle.rows_spec.specs.Values.{values}
 use Rattle.apply_spec.specs.Meaning.{AllOn}
-use Rattle.apply_spec.proofs.Conjunctions.{truth-back}
+use Rattle.apply_spec.proofs.Conjunctions.{truth-back-true}
 use Rattle.apply_spec.proofs.Comparisons.{compared-of}
 use Rattle.apply_spec.proofs.ExactnessExamples.{fresh, everywhere}
 
@@ -91,5 +91,5 @@ gap (negsuc k) a b = absurd a
 pub between-none : (n : ℤ) → AllOn plan (everywhere (S.Int32 n)) (above ∷ below ∷ []) → ⊥
 unfolding values inOrder exprData
 between-none n o =
-    gap n (compared-of Gt (S.Int32 n) (S.Int32 (pos 3)) tt (truth-back (compareOf Gt (S.Int32 n) (S.Int32 (pos 3))) .0 (o .0)) .holds)
-    (compared-of Lt (S.Int32 n) (S.Int32 (pos 4)) tt (truth-back (compareOf Lt (S.Int32 n) (S.Int32 (pos 4))) .0 (o .1 .0)) .holds)
+    gap n (compared-of Gt (S.Int32 n) (S.Int32 (pos 3)) tt (truth-back-true (compareOf Gt (S.Int32 n) (S.Int32 (pos 3))) .0 (o .0)) .holds)
+    (compared-of Lt (S.Int32 n) (S.Int32 (pos 4)) tt (truth-back-true (compareOf Lt (S.Int32 n) (S.Int32 (pos 4))) .0 (o .1 .0)) .holds)

@@ -15,10 +15,11 @@ use Rattle.truth.specs.Truth.{isTrue}
 use Rattle.comparison.specs.Operators.{ordinary, bounding, reversedOp}
 use Rattle.comparison.specs.declared.BinaryOp.{BinaryOp}
 use Rattle.comparison.specs.declared.BinaryOp.the-variants.{Eq, NotEq, Lt, LtEq, Gt, GtEq, IsNotDistinctFrom}
+use Rattle.comparison.proofs.OperatorLaws.{bounding-ordinary, reversed-twice, reversed-bounding}
 use Rattle.constraint_spec.specs.Values.{same, equals, placeOf, okRange}
 use Rattle.constraint_spec.specs.Sets.{boundsBy}
 use Rattle.constraint_spec.proofs.Pairs.{by-pairs}
-use Rattle.constraint_spec.proofs.ValueLaws.{same-null, same-sym}
+use Rattle.constraint_spec.proofs.ValueLaws.{same-sym, T-same-null}
 use Rattle.constraint_spec.proofs.Bounding.{Tested, tested}
 use Rattle.rows_spec.specs.Compare.{known, compared, compareOf}
 
@@ -85,7 +86,7 @@ eq-iff a b = (
   λ t.
       let n = and-l (not (isNull a)) (sameScalar a b) t in
       let s = and-r (not (isNull a)) (sameScalar a b) t in
-      of-compared Eq a b tt (record { left = n; right = subst (λ (c : Bool). T (not c)) (same-null a b s) n; kind = same-kind a b s n; holds = s }),
+      of-compared Eq a b tt (record { left = n; right = subst (λ (c : Bool). T (not c)) (T-same-null a b s) n; kind = same-kind a b s n; holds = s }),
 )
 
 distinct-test : (p q k t : Bool) → (p ≡ q) ⊎ T (not t) → (T t → T (not p) → T k) → isTrue (cond (p || q) (known (p && q)) (cond k (known t) 0))
@@ -106,7 +107,7 @@ distinct-test false false false false e f = refl
 pub distinct-iff : (a b : ScalarValue) → (compareOf IsNotDistinctFrom a b ≡ 2) ↔ T (same a b)
 unfolding compareOf
 distinct-iff a b =
-    let e = distinct-test (isNull a) (isNull b) (sameKind (kindOf a) (kindOf b)) (sameScalar a b) (decide (sameScalar a b) (same-null a b))
+    let e = distinct-test (isNull a) (isNull b) (sameKind (kindOf a) (kindOf b)) (sameScalar a b) (decide (sameScalar a b) (T-same-null a b))
     (λ t n. same-kind a b t n) in
     (λ t. subst T e (eq→eqb t), λ t. eqb→eq _ 2 (subst T (sym e) t))
   where
@@ -127,49 +128,20 @@ turned-tests Gt a b ta tb o t = t
 turned-tests GtEq a b ta tb o t = subst (λ (x : Bool). T (lessScalar b a || x)) (same-turn a b ta tb) t
 turned-tests IsNotDistinctFrom a b ta tb o t = absurd o
 
--- one of the four stays one of the four
-pub reversed-bounding : (op : BinaryOp) → T (bounding op) → T (bounding (reversedOp op))
-reversed-bounding Eq o = o
-reversed-bounding NotEq o = o
-reversed-bounding Lt o = o
-reversed-bounding LtEq o = o
-reversed-bounding Gt o = o
-reversed-bounding GtEq o = o
-reversed-bounding IsNotDistinctFrom o = o
-
-reversed-twice : (op : BinaryOp) → reversedOp (reversedOp op) ≡ op
-reversed-twice Eq = refl
-reversed-twice NotEq = refl
-reversed-twice Lt = refl
-reversed-twice LtEq = refl
-reversed-twice Gt = refl
-reversed-twice GtEq = refl
-reversed-twice IsNotDistinctFrom = refl
-
--- each of the four is one of the six
-pub bounding-ordinary : (op : BinaryOp) → T (bounding op) → T (ordinary op)
-bounding-ordinary Eq o = tt
-bounding-ordinary NotEq o = tt
-bounding-ordinary Lt o = tt
-bounding-ordinary LtEq o = tt
-bounding-ordinary Gt o = tt
-bounding-ordinary GtEq o = tt
-bounding-ordinary IsNotDistinctFrom o = o
-
 kind-turn : (a b : ScalarValue) → T (sameKind (kindOf a) (kindOf b)) → T (sameKind (kindOf b) (kindOf a))
 kind-turn a b t = eq→eqb (sym (eqb→eq (kindCode (kindOf a)) (kindCode (kindOf b)) t))
 
 -- one of the four says the same with its sides exchanged. Assumes values of their types
-pub turned : (op : BinaryOp) (a b : ScalarValue) → Typed a → Typed b → T (bounding op) → compareOf op a b ≡ 2 → compareOf (reversedOp op) b a ≡ 2
-turned op a b ta tb o e =
+pub compare-turned : (op : BinaryOp) (a b : ScalarValue) → Typed a → Typed b → T (bounding op) → compareOf op a b ≡ 2 → compareOf (reversedOp op) b a ≡ 2
+compare-turned op a b ta tb o e =
     let c = compared-of op a b (bounding-ordinary op o) e in
-    of-compared (reversedOp op) b a (bounding-ordinary (reversedOp op) (reversed-bounding op o))
+    of-compared (reversedOp op) b a (bounding-ordinary (reversedOp op) (subst T (sym (reversed-bounding op)) o))
     (record { left = c .right; right = c .left; kind = kind-turn a b (c .kind); holds = turned-tests op a b ta tb o (c .holds) })
 
 -- and back. Assumes values of their types
-pub turned-back : (op : BinaryOp) (a b : ScalarValue) → Typed a → Typed b → T (bounding op) → compareOf (reversedOp op) b a ≡ 2 → compareOf op a b ≡ 2
-turned-back op a b ta tb o e =
-    subst (λ (c : BinaryOp). compareOf c a b ≡ 2) (reversed-twice op) (turned (reversedOp op) b a tb ta (reversed-bounding op o) e)
+pub compare-turned-back : (op : BinaryOp) (a b : ScalarValue) → Typed a → Typed b → T (bounding op) → compareOf (reversedOp op) b a ≡ 2 → compareOf op a b ≡ 2
+compare-turned-back op a b ta tb o e =
+    subst (λ (c : BinaryOp). compareOf c a b ≡ 2) (reversed-twice op) (compare-turned (reversedOp op) b a tb ta (subst T (sym (reversed-bounding op)) o) e)
 
 -- the comparison of a value with a literal of its kind is its bound. Assumes values of their types
 pub tests-bound : (op : BinaryOp) → T (bounding op) → (v l : ScalarValue) → T (not (isNull v)) → T (sameKind (kindOf v) (kindOf l)) → Typed v → Typed l

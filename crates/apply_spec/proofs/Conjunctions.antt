@@ -9,6 +9,7 @@ use native.Mathlib.Omega.{arith}
 use lib.Dec.{T, eqb→eq}
 use lib.ListN.{getD}
 use lib.Ieee.Fits.{and-i, and-l, and-r, eq→eqb}
+use Rattle.laws.proofs.Numbers.{before-all}
 use Rattle.scalar.specs.declared.Kind.the-variants as K
 use Rattle.scalar.specs.declared.ScalarValue.{ScalarValue}
 use Rattle.scalar.specs.declared.ScalarValue.the-variants as S
@@ -22,9 +23,9 @@ use Rattle.apply_spec.specs.Conjuncts.{joinedOf, conjunctsBy, conjunctsT
 use Rattle.rows_spec.specs.Compare.{truthOf, ofTruth}
 use Rattle.rows_spec.specs.Values.{truths, nodeValue, valueIn, values}
 use Rattle.apply_spec.specs.Meaning.{WholeRow, OnNodes, AllOf}
-use Rattle.rows_spec.proofs.Tables.{before-all}
+use Rattle.rows_spec.proofs.ValueLaws.{value-past, value-in}
 use Rattle.apply_spec.proofs.Members.{all-append, all-left, all-right, all-map}
-use Rattle.apply_spec.proofs.Readings.{value-here, value-before, value-past, conjuncts-here, conjuncts-before, conjuncts-past}
+use Rattle.apply_spec.proofs.Readings.{value-here, conjuncts-here, conjuncts-before, conjuncts-past}
 
 -- the operands of a node stand before h
 abbrev pub OperandsBelow : List ℕ → ℕ → ExprData → Type 0
@@ -35,8 +36,8 @@ OperandsBelow items h (Binary op l r) = (l .0 < h) × (r .0 < h)
 OperandsBelow items h (Nary op r) = AllOf (λ (e : ℕ). e < h) (operandsOf items r)
 
 -- the value made of a truth has it: TRUE where it was TRUE. Assumes nothing
-pub truth-back : (t : ℕ) → (truthOf (ofTruth t) ≡ 2) ↔ (t ≡ 2)
-truth-back t =
+pub truth-back-true : (t : ℕ) → (truthOf (ofTruth t) ≡ 2) ↔ (t ≡ 2)
+truth-back-true t =
     let i = go (isFalse t) (isTrue t) (λ a b. apart t (eqb→eq t 0 a) (eqb→eq t 2 b)) in
     (λ e. eqb→eq t 2 (i .0 e), λ e. i .1 (eq→eqb e))
   where
@@ -130,7 +131,7 @@ module _ (node : ℕ → ExprData) (items : List ℕ) (row : WholeRow) where
       joined h ih (e ∷ es) a =
           all-append O (getD (cons h) e []) (joinedOf (cons h) es)
           (elim (decLt e h) [
-            | yes l ↦ subst (AllOf O) (sym (conjuncts-before node items h e l)) (ih e l (ap truthOf (sym (value-before (row .cols) node items h e l)) ∙ a .0))
+            | yes l ↦ subst (AllOf O) (sym (conjuncts-before node items h e l)) (ih e l (ap truthOf (sym (value-in (row .cols) node items h e l)) ∙ a .0))
             | no l ↦ absurd (null-two (ap truthOf (sym (value-past (row .cols) node items h e (omega arith))) ∙ a .0))
           ])
           (joined h ih es (a .1))
@@ -143,7 +144,7 @@ module _ (node : ℕ → ExprData) (items : List ℕ) (row : WholeRow) where
       go h ih o (Binary op l r) t = (o, tt)
       go h ih o (Nary N.And r) t =
           joined h ih (operandsOf items r)
-          (all-iff (valueIn (vals h)) (operandsOf items r) .0 (truth-back (allOf (truths (valueIn (vals h)) (operandsOf items r))) .0 t))
+          (all-iff (valueIn (vals h)) (operandsOf items r) .0 (truth-back-true (allOf (truths (valueIn (vals h)) (operandsOf items r))) .0 t))
       go h ih o (Nary N.Or r) t = (o, tt)
 
       step : (h : ℕ) → ((e : ℕ) → e < h → O e → AllOf O (conjunctsOf node items e)) → O h → AllOf O (conjunctsOf node items h)
@@ -162,7 +163,7 @@ module _ (node : ℕ → ExprData) (items : List ℕ) (row : WholeRow) where
         joined h hn ih [] b a = tt
         joined h hn ih (e ∷ es) b a =
             let m = joinedOf (cons h) es in (
-              ap truthOf (value-before (row .cols) node items h e (b .0))
+              ap truthOf (value-in (row .cols) node items h e (b .0))
                   ∙ ih e (b .0) (omega (arith, b .0, hn)) (subst (AllOf O) (conjuncts-before node items h e (b .0)) (all-left O (getD (cons h) e []) m a)),
               joined h hn ih es (b .1) (all-right O (getD (cons h) e []) m a),
             )
@@ -176,7 +177,7 @@ module _ (node : ℕ → ExprData) (items : List ℕ) (row : WholeRow) where
         go h hn ih (Nary N.And r) b q a =
             ap truthOf (value-here (row .cols) node items h)
             ∙ ap (λ (x : ExprData). truthOf (nodeValue (row .cols) (valueIn (vals h)) (operandsOf items) x)) q
-            ∙ truth-back (allOf (truths (valueIn (vals h)) (operandsOf items r))) .1
+            ∙ truth-back-true (allOf (truths (valueIn (vals h)) (operandsOf items r))) .1
             (all-iff (valueIn (vals h)) (operandsOf items r) .1 (joined h hn ih (operandsOf items r) b a))
         go h hn ih (Nary N.Or r) b q a = a .0
 

@@ -8,6 +8,7 @@ use lib.Dec.{T, T-not, eqb, ltb→lt}
 use lib.IntN.{ℤ, pos}
 use lib.ListN.{getD, replicate}
 use lib.Ieee.{nan, binary64, eq, ofInt}
+use Rattle.laws.proofs.Lists.{getD-replicate-self}
 use Rattle.lists.specs.Ranges.{allFrom, anyFrom, countFrom}
 use Rattle.plan_kinds.specs.Rows.{lineOf, rowOf}
 use Rattle.plan_kinds.specs.Records.{bitsOk, handleOk, countOf, moreOf}
@@ -151,15 +152,10 @@ unfolding applyPredicate planOk countsWithin allFrom exprOkOf recordOk listsOk r
     comparisonApplied exprData addRange
 plain-accepted = refl
 
-zeros : (n i : ℕ) → _≡_ {A = ℕ} (getD (replicate n 0) i 0) 0
-zeros zero i = refl
-zeros (suc n) zero = refl
-zeros (suc n) (suc i) = zeros n i
-
 plain-wide : Wide plainPlan
 plain-wide zero = ltb→lt 0 (2 ^ 64) tt
 plain-wide (suc zero) = ltb→lt 7 (2 ^ 64) tt
-plain-wide (suc (suc h)) = subst (λ (k : ℕ). k < 2 ^ 64) (sym (zeros 1022 h)) (ltb→lt 0 (2 ^ 64) tt)
+plain-wide (suc (suc h)) = subst (λ (k : ℕ). k < 2 ^ 64) (sym (getD-replicate-self 1022 h 0)) (ltb→lt 0 (2 ^ 64) tt)
 
 plain-kinds : OneKindPlan plainPlan lineage (λ i. K.Int32)
 unfolding exprData
@@ -167,7 +163,7 @@ plain-kinds = record { columns = of-column; comparisons = of-comparison }
   where
     of-column : (c : ℕ) → T (hasLineage lineage c) → T (sameKind (kindOfCode (getD (plainPlan .columns .kind) c 0)) K.Int32)
     of-column zero t = tt
-    of-column (suc c) t = absurd (T-not (eqb (getD (replicate 63 0) c 0) 0) t (subst (λ (k : ℕ). T (eqb k 0)) (sym (zeros 63 c)) tt))
+    of-column (suc c) t = absurd (T-not (eqb (getD (replicate 63 0) c 0) 0) t (subst (λ (k : ℕ). T (eqb k 0)) (sym (getD-replicate-self 63 c 0)) tt))
 
     of-comparison : (h : ℕ) → h < 3 → OneKinded (plainPlan .columns .kind) (nodeAt plainPlan) (nodeAt plainPlan h)
     of-comparison zero l = tt

@@ -1,6 +1,7 @@
 pub mod PredicateForms
 pub mod Members
 pub mod Readings
+pub mod Applications
 pub mod Conjunctions
 pub mod Comparisons
 pub mod Applying

@@ -16,17 +16,13 @@ use Rattle.constraint_spec.proofs.Merge.{merged-good, merge-iff}
 use Rattle.constraint_spec.proofs.Operations.{no-row}
 use Rattle.plan.specs.declared.Plan.{Plan}
 use Rattle.plan_rules.specs.Rules.{planOk}
-use Rattle.apply_spec.specs.Facts.{refusalOf, withConstraints, factsOk}
+use Rattle.apply_spec.specs.Facts.{withConstraints, factsOk}
 use Rattle.apply_spec.specs.Entries.{answered, refused, accepted, override, overridden, overlaid, inputsMerged, mergeInputs}
 use Rattle.apply_spec.specs.declared.LogicalFacts.{LogicalFacts}
-use Rattle.apply_spec.specs.declared.Outcome.{Outcome}
 use Rattle.apply_spec.specs.declared.Outcome.the-variants.{Accepted, Residuals, NoSuch}
 use Rattle.plan.specs.declared.Expr.{Expr}
 use Rattle.apply_spec.specs.Meaning.{WholeRow, Consistent, On, MeetsFacts, Wide, GoodFacts, freshFacts, AcceptedAll, AllOn}
-use Rattle.apply_spec.proofs.Answers.{Reached, ExactAll, all-reached, sequence-sound, sequence-exact}
-
-other-outcome : {X : Type 0} (o : Outcome) → (refusalOf o ≡ 0 → ⊥) → o ≡ Accepted → X
-other-outcome o f e = absurd (f (ap refusalOf e))
+use Rattle.apply_spec.proofs.Answers.{Reached, ExactAll, all-reached, sequence-sound, sequence-exact, other-outcome}
 
 -- a lineage that is overridden keeps its length
 overridden-long : (left right : List ℕ) → length (overridden left right) ≡ length left

@@ -10,6 +10,7 @@ use lib.Dec.{T, T-not, eqb→eq}
 use lib.ListN.{getD, length}
 use lib.Ieee.{nan, inf, fin}
 use lib.Ieee.Fits.{eq→eqb}
+use Rattle.laws.proofs.Bools.{T-or-elim, T-or-inl, T-or-inr}
 use Rattle.scalar.specs.Kinds.{kindCode, kindOf, isNull, sameKind, kindOfCode}
 use Rattle.scalar.specs.declared.Kind.{Kind}
 use Rattle.scalar.specs.declared.Kind.the-variants as K
@@ -17,7 +18,6 @@ use Rattle.scalar.specs.declared.ScalarValue.{ScalarValue}
 use Rattle.scalar.specs.declared.ScalarValue.the-variants as S
 use Rattle.comparison.specs.declared.BinaryOp.{BinaryOp}
 use Rattle.constraint_spec.specs.Values.{isNaN}
-use Rattle.constraint_spec.proofs.ValueLaws.{or-elim, or-left, or-right}
 use Rattle.plan.specs.declared.Plan.{Plan}
 use Rattle.plan.specs.declared.Expr.{Expr}
 use Rattle.plan_data.specs.Nodes.{nodeAt}
@@ -73,8 +73,8 @@ whole-kinded kinds v w o = record { of = o; number = λ i. no-nan (kinds i) (v i
 module _ (kinds : ℕ → Kind) (v : ℕ → ScalarValue) (k : Kinded kinds v) where
   of-one : (op : BinaryOp) (i : ℕ) (l : ScalarValue) → T (sameKind (kinds i) (kindOf l)) → OneKind (v i) op l
   of-one op i l t o n =
-      or-elim (isNull (v i)) (sameKind (kindOf (v i)) (kinds i)) (k .of i) (or-left (isNull (v i)) (sameKind (kindOf (v i)) (kindOf l)))
-      (λ s. or-right (isNull (v i)) (sameKind (kindOf (v i)) (kindOf l)) (same-through (kindOf (v i)) (kinds i) (kindOf l) s t))
+      T-or-elim (isNull (v i)) (sameKind (kindOf (v i)) (kinds i)) (k .of i) (T-or-inl (isNull (v i)) (sameKind (kindOf (v i)) (kindOf l)))
+      (λ s. T-or-inr (isNull (v i)) (sameKind (kindOf (v i)) (kindOf l)) (same-through (kindOf (v i)) (kinds i) (kindOf l) s t))
 
   -- the kind of what is seen
   abbrev SeenKind : Seen → Kind → Type 0

@@ -1,14 +1,15 @@
 -- In a plan that keeps the rules the operands of a node stand before it, and its literals hold values of their types. Assumes nothing.
 use mathlib.Core.Path.{_≡_, refl, subst}
-use mathlib.Core.Bool.{Bool, true, false, cond, _&&_}
+use mathlib.Core.Bool.{true}
 use mathlib.Core.List.{List}
 use Prim.Native.Nat.{ℕ, suc, _+_, _<_, _^_}
 use native.Mathlib.Omega.{arith}
-use lib.Dec.{T, leb, eqb, eqb→eq}
+use lib.Dec.{leb, eqb, eqb→eq}
 use lib.ListN.{getD}
 use borrow.Author.Tests.{ltb-true}
+use Rattle.laws.proofs.Bools.{and-left, and-right, cond-T-elim, and4-first, and4-second}
 use Rattle.lists.specs.Ranges.{allFrom}
-use Rattle.lists.proofs.RangeLaws.{and-left, and-right, all-at}
+use Rattle.lists.proofs.RangeLaws.{all-at}
 use Rattle.scalar.proofs.CodedLaws.{scalar-of-typed}
 use Rattle.plan_kinds.specs.declared.Record.{Record}
 use Rattle.plan_kinds.specs.Rows.{lineOf, rowOf}
@@ -18,21 +19,10 @@ use Rattle.plan.specs.Records.{exprRecord, exprStart}
 use Rattle.plan_rules.specs.Rules.{recordOk, itemOk, listsOk, exprOkOf, planOk}
 use Rattle.plan_rules.proofs.RuleLaws.{rules}
 use Rattle.plan_data.specs.Nodes.{exprData, nodeAt}
-use Rattle.plan_data.specs.declared.ExprData.{ExprData}
 use Rattle.apply_spec.specs.Meaning.{Wide}
 use Rattle.apply_spec.proofs.Members.{all-run}
 use Rattle.apply_spec.proofs.Conjunctions.{OperandsBelow}
 use Rattle.apply_spec.proofs.Applying.{TypedNode}
-
-either : (P : ExprData → Type 0) (b : Bool) (x y : ExprData) → (T b → P x) → P y → P (cond b x y)
-either P true x y f q = f tt
-either P false x y f q = q
-
-first : (a b c d : Bool) → (((a && b) && c) && d) ≡ true → a ≡ true
-first a b c d e = and-left a b (and-left (a && b) c (and-left ((a && b) && c) d e))
-
-second : (a b c d : Bool) → (((a && b) && c) && d) ≡ true → b ≡ true
-second a b c d e = and-right a b (and-left (a && b) c (and-left ((a && b) && c) d e))
 
 module _ (x : Record) (st nc h np used : ℕ) (ia ib : List ℕ) where
   handles : recordOk 2 x nc h np ≡ true → handlesOk (rowOf (x .kind)) x nc h np ≡ true
@@ -43,13 +33,13 @@ module _ (x : Record) (st nc h np used : ℕ) (ia ib : List ℕ) where
   left-below : (k : ℕ) → rowOf k .a ≡ 3 → x .kind ≡ k → recordOk 2 x nc h np ≡ true → x .a < h
   unfolding handleOk
   left-below k r q e =
-      let t = first _ _ _ _ (subst (λ (k : ℕ). handlesOk (rowOf k) x nc h np ≡ true) q (handles e)) in
+      let t = and4-first _ _ _ _ (subst (λ (k : ℕ). handlesOk (rowOf k) x nc h np ≡ true) q (handles e)) in
       ltb-true (x .a) h (subst (λ (s : ℕ). handleOk s (x .a) nc h np ≡ true) r t)
 
   right-below : (k : ℕ) → rowOf k .b ≡ 3 → x .kind ≡ k → recordOk 2 x nc h np ≡ true → x .b < h
   unfolding handleOk
   right-below k r q e =
-      let t = second (handleOk (rowOf k .a) (x .a) nc h np) _ _ _ (subst (λ (k : ℕ). handlesOk (rowOf k) x nc h np ≡ true) q (handles e)) in
+      let t = and4-second (handleOk (rowOf k .a) (x .a) nc h np) _ _ _ (subst (λ (k : ℕ). handlesOk (rowOf k) x nc h np ≡ true) q (handles e)) in
       ltb-true (x .b) h (subst (λ (s : ℕ). handleOk s (x .b) nc h np ≡ true) r t)
 
   items-right : listsOk ia ib used x st nc (suc h) np ≡ true → allFrom (itemOk ia ib (rowOf (x .kind) .item) nc (suc h) np) st (countOf (rowOf (x .kind)) x)
@@ -62,7 +52,7 @@ module _ (x : Record) (st nc h np used : ℕ) (ia ib : List ℕ) where
   operand-below q e j l =
       let t = subst (λ (k : ℕ). allFrom (itemOk ia ib (rowOf k .item) nc (suc h) np) st (countOf (rowOf k) x) ≡ true) q (items-right e) in
       let u = all-at (itemOk ia ib 0x24 nc (suc h) np) (x .a) st t (st + j) (omega arith) (omega arith) in
-      let w = ltb-true (getD ia (st + j) 0 + 1) (suc h) (first _ _ _ _ u) in
+      let w = ltb-true (getD ia (st + j) 0 + 1) (suc h) (and4-first _ _ _ _ u) in
       omega (arith, w)
 
   -- a record that is right has operands that stand before it. Assumes nothing
@@ -70,20 +60,20 @@ module _ (x : Record) (st nc h np used : ℕ) (ia ib : List ℕ) where
   unfolding exprData rowOf lineOf
   expr-below e l =
       let P = OperandsBelow ia h in
-      either P (eqb (x .kind) 0x20) _ _ (λ t. tt)
-      (either P (eqb (x .kind) 0x21) _ _ (λ t. left-below 0x21 refl (eqb→eq (x .kind) 0x21 t) e)
-      (either P (eqb (x .kind) 0x22) _ _ (λ t. let q = eqb→eq (x .kind) 0x22 t in (left-below 0x22 refl q e, right-below 0x22 refl q e))
-      (either P (eqb (x .kind) 0x23) _ _ (λ t. all-run (λ (k : ℕ). k < h) 0 st (x .a) ia (operand-below (eqb→eq (x .kind) 0x23 t) l))
+      cond-T-elim P (eqb (x .kind) 0x20) _ _ (λ t. tt)
+      (cond-T-elim P (eqb (x .kind) 0x21) _ _ (λ t. left-below 0x21 refl (eqb→eq (x .kind) 0x21 t) e)
+      (cond-T-elim P (eqb (x .kind) 0x22) _ _ (λ t. let q = eqb→eq (x .kind) 0x22 t in (left-below 0x22 refl q e, right-below 0x22 refl q e))
+      (cond-T-elim P (eqb (x .kind) 0x23) _ _ (λ t. all-run (λ (k : ℕ). k < h) 0 st (x .a) ia (operand-below (eqb→eq (x .kind) 0x23 t) l))
       tt)))
 
 -- a literal of 64 bits holds a value of its type. Assumes nothing
 pub expr-typed : (x : Record) (st : ℕ) → x .bits < 2 ^ 64 → TypedNode (exprData x st)
 unfolding exprData
 expr-typed x st w =
-    either TypedNode (eqb (x .kind) 0x20) _ _ (λ t. tt)
-    (either TypedNode (eqb (x .kind) 0x21) _ _ (λ t. tt)
-    (either TypedNode (eqb (x .kind) 0x22) _ _ (λ t. tt)
-    (either TypedNode (eqb (x .kind) 0x23) _ _ (λ t. tt)
+    cond-T-elim TypedNode (eqb (x .kind) 0x20) _ _ (λ t. tt)
+    (cond-T-elim TypedNode (eqb (x .kind) 0x21) _ _ (λ t. tt)
+    (cond-T-elim TypedNode (eqb (x .kind) 0x22) _ _ (λ t. tt)
+    (cond-T-elim TypedNode (eqb (x .kind) 0x23) _ _ (λ t. tt)
     (scalar-of-typed (x .kind) (x .code) (x .bits) w))))
 
 -- operands stand before their node. Assumes a plan that keeps the rules

@@ -34,13 +34,13 @@ module _ (s : ConstraintSet) (h : ℕ) where
   pair-null-safe i j = refl
 
   -- an ordinary comparison with a Null literal on either side sets the flag and records nothing more; a null-safe one is residual
-  null-right : (i : ℕ) (k : Kind) → comparisonApplied s h Eq (Identity i) (Constant (S.Null k)) ≡ done (withFlag s true)
+  eq-null-right : (i : ℕ) (k : Kind) → comparisonApplied s h Eq (Identity i) (Constant (S.Null k)) ≡ done (withFlag s true)
   unfolding comparisonApplied
-  null-right i k = refl
+  eq-null-right i k = refl
 
-  null-left : (k : Kind) → comparisonApplied s h Gt (Constant (S.Null k)) Unseen ≡ done (withFlag s true)
+  gt-null-left : (k : Kind) → comparisonApplied s h Gt (Constant (S.Null k)) Unseen ≡ done (withFlag s true)
   unfolding comparisonApplied
-  null-left k = refl
+  gt-null-left k = refl
 
   null-safe : (k : Kind) → comparisonApplied s h IsNotDistinctFrom (Constant (S.Null k)) Unseen ≡ addResidual s h
   unfolding comparisonApplied

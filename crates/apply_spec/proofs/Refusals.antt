@@ -10,8 +10,9 @@ use lib.Dec.{T, ltb, leb, eqb, ltb→lt}
 use lib.ListN.{length, getD, set, length-set, length-append, List·getD-append}
 use lib.Seq.{getD-append-seam}
 use borrow.Author.Tests.{lt-ltb, le-ltb, ltb-false, leb-true, eqb-false}
+use Rattle.laws.proofs.Bools.{and-left, and-right, or-false-left, or-false-right}
 use Rattle.lists.specs.Ranges.{allFrom, anyFrom}
-use Rattle.lists.proofs.RangeLaws.{and-left, and-right, below-or-not}
+use Rattle.lists.proofs.RangeLaws.{below-or-not}
 use Rattle.scalar.specs.Scalars.{scalarToF64}
 use Rattle.scalar.specs.declared.Number.{Number}
 use Rattle.scalar.specs.declared.Number.the-variants.{Of, Nothing}
@@ -258,20 +259,12 @@ module _ (p : Plan) (f : LogicalFacts) (e : Expr) (long : length (handles (f .co
 abbrev pub Distinct : List ℕ → Type 0
 Distinct l = (i j : ℕ) → i < j → j < length l → getD l i 0 ≡ getD l j 0 → ⊥
 
-or-left : (a b : Bool) → (a || b) ≡ false → a ≡ false
-or-left true b q = q
-or-left false b q = refl
-
-or-right : (a b : Bool) → (a || b) ≡ false → b ≡ false
-or-right true b q = cc
-or-right false b q = q
-
 any-lacks : (t : ℕ → Bool) (n i : ℕ) → anyFrom t i n ≡ false → (j : ℕ) → i ≤ j → j < i + n → t j ≡ false
 unfolding anyFrom
 any-lacks t zero i q j lo hi = absurd (omega arith)
 any-lacks t (suc n) i q j lo hi =
-    ⊎-elim (λ z. subst (λ (k : ℕ). t k ≡ false) z (or-left (t i) (anyFrom t (suc i) n) q))
-    (λ z. any-lacks t n (suc i) (or-right (t i) (anyFrom t (suc i) n) q) j z (omega arith)) (eq-or-lt-of-le lo)
+    ⊎-elim (λ z. subst (λ (k : ℕ). t k ≡ false) z (or-false-left (t i) (anyFrom t (suc i) n) q))
+    (λ z. any-lacks t n (suc i) (or-false-right (t i) (anyFrom t (suc i) n) q) j z (omega arith)) (eq-or-lt-of-le lo)
 
 pushed-distinct : (l : List ℕ) (h : ℕ) → Distinct l → Distinct (pushed l h)
 unfolding pushed

@@ -1,12 +1,12 @@
 -- The conjuncts of an expression: those of its operands where it is an And, and else itself. Assumes nothing.
-use Prim.Native.Nat.{ℕ, zero, suc, _<_, _≤_}
-use mathlib.Core.Path.{_≡_, refl, sym, ap, _∙_}
+use Prim.Native.Nat.{ℕ}
+use mathlib.Core.Path.{_≡_, refl}
 use mathlib.Core.Bool.{Bool, true, false, cond, _&&_}
-use mathlib.Core.List.{List, [], _∷_, _++_}
+use mathlib.Core.List.{List, [], _∷_}
 use lib.Dec.{eqb}
 use lib.ListN.{getD, take, drop}
 use borrow.Author.Tests.{eqb-true}
-use Rattle.lists.proofs.RangeLaws.{and-left, and-right}
+use Rattle.laws.proofs.Bools.{and-left, and-right}
 use Rattle.scalar.specs.declared.ScalarValue.{ScalarValue}
 use Rattle.comparison.specs.declared.BinaryOp.{BinaryOp}
 use Rattle.plan.specs.declared.Column.{Column}
@@ -15,29 +15,9 @@ use Rattle.plan_data.specs.Nodes.{exprData, nodeOf}
 use Rattle.plan_data.specs.declared.Run.{Run}
 use Rattle.plan_data.specs.declared.UnaryOp.{UnaryOp}
 use Rattle.plan_data.specs.declared.NaryOp.the-variants.{And, Or}
-use Rattle.plan_data.specs.declared.ExprData.{ExprData}
 use Rattle.plan_data.specs.declared.ExprData.the-variants.{Literal, ColumnRef, Unary, Binary, Nary}
-use Rattle.apply_spec.specs.Conjuncts.{joinedOf, conjunctsBy, conjunctsTo}
+use Rattle.apply_spec.specs.Conjuncts.{joinedOf, conjunctsBy}
 use Rattle.apply_walk.specs.Walks.{isAnd}
-use Rattle.apply_walk.proofs.Tables.{tableTo, table-at, table-past}
-
--- ---- the table of conjuncts
-module _ (node : ℕ → ExprData) (items : List ℕ) where
-  abbrev pub entryOf : List (List ℕ) → ℕ → List ℕ
-  entryOf below h = conjunctsBy below items h (node h)
-
-  conjuncts-table : (n : ℕ) → conjunctsTo node items n ≡ tableTo entryOf n
-  unfolding conjunctsTo tableTo
-  conjuncts-table zero = refl
-  conjuncts-table (suc n) = λ i. conjuncts-table n i ++ (entryOf (conjuncts-table n i) n ∷ [])
-
-  pub entry-at : (n h : ℕ) → h < n → getD (conjunctsTo node items n) h [] ≡ entryOf (conjunctsTo node items h) h
-  entry-at n h l =
-      ap (λ (t : List (List ℕ)). getD t h []) (conjuncts-table n) ∙ table-at entryOf [] n h l
-      ∙ ap (λ (t : List (List ℕ)). entryOf t h) (sym (conjuncts-table h))
-
-  pub entry-past : (n h : ℕ) → n ≤ h → getD (conjunctsTo node items n) h [] ≡ []
-  entry-past n h l = ap (λ (t : List (List ℕ)). getD t h []) (conjuncts-table n) ∙ table-past entryOf [] n h l
 
 -- ---- an And, and any other expression
 module _ (below : List (List ℕ)) (items : List ℕ) (h : ℕ) where

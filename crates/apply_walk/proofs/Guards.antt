@@ -1,22 +1,11 @@
 -- What the tests of a frame say where they fail. Assumes nothing.
 use Prim.Native.Nat.{ℕ, zero, suc, _<_, _≤_}
 use mathlib.Core.Path.{_≡_, refl}
-use mathlib.Core.Bool.{Bool, true, false, _||_}
+use mathlib.Core.Bool.{false, _||_}
 use native.Mathlib.Omega.{arith}
 use lib.Dec.{leb, eqb}
 use borrow.Author.Tests.{leb-false, eqb-false}
-
-pub or-left : (a b : Bool) → (a || b) ≡ false → a ≡ false
-or-left true b e = e
-or-left false b e = refl
-
-pub or-right : (a b : Bool) → (a || b) ≡ false → b ≡ false
-or-right true b e = cc
-or-right false b e = e
-
-pub or-second : (a b : Bool) → a ≡ false → (a || b) ≡ true → b ≡ true
-or-second true b f e = cc
-or-second false b f e = e
+use Rattle.laws.proofs.Bools.{or-false-left, or-false-right}
 
 more-than-none : (n : ℕ) → (n ≡ 0 → ⊥) → 1 ≤ n
 more-than-none zero h = absurd (h refl)
@@ -27,4 +16,4 @@ not-none n e = more-than-none n (eqb-false n 0 e)
 
 -- a frame has an operand left, and it stands among the items
 pub goes-on : (left at : ℕ) → (eqb left 0 || leb 2048 at) ≡ false → (1 ≤ left) × (at < 2048)
-goes-on left at e = (not-none left (or-left _ _ e), leb-false 2048 at (or-right (eqb left 0) _ e))
+goes-on left at e = (not-none left (or-false-left _ _ e), leb-false 2048 at (or-false-right (eqb left 0) _ e))

@@ -1,5 +1,4 @@
 pub mod Guards
-pub mod Tables
 pub mod Entries
 pub mod Rests
 pub mod Stepping

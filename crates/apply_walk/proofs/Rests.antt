@@ -9,12 +9,13 @@ use native.Mathlib.Numerals.{add-one}
 use lib.ListN.{length, getD, set, take, drop, length-set, drop-of-length-le}
 use lib.Seq.{drop-cons, take-nil, getD-set-same, getD-set-other}
 use borrow.Author.Tests.{lt-ltb}
+use native.Mathlib.Nat.{ne-of-lt}
 use Rattle.lists.proofs.RangeLaws.{below-or-not}
 use Rattle.plan_data.specs.declared.ExprData.{ExprData}
 use Rattle.apply_spec.specs.Conjuncts.{joinedOf, conjunctsTo}
+use Rattle.rows.specs.InOrder.{inOrder}
 use Rattle.apply_walk.specs.declared.Walk.{Walk}
 use Rattle.apply_walk.specs.Walks.{isAnd, ownerAt, placeAt, leftAt, pushed, popped, passed}
-use Rattle.apply_walk.proofs.Tables.{tableTo}
 
 -- ---- something of each frame taken together, from the frame on top down
 unfoldable pub foldTo : {A : Type 0} → (A → A → A) → A → (ℕ → A) → ℕ → A
@@ -44,7 +45,7 @@ stepsBy kind code a start items below h =
     cond (isAnd kind code h) (suc (stepsIn below (take (getD a h 0) (drop (getD start h 0) items)))) 0
 
 abbrev pub stepsTo : List ℕ → List ℕ → List ℕ → List ℕ → List ℕ → ℕ → List ℕ
-stepsTo kind code a start items = tableTo (stepsBy kind code a start items)
+stepsTo kind code a start items = inOrder (stepsBy kind code a start items)
 
 unfoldable pub runSteps : List ℕ → List ℕ → List ℕ → List ℕ → List ℕ → ℕ → ℕ → ℕ → ℕ
 runSteps kind code a start items o at left = suc (stepsIn (stepsTo kind code a start items o) (take left (drop at items)))
@@ -71,13 +72,10 @@ module _ (items : List ℕ) (long : length items ≡ 2048) where
   run-cons at zero some low = absurd (omega arith)
   run-cons at (suc left) some low = let e : suc left - 1 ≡ left = omega arith in rw (drop-cons items at 0 (omega arith), e, add-one)
 
-  pub run-none : (at left : ℕ) → 2048 ≤ at → take left (drop at items) ≡ []
-  run-none at left high = rw (drop-of-length-le items {i = at} (omega arith)) (take-nil left)
+  pub run-past : (at left : ℕ) → 2048 ≤ at → take left (drop at items) ≡ []
+  run-past at left high = rw (drop-of-length-le items {i = at} (omega arith)) (take-nil left)
 
 -- ---- what the frames of a walk are after a store
-apart : (j k : ℕ) → j < k → (j ≡ k → ⊥)
-apart j k l e = omega arith
-
 module _ (w : Walk) (g : Good w) (k : ℕ) (top : w .depth ≡ suc k) where
   pub passed-depth : (passed w k) .depth ≡ w .depth
   unfolding passed
@@ -101,7 +99,7 @@ module _ (w : Walk) (g : Good w) (k : ℕ) (top : w .depth ≡ suc k) where
       → f (ownerAt (passed w k) j) (placeAt (passed w k) j) (leftAt (passed w k) j) ≡ f (ownerAt w j) (placeAt w j) (leftAt w j)
   unfolding passed
   passed-below f j l =
-      λ i. f (ownerAt w j) (getD-set-other (w .at) k j (placeAt w k + 1) 0 (apart j k l) i) (getD-set-other (w .left) k j (leftAt w k - 1) 0 (apart j k l) i)
+      λ i. f (ownerAt w j) (getD-set-other (w .at) k j (placeAt w k + 1) 0 (ne-of-lt l) i) (getD-set-other (w .left) k j (leftAt w k - 1) 0 (ne-of-lt l) i)
 
   pub passed-good : Good (passed w k)
   unfolding passed
@@ -135,14 +133,14 @@ module _ (w : Walk) (g : Good w) (e at left : ℕ) (room : w .depth + e ≤ 1023
       → f (ownerAt more j) (placeAt more j) (leftAt more j) ≡ f (ownerAt w j) (placeAt w j) (leftAt w j)
   pushed-below f j l =
       λ i.
-      f (getD-set-other (w .owner) (w .depth) j e 0 (apart j (w .depth) l) i) (getD-set-other (w .at) (w .depth) j at 0 (apart j (w .depth) l) i)
-      (getD-set-other (w .left) (w .depth) j left 0 (apart j (w .depth) l) i)
+      f (getD-set-other (w .owner) (w .depth) j e 0 (ne-of-lt l) i) (getD-set-other (w .at) (w .depth) j at 0 (ne-of-lt l) i)
+      (getD-set-other (w .left) (w .depth) j left 0 (ne-of-lt l) i)
 
   more-low : (k : ℕ) → k < w .depth + 1 → k + ownerAt more k ≤ 1023
   more-low k l = ⊎-elim older last (below-or-not k (w .depth))
     where
       older : k < w .depth → k + ownerAt more k ≤ 1023
-      older m = rw (getD-set-other (w .owner) (w .depth) k e 0 (apart k (w .depth) m)) (g .low k m)
+      older m = rw (getD-set-other (w .owner) (w .depth) k e 0 (ne-of-lt m)) (g .low k m)
 
       last : w .depth ≤ k → k + ownerAt more k ≤ 1023
       last m =

@@ -8,16 +8,17 @@ use native.Mathlib.Omega.{arith}
 use lib.Dec.{ltb, leb, eqb}
 use lib.ListN.{length, getD, take, drop, length-replicate, List·getD-eq-default}
 use borrow.Author.Tests.{ltb-true, ltb-false, leb-true, eqb-true, ne-eqb}
-use Rattle.lists.proofs.RangeLaws.{and-left, below-or-not}
+use Rattle.laws.proofs.Bools.{and-left, or-resolve-left}
+use Rattle.lists.proofs.RangeLaws.{below-or-not}
 use Rattle.plan_data.specs.Nodes.{nodeOf}
 use Rattle.plan_data.specs.declared.ExprData.{ExprData}
 use Rattle.apply_spec.specs.Conjuncts.{joinedOf, conjunctsTo, conjunctsOf}
+use Rattle.apply_spec.proofs.Readings.{conjuncts-past, conjuncts-at}
+use Rattle.rows.proofs.InOrderLaws.{in-order-at}
 use Rattle.apply_walk.specs.declared.Walk.{Walk}
 use Rattle.apply_walk.specs.Walks.{isAnd, emptyWalk, ownerAt, placeAt, leftAt, popped, passed, entered}
-use Rattle.apply_walk.proofs.Guards.{or-second}
-use Rattle.apply_walk.proofs.Tables.{table-at}
-use Rattle.apply_walk.proofs.Entries.{entry-at, entry-past, and-entry, other-entry}
-use Rattle.apply_walk.proofs.Rests.{runRest, restOf, stepsIn, stepsBy, stepsTo, runSteps, stepsLeft, Good, run-cons, run-none, passed-depth}
+use Rattle.apply_walk.proofs.Entries.{and-entry, other-entry}
+use Rattle.apply_walk.proofs.Rests.{runRest, restOf, stepsIn, stepsBy, stepsTo, runSteps, stepsLeft, Good, run-cons, run-past, passed-depth}
 use Rattle.apply_walk.proofs.Rests.{passed-good, popped-good, pushed-good, fold-top, fold-passed, fold-pushed, fold-none}
 
 module _ (kind code a b bits start items : List ℕ) (long : length items ≡ 2048) where
@@ -39,11 +40,12 @@ module _ (kind code a b bits start items : List ℕ) (long : length items ≡ 20
   -- ---- the frame on top has no operand left
   empty-run : (left at : ℕ) → (eqb left 0 || leb 2048 at) ≡ true → take left (drop at items) ≡ []
   empty-run zero at e = refl
-  empty-run (suc left) at e = run-none items long at (suc left) (leb-true 2048 at (or-second (eqb (suc left) 0) _ (ne-eqb (suc left) 0 (λ q. omega arith)) e))
+  empty-run (suc left) at e =
+      run-past items long at (suc left) (leb-true 2048 at (or-resolve-left (eqb (suc left) 0) _ (ne-eqb (suc left) 0 (λ q. omega arith)) e))
 
-  run-done : (o at left : ℕ) → take left (drop at items) ≡ [] → runRest node items o at left ≡ []
+  pub run-done : (o at left : ℕ) → (eqb left 0 || leb 2048 at) ≡ true → runRest node items o at left ≡ []
   unfolding runRest joinedOf
-  run-done o at left e = ap (joinedOf (conjunctsTo node items o)) e
+  run-done o at left e = ap (joinedOf (conjunctsTo node items o)) (empty-run left at e)
 
   run-some : (o at left : ℕ) → 1 ≤ runSteps kind code a start items o at left
   unfolding runSteps
@@ -56,12 +58,12 @@ module _ (kind code a b bits start items : List ℕ) (long : length items ≡ 20
           good = popped-good w g k top;
           to-come =
               fold-top _++_ [] (runRest node items) w k top
-              ∙ ap (λ (l : List ℕ). l ++ rest (popped w k)) (run-done (ownerAt w k) (placeAt w k) (leftAt w k) (empty-run (leftAt w k) (placeAt w k) e));
+              ∙ ap (λ (l : List ℕ). l ++ rest (popped w k)) (run-done (ownerAt w k) (placeAt w k) (leftAt w k) e);
           less = omega (arith, fold-top _+_ 0 (runSteps kind code a start items) w k top, run-some (ownerAt w k) (placeAt w k) (leftAt w k));
         }
 
   -- ---- the frame on top has one
-  run-rest : (o at left : ℕ) → 1 ≤ left → at < 2048
+  pub run-rest : (o at left : ℕ) → 1 ≤ left → at < 2048
       → runRest node items o at left ≡ getD (conjunctsTo node items o) (getD items at 0) [] ++ runRest node items o (at + 1) (left - 1)
   unfolding runRest joinedOf
   run-rest o at left some low = ap (joinedOf (conjunctsTo node items o)) (run-cons items long at left some low)
@@ -75,13 +77,13 @@ module _ (kind code a b bits start items : List ℕ) (long : length items ≡ 20
   -- the conjuncts and the steps of an And's frame
   and-rest : (o e : ℕ) → e < o → isAnd kind code e ≡ true → getD (conjunctsTo node items o) e [] ≡ runRest node items e (getD start e 0) (getD a e 0)
   unfolding runRest
-  and-rest o e l y = entry-at node items o e l ∙ and-entry (conjunctsTo node items e) items e kind code a b bits start y
+  and-rest o e l y = conjuncts-at node items o e l ∙ and-entry (conjunctsTo node items e) items e kind code a b bits start y
 
   and-steps : (o e : ℕ) → e < o → isAnd kind code e ≡ true
       → getD (stepsTo kind code a start items o) e 0 ≡ runSteps kind code a start items e (getD start e 0) (getD a e 0)
   unfolding runSteps
   and-steps o e l y =
-      table-at (stepsBy kind code a start items) 0 o e l
+      in-order-at (stepsBy kind code a start items) 0 o e l
       ∙ ap (λ (t : Bool). cond t (suc (stepsIn (stepsTo kind code a start items e) (take (getD a e 0) (drop (getD start e 0) items)))) 0) y
 
   module _ (w : Walk) (g : Good w) (k : ℕ) (top : w .depth ≡ suc k) (some : 1 ≤ leftAt w k) (low : placeAt w k < 2048) where
@@ -118,7 +120,7 @@ module _ (kind code a b bits start items : List ℕ) (long : length items ≡ 20
     skip-goes f =
         record {
           good = v-good;
-          to-come = pass-rest ∙ ap (λ (l : List ℕ). l ++ rest v) (entry-past node items o e (ltb-false e o f));
+          to-come = pass-rest ∙ ap (λ (l : List ℕ). l ++ rest v) (conjuncts-past node items o e (ltb-false e o f));
           less = omega (arith, pass-steps);
         }
 
@@ -129,7 +131,7 @@ module _ (kind code a b bits start items : List ℕ) (long : length items ≡ 20
           to-come =
               pass-rest
               ∙ ap (λ (x : List ℕ). x ++ rest v)
-              (entry-at node items o e (ltb-true e o l) ∙ other-entry (conjunctsTo node items e) items e kind code a b bits start f);
+              (conjuncts-at node items o e (ltb-true e o l) ∙ other-entry (conjunctsTo node items e) items e kind code a b bits start f);
           less = omega (arith, pass-steps);
         }
 

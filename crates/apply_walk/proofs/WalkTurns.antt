@@ -42,8 +42,8 @@ module _ (kind code items : List ℕ) (o at left : ℕ) where
       go true p = p
       go false p = operand-said (goes-on left at p)
 
-  pub turn-said : (m : Move) → m ≡ turnOf kind code items o at left → Said m
-  turn-said m e = subst Said (sym e) said
+  pub move-said : (m : Move) → m ≡ turnOf kind code items o at left → Said m
+  move-said m e = subst Said (sym e) said
 
 -- ---- the frame on top of a walk
 
@@ -64,7 +64,7 @@ module _ (kind code a start items : List ℕ) (long : length items ≡ 2048) (w 
   onTo v found = (b bits : List ℕ) → Goes kind code a b bits start items long w v found
 
   facts : (m : Move) → here m → Said kind code items (ownerAt w k) (placeAt w k) (leftAt w k) m
-  facts m e = turn-said kind code items (ownerAt w k) (placeAt w k) (leftAt w k) m e
+  facts m e = move-said kind code items (ownerAt w k) (placeAt w k) (leftAt w k) m e
 
   pub pop-turn : here Pop → onTo (popped w k) []
   pop-turn e b bits = pop-goes kind code a b bits start items long w g k top (facts Pop e)

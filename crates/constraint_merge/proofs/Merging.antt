@@ -22,14 +22,14 @@ use Rattle.constraint_spec.specs.Sets.{normalized, mergedSet, roomTo, mergeRoom
 use Rattle.constraint_spec.specs.declared.Entry.{Entry}
 use Rattle.constraint_spec.specs.declared.ConstraintSet.{ConstraintSet}
 use Rattle.constraint_spec.specs.declared.Applied.{Applied}
-use Rattle.constraint_spec.proofs.Steps.{steps-skip}
+use Rattle.constraint_spec.proofs.Steps.{steps-skip, steps-next}
 use Rattle.constraint_spec.proofs.Operations.{union-one}
 use Rattle.constraint_spec.proofs.Merge.{merge-done, merge-refused}
 use Rattle.constraint_merge.specs.Chained.{secondOf, chained}
 use Rattle.constraint_merge.specs.Residuals.{residualsKept}
 use Rattle.constraint_set.specs.Kept.{keptBy}
 use Rattle.constraint_set.specs.declared.Kept.{Kept}
-use Rattle.constraint_set.proofs.Loops.{steps-next, rangeWritten, range-lay}
+use Rattle.constraint_set.proofs.Loops.{rangeWritten, range-lay}
 use Rattle.constraint_set.proofs.Residuals.{kept-set, kept-refused}
 
 -- one identity united with itself
@@ -126,8 +126,8 @@ module _ (i : ℕ) (t : ConstraintSet) where
   unfolding putNonNull
   null-laid l e = rw e
 
-  pub null-left : (l : List Bool) → getD l i false ≡ false → t ≡ mergeNonNull l i t
-  null-left l e = rw e
+  pub null-unmerged : (l : List Bool) → getD l i false ≡ false → t ≡ mergeNonNull l i t
+  null-unmerged l e = rw e
 
   pub range-laid : (l : List Entry) (r : ℕ) (range : ValueRange) (now : Entry) → getD l i blank .present ≡ true → r ≡ canonicalAt t i
       → range ≡ tightenBy (rangeIn (entryAt t r)) (getD l i blank .range) → now ≡ entryOf range → rangeWritten t r now ≡ mergeRange l i t

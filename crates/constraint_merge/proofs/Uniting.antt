@@ -7,13 +7,13 @@ use native.Mathlib.Omega.{arith}
 use borrow.Author.Tests.{lt-ltb, ltb-true}
 use lib.Dec.{T, ltb}
 use lib.ListN.{getD}
-use Rattle.lists.proofs.RangeLaws.{and-left, and-right}
 use Rattle.value_classes.specs.Classes.{Whole, classesOk, canonicalOf, joinedClasses, rootsJoined, unionOf}
+use Rattle.laws.proofs.Bools.{and-left, and-right}
 use Rattle.value_classes.specs.declared.ValueEquivalenceClasses.{ValueEquivalenceClasses}
 use Rattle.value_classes.specs.declared.United.{United}
 use Rattle.value_classes.specs.declared.Members.{Members}
-use Rattle.value_classes.proofs.ClassLaws.{falling, canonical-small, canonical-idempotent, rootsAnswered, roots-answered, joined-roots, joined-to-left}
-use Rattle.value_classes.proofs.ClassLaws.{joined-to-right}
+use Rattle.value_classes.proofs.ClassLaws.{falling, canonical-small, canonical-idempotent, rootsAnswered, roots-answered, joined-roots}
+use Rattle.value_classes.proofs.ClassLaws.{joined-to-left, joined-to-right}
 use Rattle.value_classes.proofs.Unions.{union-joined, union-same}
 use Rattle.constraint_spec.specs.Sets.{none, noEntry, classesOf, canonicalAt, withClasses, normalized, unionBy, unionValues}
 use Rattle.constraint_spec.specs.declared.Holder.{Holder}
@@ -27,6 +27,7 @@ use Rattle.constraint_set.specs.declared.RootPair.{RootPair}
 use Rattle.constraint_merge.proofs.Merging.{chained-past, chained-none, chained-step}
 use Rattle.constraint_set.proofs.Uniting.{rootsWritten}
 use Rattle.constraint_set.proofs.Settling.{normalized-settled, joined-normalized, united-settled}
+use Rattle.constraint_set.proofs.RootJoins.{canonical-low, canonical-own}
 
 -- ---- a union of two identities in a settled set
 module _ (s : ConstraintSet) (g : Settled s) (l r : ℕ) (hl : l < 128) (hr : r < 128) where
@@ -39,17 +40,14 @@ module _ (s : ConstraintSet) (g : Settled s) (l r : ℕ) (hl : l < 128) (hr : r 
   abbrev y : ℕ
   y = canonicalAt s r
 
-  own : (i : ℕ) → canonicalAt s (canonicalAt s i) ≡ canonicalAt s i
-  own i = canonical-idempotent (classesOf s) (falling (classesOf s) (g .ok)) i
-
   own-low : canonicalAt s (min x y) ≡ min x y
   own-low = elim (decLe x y) [
-    | yes h ↦ (let e : min x y ≡ x = omega arith in rw e (own l))
-    | no h ↦ (let e : min x y ≡ y = omega arith in rw e (own r))
+    | yes h ↦ (let e : min x y ≡ x = omega arith in rw e (canonical-own s g l))
+    | no h ↦ (let e : min x y ≡ y = omega arith in rw e (canonical-own s g r))
   ]
 
   pub high-small : max x y < 128
-  high-small = omega (arith, canonical-small (classesOf s) l x (g .many) refl hl, canonical-small (classesOf s) r y (g .many) refl hr)
+  high-small = omega (arith, canonical-low s g l hl, canonical-low s g r hr)
 
   apart : min x y < max x y → unionValues s l r ≡ unitedRoots s (min x y) (max x y)
   unfolding unionValues
@@ -86,10 +84,10 @@ module _ (s : ConstraintSet) (g : Settled s) (l r : ℕ) (hl : l < 128) (hr : r 
   pair-is = λ i. record { classes = joined-roots (classesOf s) l r i; low = lower; high = higher }
 
   -- one turn of the loop, with a union and without
-  pub turned : (at : Place) (bare : Holder) (nowhere : Entry) → w .low < w .high → at ≡ placeAt s (w .low) (w .high) → bare ≡ none → nowhere ≡ noEntry
+  pub turn-united : (at : Place) (bare : Holder) (nowhere : Entry) → w .low < w .high → at ≡ placeAt s (w .low) (w .high) → bare ≡ none → nowhere ≡ noEntry
       → rootsWritten s w at bare nowhere ≡ unionValues s l r
   unfolding rootPair unitedRoots nullOn
-  turned at bare nowhere h ea eb en =
+  turn-united at bare nowhere h ea eb en =
       (λ i. rootsWritten s ((ew ∙ pair-is) i) ((ea ∙ ap (λ (v : RootPair). placeAt s (v .low) (v .high)) ew) i) (eb i) (en i))
       ∙ sym (apart s g l r hl hr (subst (λ (v : RootPair). v .low < v .high) ew h))
 
@@ -123,17 +121,17 @@ module _ (c : ValueEquivalenceClasses) (l r x y : ℕ) (ex : x ≡ canonicalOf c
   abbrev rootsBy : ValueEquivalenceClasses → ℕ → ℕ → RootPair
   rootsBy k a b = record { classes = k; low = a; high = b }
 
-  pub left-lower : (k : ValueEquivalenceClasses) → y < 128 → k ≡ rootsAnswered c x y → x < y → rootsBy k x y ≡ rootPair c l r
+  pub pair-left : (k : ValueEquivalenceClasses) → y < 128 → k ≡ rootsAnswered c x y → x < y → rootsBy k x y ≡ rootPair c l r
   unfolding rootPair
-  left-lower k small ek h =
+  pair-left k small ek h =
       let m : max x y ≡ y = omega arith in
       let n : min x y ≡ x = omega arith in
       let z : k ≡ joinedClasses c l r = ek ∙ roots-answered c x y (omega arith) small ∙ sym (joined-to-left c l r x y ex ey (omega arith)) in
       λ i. rootsBy (z i) ((sym n ∙ ap₂ min ex ey) i) ((sym m ∙ ap₂ max ex ey) i)
 
-  pub right-lower : (k : ValueEquivalenceClasses) → x < 128 → k ≡ rootsAnswered c y x → y ≤ x → rootsBy k y x ≡ rootPair c l r
+  pub pair-right : (k : ValueEquivalenceClasses) → x < 128 → k ≡ rootsAnswered c y x → y ≤ x → rootsBy k y x ≡ rootPair c l r
   unfolding rootPair
-  right-lower k small ek h =
+  pair-right k small ek h =
       let m : max x y ≡ x = omega arith in
       let n : min x y ≡ y = omega arith in
       let z : k ≡ joinedClasses c l r = ek ∙ roots-answered c y x (omega arith) small ∙ sym (joined-to-right c l r x y ex ey h) in
@@ -143,11 +141,11 @@ module _ (c : ValueEquivalenceClasses) (l r x y : ℕ) (ex : x ≡ canonicalOf c
 abbrev pub more : ℕ → ℕ → Bool
 more n m = ltb 0 n && ltb m 128
 
-pub goes-on : (n m : ℕ) → more n m ≡ true → (0 < n) × (m < 128)
-goes-on n m e = (ltb-true _ _ (and-left (ltb 0 n) (ltb m 128) e), ltb-true _ _ (and-right (ltb 0 n) (ltb m 128) e))
+pub members-go-on : (n m : ℕ) → more n m ≡ true → (0 < n) × (m < 128)
+members-go-on n m e = (ltb-true _ _ (and-left (ltb 0 n) (ltb m 128) e), ltb-true _ _ (and-right (ltb 0 n) (ltb m 128) e))
 
 pub goes-on-unsettled : (n m : ℕ) (b : Bool) → (more n m && not b) ≡ true → (0 < n) × (m < 128)
-goes-on-unsettled n m b e = goes-on n m (and-left (more n m) (not b) e)
+goes-on-unsettled n m b e = members-go-on n m (and-left (more n m) (not b) e)
 
 pub unsettled-ended : (n m : ℕ) (b : Bool) → (more n m && not b) ≡ false → b ≡ false → more n m ≡ false
 unsettled-ended n m b e d = sym (and-true (more n m)) ∙ ap (λ (x : Bool). more n m && not x) (sym d) ∙ e

@@ -16,8 +16,8 @@ use Rattle.constraint_spec.specs.Sets.{classesOf, nonNullAt, literalAt, entryAt
 use Rattle.constraint_spec.specs.declared.Holder.{Holder}
 use Rattle.constraint_spec.specs.declared.Entry.{Entry}
 use Rattle.constraint_spec.specs.declared.ConstraintSet.{ConstraintSet}
+use Rattle.scalar.proofs.FloatLaws.{eq-self}
 use Rattle.constraint_normal.specs.ReadyPlaces.{blankScalar, readyHolder, blankBound, readyBound, readyEntry, readyPlace, readyAt, readyOf}
-use Rattle.constraint_normal.proofs.Floats.{equals-itself}
 
 pub holder-there : (root : Bool) (h : Holder) → h .present ≡ true → root ≡ readyHolder root h
 unfolding readyHolder
@@ -29,7 +29,7 @@ holder-not root h p = rw p
 
 pub bound-there : (b : Bound) → b .present ≡ true → eq (b .value) (b .value) ≡ readyBound b
 unfolding readyBound
-bound-there b p = rw p (equals-itself (b .value))
+bound-there b p = rw p (eq-self (b .value))
 
 pub bound-not : (b : Bound) → b .present ≡ false → blankBound b ≡ readyBound b
 unfolding readyBound

@@ -31,9 +31,9 @@ literal-away : readyPlace false false false (held (S.Int64 (pos 7))) noEntry ≡
 unfolding readyPlace readyHolder
 literal-away = refl
 
-null-away : readyPlace false false true none noEntry ≡ false
+null-off-root : readyPlace false false true none noEntry ≡ false
 unfolding readyPlace
-null-away = refl
+null-off-root = refl
 
 nothing-away : readyPlace false false false none noEntry ≡ true
 unfolding readyPlace readyHolder blankScalar readyEntry blankBound quietPlace toBits

@@ -1,14 +1,14 @@
 -- What a program's set is by its type: each list has an entry for each place, and what it holds is of its type. Assumes nothing.
 use Prim.Native.Nat.{ℕ, zero, suc}
 use mathlib.Core.List.{List, [], _∷_, map}
-use mathlib.Core.Path.{_≡_, sym, _∙_}
+use mathlib.Core.Path.{_≡_}
 use borrow.Author.Needs.{needs}
 use denote.Array.{each}
 use denote.Shadow.{shadow}
 use denote.Struct.Declared.{row}
 use lib.Dec.{T}
 use lib.Ieee.{binary64, fits}
-use lib.ListN.{length, getD, length-map}
+use lib.ListN.{length, getD}
 use mir.Val.{Val}
 use Rattle.value_classes.specs.Classes.{Whole}
 use Rattle.constraint_spec.specs.Sets.{blank, classesOf, nonNulls, literals, handles, entryAt}
@@ -16,6 +16,7 @@ use Rattle.constraint_spec.specs.declared.Entry.{Entry}
 use Rattle.constraint_spec.specs.declared.ConstraintSet.{ConstraintSet}
 use Rattle.constraint_spec.proofs.Entry as E
 use Rattle.constraint_spec.proofs.ConstraintSet as C
+use Rattle.constraint_set.proofs.SetLists.{classes-whole, literals-long, ranges-long}
 
 -- the values of both bounds are floats of 64 bits
 abbrev pub FitsEntry : Entry → Type 0
@@ -40,9 +41,6 @@ each-fits (x ∷ xs) [] i p = absurd p
 each-fits (x ∷ xs) (u ∷ us) zero p = entry-fits x (u ∷ []) (p .0)
 each-fits (x ∷ xs) (u ∷ us) (suc i) p = each-fits xs us i (p .1)
 
-classes-whole : (s : ConstraintSet) (vs : List Val) → shadow (row C.the-type .own s vs) → Whole (classesOf s)
-classes-whole s vs p = search needs
-
 nulls-long : (s : ConstraintSet) (vs : List Val) → shadow (row C.the-type .own s vs) → length (nonNulls s) ≡ 128
 nulls-long s vs p = search needs
 
@@ -53,8 +51,8 @@ pub set-held : (s : ConstraintSet) (vs : List Val) → shadow (row C.the-type .o
 set-held s vs p = record {
   many = classes-whole s vs p;
   nullsLong = nulls-long s vs p;
-  literalsLong = sym (length-map (literals s) _) ∙ p .1 .1 .1 .1 .0 .1 .0 .1;
-  rangesLong = sym (length-map (s .ranges) _) ∙ p .1 .1 .1 .1 .1 .0 .1 .0 .1;
+  literalsLong = literals-long s vs p;
+  rangesLong = ranges-long s vs p;
   handlesLong = handles-long s vs p;
   fit = λ i. each-fits (s .ranges) (p .1 .1 .1 .1 .1 .0 .0) i (p .1 .1 .1 .1 .1 .0 .1 .1);
 }

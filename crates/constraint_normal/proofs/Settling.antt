@@ -5,8 +5,9 @@ use Prim.Native.Nat.{ℕ, _<_}
 use native.Mathlib.Omega.{arith}
 use borrow.Author.Tests.{eqb-false, eq-eqb, ne-eqb}
 use lib.Dec.{eqb}
+use Rattle.laws.proofs.Bools.{and-left, and-right, and-both}
 use Rattle.lists.specs.Ranges.{anyFrom}
-use Rattle.lists.proofs.RangeLaws.{and-left, and-right, and-both, table, all-of, any-none}
+use Rattle.lists.proofs.RangeLaws.{table, all-of, any-none}
 use Rattle.value_classes.specs.Classes.{classesOk, emptyClasses}
 use Rattle.value_classes.proofs.ClassLaws.{falling-ok, alone-canonical}
 use Rattle.value_classes.proofs.Chains.{empty-sound}

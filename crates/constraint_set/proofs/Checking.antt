@@ -2,28 +2,27 @@
 use mathlib.Core.Path.{_≡_, refl, sym, ap, subst, _∙_}
 use mathlib.Core.Bool.{Bool, true, false, cond, not, _||_}
 use mathlib.Core.Logic.{_⊎_, inl, inr, ⊎-elim}
-use Prim.Native.Nat.{ℕ, zero, suc, _<_, _≤_, _+_}
+use Prim.Native.Nat.{ℕ, _<_}
 use native.Mathlib.Decide.{ℕ-discrete}
 use native.Mathlib.Omega.{arith}
 use lib.Dec.{T}
 use lib.Seq.{getD-set-other}
 use borrow.Author.Tests.{lt-ltb}
+use lib.Ieee.Bits.{is-true}
+use Rattle.laws.proofs.Bools.{or-inr}
 use Rattle.lists.specs.Ranges.{anyFrom}
+use Rattle.lists.proofs.RangeLaws.{any-of}
 use Rattle.scalar.specs.Kinds.{isNull}
 use Rattle.scalar.specs.declared.ScalarValue.{ScalarValue}
 use Rattle.constraint_spec.specs.Sets.{none, literals, literalAt, entryAt, crossed, crossedAt, crossCheck, withFlag, flagIf, clashes, canonicalAt}
 use Rattle.constraint_spec.specs.Sets.{putNonNull, putLiteral, addLiteral}
 use Rattle.constraint_spec.specs.declared.Holder.{Holder}
 use Rattle.constraint_spec.specs.declared.ConstraintSet.{ConstraintSet}
-use Rattle.constraint_spec.proofs.Operations.{any-at}
+use Rattle.constraint_spec.proofs.Operations.{T-any-at}
 use Rattle.constraint_set.specs.Checked.{Checked}
 use Rattle.constraint_set.proofs.Loops.{literal-added}
 
 -- ---- a test that passes somewhere
-or-second : (a b : Bool) → b ≡ true → (a || b) ≡ true
-or-second true b e = refl
-or-second false b e = e
-
 -- the flag stays where a test is replaced by another that says the same where the flag is clear
 same-or : (f a x : Bool) → (a ≡ true → (f ≡ true) ⊎ (x ≡ true)) → (x ≡ true → a ≡ true) → (f || a) ≡ (f || x)
 same-or true a x p q = refl
@@ -54,23 +53,11 @@ added-checked s i l q h e = subst Checked (sym (e ∙ ap (λ (b : Bool). cond b 
     go false = just-checked (putLiteral (putNonNull s (canonicalAt s i)) (canonicalAt s i) l)
 
 -- ---- a literal in a set that was checked
-is-true : (b : Bool) → T b → b ≡ true
-is-true true t = refl
-is-true false t = absurd t
-
-any-true : (f : ℕ → Bool) (n i k : ℕ) → i ≤ k → k < i + n → f k ≡ true → anyFrom f i n ≡ true
-unfolding anyFrom
-any-true f zero i k lo hi e = absurd (omega arith)
-any-true f (suc n) i k lo hi e = elim (ℕ-discrete k i) [
-  | yes q ↦ ap (λ (b : Bool). b || anyFrom f (suc i) n) (subst (λ (j : ℕ). f j ≡ true) q e)
-  | no d ↦ or-second (f i) (anyFrom f (suc i) n) (any-true f n (suc i) k (omega arith) (omega arith) e)
-]
-
 -- the check of a set is that of the one place r, where every other place that is crossed has set the flag
 module _ (u : ConstraintSet) (r : ℕ) (low : r < 128) (others : (k : ℕ) → k < 128 → (k ≡ r → ⊥) → crossedAt u k ≡ true → u .contradictory ≡ true) where
   forth : anyFrom (crossedAt u) 0 128 ≡ true → (u .contradictory ≡ true) ⊎ (crossedAt u r ≡ true)
   forth e =
-      let w = any-at (crossedAt u) 128 0 (subst T (sym e) tt) in
+      let w = T-any-at (crossedAt u) 128 0 (subst T (sym e) tt) in
       elim (ℕ-discrete (w .0) r) [
         | yes q ↦ inr (subst (λ (k : ℕ). crossedAt u k ≡ true) q (is-true _ (w .3)))
         | no d ↦ inl (others (w .0) (omega arith) d (is-true _ (w .3)))
@@ -80,11 +67,11 @@ module _ (u : ConstraintSet) (r : ℕ) (low : r < 128) (others : (k : ℕ) → k
   unfolding crossCheck
   check-one =
       ap (λ (b : Bool). withFlag u b)
-      (same-or (u .contradictory) (anyFrom (crossedAt u) 0 128) (crossedAt u r) forth (any-true (crossedAt u) 128 0 r (omega arith) (omega arith)))
+      (same-or (u .contradictory) (anyFrom (crossedAt u) 0 128) (crossedAt u r) forth (any-of (crossedAt u) 128 0 r (omega arith) (omega arith)))
 
 -- the flag of a checked set that is crossed somewhere
 pub crossed-flagged : (s : ConstraintSet) → Checked s → (k : ℕ) → k < 128 → crossedAt s k ≡ true → s .contradictory ≡ true
-crossed-flagged s c k h e = sym c ∙ or-second (s .contradictory) _ (any-true (crossedAt s) 128 0 k (omega arith) (omega arith) e)
+crossed-flagged s c k h e = sym c ∙ or-inr (s .contradictory) _ (any-of (crossedAt s) 128 0 k (omega arith) (omega arith) e)
 
 -- t is s with something else at r, and with s's flag if that was set
 pub one-place-only : (s t : ConstraintSet) → Checked s → (r : ℕ) → r < 128 → ((k : ℕ) → (k ≡ r → ⊥) → crossedAt t k ≡ crossedAt s k)
@@ -96,7 +83,7 @@ one-place-only s t c r low other stays = check-one t r low (λ k h d e. stays (c
 pub check-again : (t : ConstraintSet) (r : ℕ) → r < 128 → crossCheck (flagIf (crossedAt t r) t) ≡ crossCheck t
 unfolding crossCheck
 check-again t r low = ap (λ (b : Bool). withFlag t b)
-    (both (t .contradictory) (crossedAt t r) (anyFrom (crossedAt t) 0 128) (any-true (crossedAt t) 128 0 r (omega arith) (omega arith)))
+    (both (t .contradictory) (crossedAt t r) (anyFrom (crossedAt t) 0 128) (any-of (crossedAt t) 128 0 r (omega arith) (omega arith)))
   where
     both : (f x a : Bool) → (x ≡ true → a ≡ true) → ((f || x) || a) ≡ (f || a)
     both true x a h = refl

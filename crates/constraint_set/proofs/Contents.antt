@@ -7,6 +7,7 @@ use Prim.Native.Nat.{ℕ, zero, suc, _≤_, _<_}
 use native.Mathlib.Omega.{arith}
 use lib.ListN.{getD, set, replicate}
 use lib.Seq.{set-getD}
+use Rattle.laws.proofs.Bools.{cond-T-elim}
 use Rattle.scalar.specs.declared.ScalarValue.{ScalarValue}
 use Rattle.value_range.specs.Ranges.{noBound, boundAt, unboundedRange, takesLower, takesUpper, tightenLower, tightenUpper, emptyRange}
 use Rattle.value_range.specs.declared.Bound.{Bound}
@@ -18,28 +19,28 @@ use Rattle.constraint_spec.specs.Sets.{rangesMoved}
 use Rattle.constraint_spec.specs.declared.Holder.{Holder}
 use Rattle.constraint_spec.specs.declared.Entry.{Entry}
 use Rattle.constraint_spec.specs.declared.ConstraintSet.{ConstraintSet}
-use Rattle.constraint_spec.proofs.Steps.{pick-has}
 use Rattle.constraint_set.specs.Settled.{nullOn, literalOn, literalBad, rangeOn, rangeBad}
 use Rattle.constraint_set.proofs.Passes.{filledTo, filled-at, flagTo}
 
 -- ---- not NULL
-pub null-idle : (x : Bool) → nullOn x false ≡ x
+pub null-on-false : (x : Bool) → nullOn x false ≡ x
 unfolding nullOn
-null-idle x = or-false x
+null-on-false x = or-false x
 
 pub null-same : (x : Bool) → nullOn false x ≡ x
 unfolding nullOn
 null-same x = refl
 
 -- ---- literals
-pub literal-idle : (x : Holder) → literalOn x none ≡ x
+pub literal-on-none : (x : Holder) → literalOn x none ≡ x
 unfolding literalOn
-literal-idle x = refl
+literal-on-none x = refl
 
 pub literal-again : (x y : Holder) → literalOn none x ≡ x → literalOn none (literalOn x y) ≡ literalOn x y
 unfolding literalOn
 literal-again x y e =
-    pick-has P (y .present) (cond (clashes x (y .value)) x (held (y .value))) x (λ t. pick-has P (clashes x (y .value)) x (held (y .value)) (λ u. e) refl) e
+    cond-T-elim P (y .present) (cond (clashes x (y .value)) x (held (y .value))) x
+    (λ t. cond-T-elim P (clashes x (y .value)) x (held (y .value)) (λ u. e) refl) e
   where
     P : Holder → Type 0
     P h = cond (h .present) (cond (clashes none (h .value)) none (held (h .value))) none ≡ h
@@ -92,23 +93,23 @@ whole-clean r w = split r ∙ (λ i. record { lower = w .0 i; upper = w .1 i })
 
 lower-whole : (t : ValueRange) (b : Bound) → Whole t → Whole (lowerBy t b)
 lower-whole t b w =
-    pick-has Whole (b .present) (tightenLower t (b .value) (b .inclusive)) t
-    (λ u. pick-has Whole (takesLower (t .lower) (b .value) (b .inclusive)) (record { lower = boundAt (b .value) (b .inclusive); upper = t .upper }) t
+    cond-T-elim Whole (b .present) (tightenLower t (b .value) (b .inclusive)) t
+    (λ u. cond-T-elim Whole (takesLower (t .lower) (b .value) (b .inclusive)) (record { lower = boundAt (b .value) (b .inclusive); upper = t .upper }) t
     (λ v. (refl, w .1)) w) w
 
 upper-whole : (t : ValueRange) (b : Bound) → Whole t → Whole (upperBy t b)
 upper-whole t b w =
-    pick-has Whole (b .present) (tightenUpper t (b .value) (b .inclusive)) t
-    (λ u. pick-has Whole (takesUpper (t .upper) (b .value) (b .inclusive)) (record { lower = t .lower; upper = boundAt (b .value) (b .inclusive) }) t
+    cond-T-elim Whole (b .present) (tightenUpper t (b .value) (b .inclusive)) t
+    (λ u. cond-T-elim Whole (takesUpper (t .upper) (b .value) (b .inclusive)) (record { lower = t .lower; upper = boundAt (b .value) (b .inclusive) }) t
     (λ v. (w .0, refl)) w) w
 
 clean-tightened : (t new : ValueRange) → Clean t → Clean (tightenBy t new)
 clean-tightened t new c =
     whole-clean (tightenBy t new) (upper-whole (lowerBy t (new .lower)) (new .upper) (lower-whole t (new .lower) (clean-whole t c)))
 
-pub range-idle : (x : Entry) → rangeOn x noEntry ≡ x
+pub range-on-none : (x : Entry) → rangeOn x noEntry ≡ x
 unfolding rangeOn
-range-idle x = refl
+range-on-none x = refl
 
 pub range-calm : (x : Entry) → rangeBad x noEntry ≡ false
 unfolding rangeBad

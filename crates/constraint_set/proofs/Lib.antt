@@ -1,4 +1,6 @@
 pub mod Loops
+pub mod SetLists
+pub mod RootJoins
 pub mod Residuals
 pub mod Checking
 pub mod Passes

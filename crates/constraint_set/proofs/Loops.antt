@@ -3,7 +3,6 @@ use mathlib.Core.Path.{_≡_, refl, sym, ap, _∙_}
 use mathlib.Core.Bool.{Bool, true, false, cond, _||_, or-false}
 use mathlib.Core.List.{List}
 use Prim.Native.Nat.{ℕ, _+_, _-_, _<_, _≤_}
-use native.Mathlib.Numerals.{add-one}
 use borrow.Author.Tests.{lt-ltb}
 use lib.ListN.{getD, set, replicate}
 use Rattle.lists.specs.Ranges.{anyFrom}
@@ -19,10 +18,7 @@ use Rattle.constraint_spec.specs.Sets.{rangesMoved, addLiteral, mergeLiteral}
 use Rattle.constraint_spec.specs.declared.Holder.{Holder}
 use Rattle.constraint_spec.specs.declared.Entry.{Entry}
 use Rattle.constraint_spec.specs.declared.ConstraintSet.{ConstraintSet}
-
-pub steps-next : {A : Type 0} (f : ℕ → A → A) (s : A) (i : ℕ) (t u : A) → t ≡ stepsTo f i s → u ≡ f i t → u ≡ stepsTo f (i + 1) s
-unfolding stepsTo
-steps-next f s i t u e d = rw (add-one, ← e) d
+use Rattle.constraint_spec.proofs.Steps.{steps-next}
 
 -- a test that is kept in a flag, place by place
 pub any-again : (f : ℕ → Bool) (i e : ℕ) (bad all : Bool) → i < e → (bad || anyFrom f i (e - i)) ≡ all → ((bad || f i) || anyFrom f (i + 1) (e - (i + 1))) ≡ all

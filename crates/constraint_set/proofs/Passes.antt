@@ -10,17 +10,10 @@ use borrow.Author.Tests.{eq-eqb, ne-eqb}
 use lib.Dec.{eqb}
 use lib.ListN.{length, getD, set, replicate, length-set, length-replicate, getD-replicate}
 use lib.Seq.{getD-set-same, getD-set-other, ext-getD}
-use Rattle.constraint_spec.proofs.Steps.{pick-has}
+use Rattle.laws.proofs.Bools.{or-inr, or-inl, cond-T-elim}
 use Rattle.constraint_set.specs.Settled.{Stands, movedTo}
 
 -- ---- flags
-pub or-here : (f x : Bool) → x ≡ true → (f || x) ≡ true
-or-here true x e = refl
-or-here false x e = e
-
-pub or-before : (f x : Bool) → f ≡ true → (f || x) ≡ true
-or-before f x e = ap (λ (b : Bool). b || x) e
-
 pub or-keeps : (f x : Bool) → (x ≡ true → f ≡ true) → (f || x) ≡ f
 or-keeps true x h = refl
 or-keeps false true h = sym (h refl) ∙ refl
@@ -72,7 +65,7 @@ module _ {A : Type 0} (none : A) (put : A → A → A) (root : ℕ → ℕ) (d :
   gathered-has P z more r zero = z
   gathered-has P z more r (suc k) =
       let p = gathered-has P z more r k in
-      pick-has P (eqb (root k) r) (put (gathered r k) (getD l k d)) (gathered r k) (λ t. more (gathered r k) (getD l k d) p) p
+      cond-T-elim P (eqb (root k) r) (put (gathered r k) (getD l k d)) (gathered r k) (λ t. more (gathered r k) (getD l k d) p) p
 
   module _ (low : (k : ℕ) → k < 128 → root k < 128) (idem : (k : ℕ) → k < 128 → root (root k) ≡ root k) (empty : put none none ≡ none)
       (again : (x y : A) → put none x ≡ x → put none (put x y) ≡ put x y) where
@@ -101,10 +94,10 @@ module _ {A : Type 0} (none : A) (put : A → A → A) (root : ℕ → ℕ) (d :
     told zero r e = absurd (subst (λ (b : Bool). cond b Unit ⊥) (sym e ∙ calm) tt)
     told (suc k) r e = elim (ℕ-discrete (root k) r) [
       | yes q ↦ ⊎-elim
-          (λ (u : bad (gathered r k) (getD l k d) ≡ true). or-here (flagTo bad f k) _ (subst (λ (x : ℕ). bad (gathered x k) (getD l k d) ≡ true) (sym q) u))
-          (λ u. or-before (flagTo bad f k) _ (told k r u))
+          (λ (u : bad (gathered r k) (getD l k d) ≡ true). or-inr (flagTo bad f k) _ (subst (λ (x : ℕ). bad (gathered x k) (getD l k d) ≡ true) (sym q) u))
+          (λ u. or-inl (flagTo bad f k) _ (told k r u))
           (tells (gathered r k) (getD l k d) (gathered-has (λ (x : A). put none x ≡ x) empty again r k) (rw (eq-eqb _ _ q) at e))
-      | no n ↦ or-before (flagTo bad f k) _ (told k r (rw (ne-eqb _ _ n) at e))
+      | no n ↦ or-inl (flagTo bad f k) _ (told k r (rw (ne-eqb _ _ n) at e))
     ]
 
     pub filled-told : ((k : ℕ) → k < 128 → root k < 128) → (i : ℕ) → i < 128 → bad none (getD (filledTo 128) i d) ≡ true → flagTo bad f 128 ≡ true
@@ -240,7 +233,7 @@ module _ {A : Type 0} (none : A) (put : A → A → A) (root : ℕ → ℕ) (d :
       | yes e ↦ ap (λ (j : ℕ). flag j || bad (now (root j) j) (old j)) e ∙ ap (λ (c : Bool). c || bad (now (root b) b) (old b)) (flag-before b (omega arith))
           ∙ ap (λ (c : Bool). f || c) met
       | no n ↦ ap (λ (c : Bool). c || bad (now (root k) k) (old k)) (flag-after k (omega arith) (omega arith))
-          ∙ or-keeps (f || bad (old a) (old b)) _ (λ t. or-before f _ (hushed k (omega arith) n t))
+          ∙ or-keeps (f || bad (old a) (old b)) _ (λ t. or-inl f _ (hushed k (omega arith) n t))
     ]
 
     pub flag-moved : flag 128 ≡ (f || bad (old a) (old b))

@@ -9,6 +9,7 @@ use native.Mathlib.Omega.{arith}
 use lib.ListN.{length, getD, set, length-set}
 use lib.Seq.{getD-set-same, getD-set-other}
 use Rattle.value_classes.specs.Classes.{Whole, Falling, classesOk, canonicalOf, rootsJoined}
+use Rattle.laws.proofs.Bools.{or-inl}
 use Rattle.value_classes.specs.declared.ValueEquivalenceClasses.{ValueEquivalenceClasses}
 use Rattle.value_classes.proofs.ClassLaws.{falling, falling-ok, canonical-small, canonical-idempotent, roots-whole, roots-falling, root-stays, root-goes}
 use Rattle.constraint_spec.specs.Sets.{none, noEntry, blank, classesOf, nonNulls, literals, nonNullAt, literalAt, entryAt, canonicalAt}
@@ -19,8 +20,8 @@ use Rattle.constraint_spec.specs.declared.Entry.{Entry}
 use Rattle.constraint_spec.specs.declared.ConstraintSet.{ConstraintSet}
 use Rattle.constraint_set.proofs.Checking.{just-checked, crossed-flagged, check-one}
 use Rattle.constraint_set.specs.Settled.{nullOn, literalOn, literalBad, rangeOn, rangeBad, Stands, Settled, movedTo, placeOf, unitedRoots}
-use Rattle.constraint_set.proofs.Passes.{or-before, goesTo, goes-b, goes-other, filled-stands, flagTo, filled-told, filled-moved, flag-moved}
-use Rattle.constraint_set.proofs.Contents.{null-idle, null-same, literal-idle, literal-again, literal-calm, literal-quiet, range-idle}
+use Rattle.constraint_set.proofs.Passes.{goesTo, goes-b, goes-other, filled-stands, flagTo, filled-told, filled-moved, flag-moved}
+use Rattle.constraint_set.proofs.Contents.{null-on-false, null-same, literal-on-none, literal-again, literal-calm, literal-quiet, range-on-none}
 use Rattle.constraint_set.proofs.Contents.{range-calm, range-again, range-tells, nullsTo, literalsTo, rangesTo, clashTo, nulls-passed}
 use Rattle.constraint_set.proofs.Contents.{literals-passed, ranges-passed}
 
@@ -55,10 +56,10 @@ module _ (s : ConstraintSet) (many : Whole (classesOf s)) (ok : classesOk (class
         many = many;
         ok = ok;
         nulls = filled-stands false nullOn (canonicalAt s) false (nonNulls s) low idem (null-same false) (λ x y e. null-same (nullOn x y));
-        equal = filled-stands none literalOn (canonicalAt s) none (literals s) low idem (literal-idle none) literal-again;
-        within = filled-stands noEntry rangeOn (canonicalAt s) blank (s .ranges) low idem (range-idle noEntry) range-again;
-        quiet = λ i h e. or-before (emptyFlag s) _ (filled-told noEntry rangeOn (canonicalAt s) blank (s .ranges) rangeBad (clashTo s 128)
-            (range-idle noEntry) range-again (range-calm noEntry) range-tells low i h e);
+        equal = filled-stands none literalOn (canonicalAt s) none (literals s) low idem (literal-on-none none) literal-again;
+        within = filled-stands noEntry rangeOn (canonicalAt s) blank (s .ranges) low idem (range-on-none noEntry) range-again;
+        quiet = λ i h e. or-inl (emptyFlag s) _ (filled-told noEntry rangeOn (canonicalAt s) blank (s .ranges) rangeBad (clashTo s 128)
+            (range-on-none noEntry) range-again (range-calm noEntry) range-tells low i h e);
         checked = just-checked (passed s);
       }
 
@@ -76,13 +77,13 @@ or-regroup true x y z = refl
 or-regroup false x y z = refl
 
 module _ {A : Type 0} (l : List A) (a b : ℕ) (now none d : A) (less : a < b) (high : b < 128) (long : length l ≡ 128) where
-  moved-a : getD (movedTo l a b now none) a d ≡ now
+  pub moved-a : getD (movedTo l a b now none) a d ≡ now
   moved-a = getD-set-other (set l a now) b a none d (omega arith) ∙ getD-set-same l a now d (omega arith)
 
-  moved-b : getD (movedTo l a b now none) b d ≡ none
+  pub moved-b : getD (movedTo l a b now none) b d ≡ none
   moved-b = getD-set-same (set l a now) b none d (omega (arith, length-set l a now))
 
-  moved-other : (k : ℕ) → (k ≡ a → ⊥) → (k ≡ b → ⊥) → getD (movedTo l a b now none) k d ≡ getD l k d
+  pub moved-other : (k : ℕ) → (k ≡ a → ⊥) → (k ≡ b → ⊥) → getD (movedTo l a b now none) k d ≡ getD l k d
   moved-other k n m = getD-set-other (set l a now) b k none d m ∙ getD-set-other l a k now d n
 
 module _ (s : ConstraintSet) (g : Settled s) (a b : ℕ) (less : a < b) (high : b < 128) (own-a : canonicalAt s a ≡ a) where
@@ -125,29 +126,29 @@ module _ (s : ConstraintSet) (g : Settled s) (a b : ℕ) (less : a < b) (high : 
   ]
 
   nulls-moved : nullsTo t 128 ≡ movedTo (nonNulls s) a b (nullOn (nonNullAt s a) (nonNullAt s b)) false
-  nulls-moved = filled-moved false nullOn (canonicalAt t) false (nonNulls s) a b less high null-idle (g .nulls .same)
+  nulls-moved = filled-moved false nullOn (canonicalAt t) false (nonNulls s) a b less high null-on-false (g .nulls .same)
       (goes false nullOn false (nonNulls s) (g .nulls)) low-t (g .nulls .long)
 
   literals-moved : literalsTo t 128 ≡ movedTo (literals s) a b holder none
-  literals-moved = filled-moved none literalOn (canonicalAt t) none (literals s) a b less high literal-idle (g .equal .same)
+  literals-moved = filled-moved none literalOn (canonicalAt t) none (literals s) a b less high literal-on-none (g .equal .same)
       (goes none literalOn none (literals s) (g .equal)) low-t (g .equal .long)
 
   ranges-moved : rangesTo t 128 ≡ movedTo (s .ranges) a b entry noEntry
-  ranges-moved = filled-moved noEntry rangeOn (canonicalAt t) blank (s .ranges) a b less high range-idle (g .within .same)
+  ranges-moved = filled-moved noEntry rangeOn (canonicalAt t) blank (s .ranges) a b less high range-on-none (g .within .same)
       (goes noEntry rangeOn blank (s .ranges) (g .within)) low-t (g .within .long)
 
   clash-moved : clashTo t 128 ≡ (s .contradictory || clash)
   clash-moved =
-      flag-moved none literalOn (canonicalAt t) none (literals s) a b less high literal-idle (g .equal .same)
+      flag-moved none literalOn (canonicalAt t) none (literals s) a b less high literal-on-none (g .equal .same)
       (goes none literalOn none (literals s) (g .equal)) literalBad (s .contradictory) literal-calm
       (λ i h e. absurd (subst (λ (c : Bool). cond c Unit ⊥) (sym e ∙ literal-quiet (literalAt s i)) tt))
 
   empty-moved : emptyFlag t ≡ ((s .contradictory || clash) || empty)
   empty-moved =
       ap (λ (f : Bool). flagTo noEntry rangeOn (canonicalAt t) blank (s .ranges) rangeBad f 128) clash-moved
-      ∙ flag-moved noEntry rangeOn (canonicalAt t) blank (s .ranges) a b less high range-idle (g .within .same)
+      ∙ flag-moved noEntry rangeOn (canonicalAt t) blank (s .ranges) a b less high range-on-none (g .within .same)
       (goes noEntry rangeOn blank (s .ranges) (g .within)) rangeBad (s .contradictory || clash) range-calm
-      (λ i h e. or-before (s .contradictory) clash (g .quiet i h e))
+      (λ i h e. or-inl (s .contradictory) clash (g .quiet i h e))
 
   -- before the check
   abbrev u : ConstraintSet
@@ -159,7 +160,7 @@ module _ (s : ConstraintSet) (g : Settled s) (a b : ℕ) (less : a < b) (high : 
   passed-moved = λ i. withValues s k (nulls-moved i) (literals-moved i) (ranges-moved i) (empty-moved i)
 
   flagged : (j : ℕ) → j < 128 → crossedAt s j ≡ true → u .contradictory ≡ true
-  flagged j h e = or-before (s .contradictory || clash) empty (or-before (s .contradictory) clash (crossed-flagged s (g .checked) j h e))
+  flagged j h e = or-inl (s .contradictory || clash) empty (or-inl (s .contradictory) clash (crossed-flagged s (g .checked) j h e))
 
   others : (j : ℕ) → j < 128 → (j ≡ a → ⊥) → crossedAt u j ≡ true → u .contradictory ≡ true
   others j h n e = elim (ℕ-discrete j b) [

@@ -6,6 +6,7 @@ use native.Mathlib.Omega.{arith}
 use lib.Dec.{ltb}
 use lib.ListN.{replicate}
 use lib.Ieee.{Float}
+use Rattle.laws.proofs.Bools.{cond-T-elim}
 use Rattle.scalar.specs.Kinds.{isNull}
 use Rattle.scalar.specs.declared.ScalarValue.{ScalarValue}
 use Rattle.value_range.specs.declared.ValueRange.{ValueRange}
@@ -16,7 +17,7 @@ use Rattle.constraint_spec.specs.Sets.{withLiterals, withRanges, putNonN
 use Rattle.constraint_spec.specs.Sets.{moveLiteral, moveRange, nonNullsMoved, literalsMoved, rangesMoved, normalized, addNonNull, addLiteral}
 use Rattle.constraint_spec.specs.Sets.{boundsBy, addBound}
 use Rattle.constraint_spec.specs.declared.ConstraintSet.{ConstraintSet}
-use Rattle.constraint_spec.proofs.Steps.{steps-good, pick-has}
+use Rattle.constraint_spec.proofs.Steps.{steps-good}
 
 pub record Beside (s t : ConstraintSet) : Type 0 where
   pub classes : classesOf t ≡ classesOf s
@@ -56,14 +57,14 @@ module _ (s t : ConstraintSet) (b : Beside s t) where
   unfolding nonNullsMoved
   beside-nulls =
       steps-good (Beside s) (moveNonNull t) 128
-      (λ i h u e. pick-has (Beside s) (nonNullAt t i) (putNonNull u (canonicalAt t i)) u (λ c. beside-null s u e (canonicalAt t i)) e)
+      (λ i h u e. cond-T-elim (Beside s) (nonNullAt t i) (putNonNull u (canonicalAt t i)) u (λ c. beside-null s u e (canonicalAt t i)) e)
       128 (omega arith) (withNonNulls t (replicate 128 false)) (record { classes = b .classes; handles = b .handles; count = b .count })
 
   pub beside-literals : Beside s (literalsMoved t)
   unfolding literalsMoved
   beside-literals =
       steps-good (Beside s) (moveLiteral t) 128
-      (λ i h u e. pick-has (Beside s) (literalAt t i .present) (putLiteral u (canonicalAt t i) (literalAt t i .value)) u
+      (λ i h u e. cond-T-elim (Beside s) (literalAt t i .present) (putLiteral u (canonicalAt t i) (literalAt t i .value)) u
       (λ c. beside-literal s u e (canonicalAt t i) (literalAt t i .value)) e)
       128 (omega arith) (withLiterals t (replicate 128 none)) (record { classes = b .classes; handles = b .handles; count = b .count })
 
@@ -71,7 +72,7 @@ module _ (s t : ConstraintSet) (b : Beside s t) where
   unfolding rangesMoved
   beside-ranges =
       steps-good (Beside s) (moveRange t) 128
-      (λ i h u e. pick-has (Beside s) (entryAt t i .present) (putRange u (canonicalAt t i) (entryAt t i .range)) u
+      (λ i h u e. cond-T-elim (Beside s) (entryAt t i .present) (putRange u (canonicalAt t i) (entryAt t i .range)) u
       (λ c. beside-range s u e (canonicalAt t i) (entryAt t i .range)) e)
       128 (omega arith) (withRanges t (replicate 128 noEntry)) (record { classes = b .classes; handles = b .handles; count = b .count })
 
@@ -88,7 +89,7 @@ beside-normalized s t b =
 module _ (s : ConstraintSet) (i : ℕ) where
   pub addNonNull-beside : Beside s (addNonNull s i)
   unfolding addNonNull
-  addNonNull-beside = pick-has (Beside s) (ltb i 128) (putNonNull s (canonicalAt s i)) s (λ t. beside-null s s (beside-self s) (canonicalAt s i))
+  addNonNull-beside = cond-T-elim (Beside s) (ltb i 128) (putNonNull s (canonicalAt s i)) s (λ t. beside-null s s (beside-self s) (canonicalAt s i))
       (beside-self s)
 
   pub addLiteral-beside : (l : ScalarValue) → Beside s (addLiteral s i l)
@@ -97,8 +98,8 @@ module _ (s : ConstraintSet) (i : ℕ) where
       let r = canonicalAt s i in
       let s1 = putNonNull s r in
       let s2 = putLiteral s1 r l in
-      pick-has (Beside s) (ltb i 128) (cond (isNull l) (withFlag s true) (crossCheck s2)) s
-      (λ t. pick-has (Beside s) (isNull l) (withFlag s true) (crossCheck s2) (λ n. beside-flag s s (beside-self s) true)
+      cond-T-elim (Beside s) (ltb i 128) (cond (isNull l) (withFlag s true) (crossCheck s2)) s
+      (λ t. cond-T-elim (Beside s) (isNull l) (withFlag s true) (crossCheck s2) (λ n. beside-flag s s (beside-self s) true)
       (beside-check s s2 (beside-literal s s1 (beside-null s s (beside-self s) r) r l))) (beside-self s)
 
   pub addBound-beside : (op : BinaryOp) (x : Float) → Beside s (addBound s i op x)
@@ -108,7 +109,7 @@ module _ (s : ConstraintSet) (i : ℕ) where
       let s1 = putNonNull s r in
       let b1 = beside-null s s (beside-self s) r in
       let n = boundsBy op x in
-      pick-has (Beside s) (ltb i 128) (cond (bounding op) (crossCheck (putRange s1 r n)) (layRange s1 r n)) s
-      (λ t. pick-has (Beside s) (bounding op) (crossCheck (putRange s1 r n)) (layRange s1 r n)
+      cond-T-elim (Beside s) (ltb i 128) (cond (bounding op) (crossCheck (putRange s1 r n)) (layRange s1 r n)) s
+      (λ t. cond-T-elim (Beside s) (bounding op) (crossCheck (putRange s1 r n)) (layRange s1 r n)
       (λ n. beside-check s (putRange s1 r (boundsBy op x)) (beside-range s s1 b1 r (boundsBy op x)))
       (beside-lay s s1 b1 r n)) (beside-self s)

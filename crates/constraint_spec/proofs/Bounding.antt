@@ -10,6 +10,7 @@ use lib.IntN.{ℤ, pos, negsuc}
 use lib.Signed.{ltZ, leZ}
 use lib.Ieee.{Float, nan, inf, fin, binary64, low, lt, eq, fits}
 use lib.Ieee.Fits.{eq→eqb}
+use Rattle.laws.proofs.Bools.{T-or-elim, T-or-inl, T-or-inr}
 use Rattle.scalar.specs.Exact.{eqZ, exactIn, wholeIn}
 use Rattle.scalar.specs.Kinds.{kindCode, kindOf, isNull, sameKind}
 use Rattle.scalar.specs.Scalars.{pairwise, scalarToF64, sameScalar, lessScalar, Typed, valueOf}
@@ -26,7 +27,7 @@ use Rattle.comparison.specs.declared.BinaryOp.the-variants.{Lt, LtEq, Gt, GtEq}
 use Rattle.constraint_spec.specs.Values.{Place, nowhere, lowest, highest, point, placeOfFloat, placeOf, samePlace, belowP, aboveP, okRange, isNaN}
 use Rattle.constraint_spec.specs.Sets.{boundsBy}
 use Rattle.constraint_spec.proofs.Pairs.{by-pairs}
-use Rattle.constraint_spec.proofs.ValueLaws.{or-elim, or-left, or-right, eq-place}
+use Rattle.constraint_spec.proofs.ValueLaws.{eq-place}
 use Rattle.constraint_spec.proofs.Places.{no-number}
 
 -- ---- at most is below or at
@@ -34,7 +35,7 @@ le-cases : (a b : ℤ) → leZ a b ≡ (ltZ a b || eqZ a b)
 le-cases a b = iff (leZ a b) (ltZ a b || eqZ a b) (to a b) (from a b)
   where
     from : (a b : ℤ) → T (ltZ a b || eqZ a b) → T (leZ a b)
-    from a b t = or-elim (ltZ a b) (eqZ a b) t (lt→le a b) (λ e. subst (λ (z : ℤ). T (leZ a z)) (eqZ→eq a b e) (self a))
+    from a b t = T-or-elim (ltZ a b) (eqZ a b) t (lt→le a b) (λ e. subst (λ (z : ℤ). T (leZ a z)) (eqZ→eq a b e) (self a))
       where
         self : (a : ℤ) → T (leZ a a)
         self (pos n) = le→leb n n (omega arith)
@@ -42,8 +43,8 @@ le-cases a b = iff (leZ a b) (ltZ a b || eqZ a b) (to a b) (from a b)
 
     nat : (m n : ℕ) → m ≤ n → T (ltb m n || eqb m n)
     nat m n h = elim (decLt m n) [
-      | yes l ↦ or-left (ltb m n) (eqb m n) (lt→ltb m n l)
-      | no l ↦ or-right (ltb m n) (eqb m n)
+      | yes l ↦ T-or-inl (ltb m n) (eqb m n) (lt→ltb m n l)
+      | no l ↦ T-or-inr (ltb m n) (eqb m n)
           (eq→eqb {a = m} {b = n} (omega arith))
     ]
 
@@ -52,7 +53,7 @@ le-cases a b = iff (leZ a b) (ltZ a b || eqZ a b) (to a b) (from a b)
     to (pos a) (negsuc b) t = absurd t
     to (negsuc a) (pos b) t = tt
     to (negsuc a) (negsuc b) t =
-        or-elim (ltb b a) (eqb b a) (nat b a (leb→le b a t)) (or-left (ltb b a) (eqb a b)) (λ e. or-right (ltb b a) (eqb a b) (eq→eqb (sym (eqb→eq b a e))))
+        T-or-elim (ltb b a) (eqb b a) (nat b a (leb→le b a t)) (T-or-inl (ltb b a) (eqb a b)) (λ e. T-or-inr (ltb b a) (eqb a b) (eq→eqb (sym (eqb→eq b a e))))
 
 below-cases : (p : Place) (z : ℤ) → belowP true p z ≡ (belowP false p z || samePlace p (point z))
 below-cases nowhere z = refl

@@ -7,6 +7,7 @@ use native.Mathlib.Decide.{ℕ-discrete, decLt}
 use native.Mathlib.Omega.{arith}
 use lib.Dec.{T, not-T, eqb, eqb→eq, eqb-refl}
 use lib.Ieee.Fits.{and-i, and-l, and-r}
+use Rattle.laws.proofs.Bools.{T-nor-left, T-nor-right, T-nor-intro, cond-T-elim}
 use Rattle.scalar.specs.Kinds.{isNull}
 use Rattle.scalar.specs.Scalars.{Typed}
 use Rattle.scalar.specs.declared.ScalarValue.{ScalarValue}
@@ -19,8 +20,8 @@ use Rattle.constraint_spec.specs.Meets.{nullOk, literalOk, entryOk, Core
 use Rattle.constraint_spec.specs.declared.ConstraintSet.{ConstraintSet}
 use Rattle.constraint_spec.proofs.Goods.{flag-good}
 use Rattle.constraint_spec.proofs.Likes.{like-sym, like-place}
-use Rattle.constraint_spec.proofs.Puts.{nor-l, nor-r, nor-i, null-good, lay-good, null-iff, lay-iff}
-use Rattle.constraint_spec.proofs.Steps.{steps-good, steps-iff, pick-iff, pick-has, pick-if}
+use Rattle.constraint_spec.proofs.Puts.{null-good, lay-good, null-iff, lay-iff}
+use Rattle.constraint_spec.proofs.Steps.{steps-good, steps-iff, pick-iff, pick-if}
 use Rattle.constraint_spec.proofs.Beside.{beside-self, beside-null, beside-lay}
 use Rattle.constraint_spec.proofs.Normal.{canonical-below, normalized-good}
 use Rattle.constraint_spec.proofs.Operations.{meets-by, normalize-meets, union-good, union-iff, addLiteral-good, addLiteral-iff}
@@ -29,23 +30,23 @@ use Rattle.constraint_spec.proofs.Operations.{residual-good, residual-i
 module _ (b : ConstraintSet) (g : Good b) where
   -- ---- each step keeps a set good
   member-good : (r : ℕ) → r < 128 → (i : ℕ) → i < 128 → (t : ConstraintSet) → Good t → Good (joinMember (b .«equivalence_classes») r i t)
-  member-good r hr i hi t f = pick-has Good (eqb (canonicalAt b i) r && not (eqb i r)) (unionValues t r i) t (λ c. union-good t r i hr hi f) f
+  member-good r hr i hi t f = cond-T-elim Good (eqb (canonicalAt b i) r && not (eqb i r)) (unionValues t r i) t (λ c. union-good t r i hr hi f) f
 
   class-good : (r : ℕ) → r < 128 → (t : ConstraintSet) → Good t → Good (joinClass (b .«equivalence_classes») r t)
   class-good r hr t f = steps-good Good (joinMember (b .«equivalence_classes») r) 128 (member-good r hr) 128 (omega arith) t f
 
   literal-step-good : (i : ℕ) → i < 128 → (t : ConstraintSet) → Good t → Good (mergeLiteral (literals b) i t)
   literal-step-good i hi t f =
-      pick-has Good (literalAt b i .present) (addLiteral t i (literalAt b i .value)) t
+      cond-T-elim Good (literalAt b i .present) (addLiteral t i (literalAt b i .value)) t
       (λ c. addLiteral-good t f i hi (literalAt b i .value) (g .typed i hi c)) f
 
   range-step-good : (i : ℕ) → i < 128 → (t : ConstraintSet) → Good t → Good (mergeRange (b .ranges) i t)
   range-step-good i hi t f =
-      pick-has Good (entryAt b i .present) (layRange t (canonicalAt t i) (entryAt b i .range)) t
+      cond-T-elim Good (entryAt b i .present) (layRange t (canonicalAt t i) (entryAt b i .range)) t
       (λ c. lay-good t f (canonicalAt t i) (canonical-below t f i hi) (entryAt b i .range) (g .sound i hi c)) f
 
   null-step-good : (i : ℕ) → i < 128 → (t : ConstraintSet) → Good t → Good (mergeNonNull (nonNulls b) i t)
-  null-step-good i hi t f = pick-has Good (nonNullAt b i) (putNonNull t i) t (λ c. null-good t f i hi) f
+  null-step-good i hi t f = cond-T-elim Good (nonNullAt b i) (putNonNull t i) t (λ c. null-good t f i hi) f
 
   pub residual-steps-good : (t : ConstraintSet) → Good t → (k : ℕ) → Good (stepsTo (mergeResidual (handles b)) k t)
   residual-steps-good t f k = steps-good Good (mergeResidual (handles b)) k (λ i h u w. residual-good u w (handleAt b i)) k (omega arith) t f
@@ -167,7 +168,7 @@ module _ (b : ConstraintSet) (g : Good b) where
         λ m. (
           record {
             core = record {
-              clear = nor-l (a .contradictory) (b .contradictory) (m .core .clear);
+              clear = T-nor-left (a .contradictory) (b .contradictory) (m .core .clear);
               nulls = m .core .nulls;
               equal = m .core .equal;
               within = m .core .within;
@@ -175,11 +176,11 @@ module _ (b : ConstraintSet) (g : Good b) where
             together = m .together;
             residual = m .residual;
           },
-          nor-r (a .contradictory) (b .contradictory) (m .core .clear),
+          T-nor-right (a .contradictory) (b .contradictory) (m .core .clear),
         ),
         λ m. record {
           core = record {
-            clear = nor-i (a .contradictory) (b .contradictory) (m .0 .core .clear) (m .1);
+            clear = T-nor-intro (a .contradictory) (b .contradictory) (m .0 .core .clear) (m .1);
             nulls = m .0 .core .nulls;
             equal = m .0 .core .equal;
             within = m .0 .core .within;

@@ -6,6 +6,7 @@ use Prim.Native.Nat.{ℕ, _<_}
 use native.Mathlib.Omega.{arith}
 use lib.Dec.{T}
 use lib.ListN.{replicate, length-replicate}
+use Rattle.laws.proofs.Bools.{cond-T-elim}
 use Rattle.scalar.specs.Kinds.{isNull}
 use Rattle.scalar.specs.Scalars.{Typed}
 use Rattle.scalar.specs.declared.ScalarValue.{ScalarValue}
@@ -21,7 +22,7 @@ use Rattle.constraint_spec.specs.declared.ConstraintSet.{ConstraintSet}
 use Rattle.constraint_spec.proofs.Goods.{nulls-good, literals-good, ranges-good, core-nulls, core-literals, core-ranges, at-replicate}
 use Rattle.constraint_spec.proofs.Likes.{like-sym, like-nullOk, like-literalOk, like-entryOk}
 use Rattle.constraint_spec.proofs.Puts.{null-good, literal-good, range-good, check-good, null-iff, literal-iff, range-iff, check-iff}
-use Rattle.constraint_spec.proofs.Steps.{steps-good, steps-iff, pick-iff, pick-has}
+use Rattle.constraint_spec.proofs.Steps.{steps-good, steps-iff, pick-iff}
 use Rattle.constraint_spec.proofs.Beside.{beside-self, beside-nulls, beside-literals}
 
 pub canonical-below : (s : ConstraintSet) → Good s → (i : ℕ) → i < 128 → canonicalAt s i < 128
@@ -42,7 +43,7 @@ module _ (s : ConstraintSet) (g : Good s) where
   g1 = nulls-good s g (replicate 128 false) (length-replicate 128 false)
 
   null-step-good : (i : ℕ) → i < 128 → (t : ConstraintSet) → Good t → Good (moveNonNull s i t)
-  null-step-good i h t f = pick-has Good (nonNullAt s i) (putNonNull t (root i)) t (λ b. null-good t f (root i) (root< i h)) f
+  null-step-good i h t f = cond-T-elim Good (nonNullAt s i) (putNonNull t (root i)) t (λ b. null-good t f (root i) (root< i h)) f
 
   pub nulls-moved-good : Good (nonNullsMoved s)
   unfolding nonNullsMoved
@@ -57,7 +58,7 @@ module _ (s : ConstraintSet) (g : Good s) where
 
   literal-step-good : (i : ℕ) → i < 128 → (t : ConstraintSet) → Good t → Good (moveLiteral s i t)
   literal-step-good i h t f =
-      pick-has Good (literalAt s i .present) (putLiteral t (root i) (literalAt s i .value)) t
+      cond-T-elim Good (literalAt s i .present) (putLiteral t (root i) (literalAt s i .value)) t
       (λ b. literal-good t f (root i) (root< i h) (literalAt s i .value) (g .typed i h b)) f
 
   pub literals-moved-good : Good (literalsMoved s)
@@ -73,7 +74,7 @@ module _ (s : ConstraintSet) (g : Good s) where
 
   range-step-good : (i : ℕ) → i < 128 → (t : ConstraintSet) → Good t → Good (moveRange s i t)
   range-step-good i h t f =
-      pick-has Good (entryAt s i .present) (putRange t (root i) (entryAt s i .range)) t
+      cond-T-elim Good (entryAt s i .present) (putRange t (root i) (entryAt s i .range)) t
       (λ b. range-good t f (root i) (root< i h) (entryAt s i .range) (g .sound i h b)) f
 
   pub ranges-moved-good : Good (rangesMoved s)

@@ -12,6 +12,7 @@ use lib.ListN.{length, getD, set, length-set}
 use lib.Seq.{getD-set-same, getD-set-other}
 use lib.Ieee.{Float, binary64, fits}
 use lib.Ieee.Fits.{and-l, and-r}
+use Rattle.laws.proofs.Bools.{T-or-elim}
 use Rattle.lists.specs.Ranges.{anyFrom}
 use Rattle.scalar.specs.Exact.{finite}
 use Rattle.scalar.specs.Kinds.{isNull}
@@ -34,12 +35,12 @@ use Rattle.constraint_spec.specs.Sets.{putRange, layRange, crossCheck, n
 use Rattle.constraint_spec.specs.Sets.{rangedBy, addRange, hasHandle, roomFor, pushResidual, done, refusedWith, addResidual}
 use Rattle.constraint_spec.specs.Meets.{Core, Like, Together, Meets, SoundRange, Good}
 use Rattle.constraint_spec.specs.declared.ConstraintSet.{ConstraintSet}
-use Rattle.constraint_spec.proofs.ValueLaws.{or-elim, same-null}
 use Rattle.constraint_spec.proofs.Goods.{classes-good, residuals-good, flag-good}
 use Rattle.constraint_spec.proofs.Likes.{like-sym, like-trans, like-null, like-place, like-equals}
 use Rattle.constraint_spec.proofs.Puts.{null-good, literal-good, range-good, lay-good, check-good, null-iff, literal-iff, range-iff, lay-iff, check-iff}
 use Rattle.constraint_spec.proofs.Beside.{Beside, beside-self, beside-normalized, addNonNull-beside, addLiteral-beside, addBound-beside}
 use Rattle.constraint_spec.proofs.Normal.{canonical-below, normalized-good, normalized-core}
+use Rattle.constraint_spec.proofs.ValueLaws.{T-same-null}
 
 -- ---- the classes
 module _ (v : ℕ → ScalarValue) (tv : (i : ℕ) → Typed (v i)) where
@@ -244,7 +245,7 @@ module _ (s : ConstraintSet) (g : Good s) (i : ℕ) (hi : i < 128) where
         no-null : T (isNull l) → T (equals (v i) l) → ⊥
         no-null n e =
             T-not (isNull (v i)) (and-l (not (isNull (v i))) (sameScalar (v i) l) e)
-            (subst T (sym (same-null (v i) l (and-r (not (isNull (v i))) (sameScalar (v i) l) e))) n)
+            (subst T (sym (T-same-null (v i) l (and-r (not (isNull (v i))) (sameScalar (v i) l) e))) n)
 
         go : (b : Bool) → (T b → T (isNull l)) → Together v (classesOf s) → Core v (cond b (withFlag s true) (crossCheck (putLiteral s1 r l))) ↔
             (Core v s × T (equals (v i) l))
@@ -317,11 +318,12 @@ addRange-iff s g i hi on v tv op l tl x e =
     rw (range-some s i op l x e) (addBound-iff s g i hi on v tv op x (c .number) (c .held))
 
 -- ---- residuals
-pub any-at : (f : ℕ → Bool) (n i : ℕ) → T (anyFrom f i n) → (k : ℕ) × (i ≤ k) × (k < i + n) × T (f k)
+pub T-any-at : (f : ℕ → Bool) (n i : ℕ) → T (anyFrom f i n) → (k : ℕ) × (i ≤ k) × (k < i + n) × T (f k)
 unfolding anyFrom
-any-at f zero i t = absurd t
-any-at f (suc n) i t =
-    or-elim (f i) (anyFrom f (suc i) n) t (λ u. (i, omega arith, omega arith, u)) (λ u. let w = any-at f n (suc i) u in (w .0, omega arith, omega arith, w .3))
+T-any-at f zero i t = absurd t
+T-any-at f (suc n) i t =
+    T-or-elim (f i) (anyFrom f (suc i) n) t (λ u. (i, omega arith, omega arith, u))
+    (λ u. let w = T-any-at f n (suc i) u in (w .0, omega arith, omega arith, w .3))
 
 module _ (s : ConstraintSet) (g : Good s) (h : ℕ) where
   -- a residual keeps a set good. Assumes a good set
@@ -343,7 +345,7 @@ module _ (s : ConstraintSet) (g : Good s) (h : ℕ) where
       where
         found : T (hasHandle s h) → (k : ℕ) × (k < s .residuals) × (handleAt s k ≡ h)
         found t =
-            let w = any-at (λ (k : ℕ). eqb (handleAt s k) h) (min (s .residuals) 64) 0 t in
+            let w = T-any-at (λ (k : ℕ). eqb (handleAt s k) h) (min (s .residuals) 64) 0 t in
             (w .0, omega arith, eqb→eq (handleAt s (w .0)) h (w .3))
 
         go : (a b : Bool) → (T b → s .residuals < 64) → (T a → (k : ℕ) × (k < s .residuals) × (handleAt s k ≡ h)) → T (a || b)

@@ -10,6 +10,7 @@ use lib.Signed.{ltZ}
 use lib.Ieee.{Float, nan, inf, fin, binary64, lt, eq, fits}
 use lib.Ieee.Bits.{is-true, is-false}
 use lib.Ieee.Fits.{and-i, and-l, and-r}
+use Rattle.laws.proofs.Bools.{T-or-neg-resolve-left, T-or-elim}
 use Rattle.scalar.specs.Exact.{eqZ, finite, exactIn, wholeIn}
 use Rattle.scalar.specs.Scalars.{scalarToF64, sameScalar, Typed, valueOf}
 use Rattle.value_range.specs.Ranges.{Sound, boundAt, unboundedRange, takesLower, takesUpper, tightenLower, tightenUpper, emptyRange, upTo}
@@ -27,14 +28,14 @@ use Rattle.scalar.proofs.WholeLaws.{eqZ→eq, le-lt, lt-le, irrefl}
 use Rattle.constraint_spec.specs.Values.{Place, nowhere, lowest, highest, point, placeOfFloat, placeOf, belowP, aboveP, okUpper, okLower, okRange}
 use Rattle.constraint_spec.specs.Sets.{lowerBy, upperBy, tightenBy, outside}
 use Rattle.constraint_spec.specs.Meets.{SoundRange}
-use Rattle.constraint_spec.proofs.ValueLaws.{or-elim, same-place}
+use Rattle.constraint_spec.proofs.ValueLaws.{same-place}
 
 -- a bound that every place of a sort passes, and one that none passes
-passed : (p q : Bool) → (not p || true) ≡ ((not q || true) && true)
-passed true true = refl
-passed true false = refl
-passed false true = refl
-passed false false = refl
+passed-both : (p q : Bool) → (not p || true) ≡ ((not q || true) && true)
+passed-both true true = refl
+passed-both true false = refl
+passed-both false true = refl
+passed-both false false = refl
 
 module _ (v : Float) (i : Bool) (fv : T (finite v)) (hv : T (fits binary64 v)) where
   failed-upper : (t : Bool) (r : ValueRange) → (t ≡ false → T (r .upper .present))
@@ -54,7 +55,7 @@ module _ (v : Float) (i : Bool) (fv : T (finite v)) (hv : T (fits binary64 v)) w
   pub ok-upper : (p : Place) (r : ValueRange) → Sound (r .upper) → okUpper p (tightenUpper r v i .upper)
       ≡ (okUpper p (r .upper) && belowP i p (exactIn binary64 v))
   ok-upper nowhere r s = failed-upper (takesUpper (r .upper) v i) r (λ e. there (r .upper .present) _ e)
-  ok-upper lowest r s = passed (tightenUpper r v i .upper .present) (r .upper .present)
+  ok-upper lowest r s = passed-both (tightenUpper r v i .upper .present) (r .upper .present)
   ok-upper highest r s = failed-upper (takesUpper (r .upper) v i) r (λ e. there (r .upper .present) _ e)
   ok-upper (point x) r s = upper-tightened v i r fv hv x s
 
@@ -62,7 +63,7 @@ module _ (v : Float) (i : Bool) (fv : T (finite v)) (hv : T (fits binary64 v)) w
       ≡ (okLower p (r .lower) && aboveP i (exactIn binary64 v) p)
   ok-lower nowhere r s = failed-lower (takesLower (r .lower) v i) r (λ e. there (r .lower .present) _ e)
   ok-lower lowest r s = failed-lower (takesLower (r .lower) v i) r (λ e. there (r .lower .present) _ e)
-  ok-lower highest r s = passed (tightenLower r v i .lower .present) (r .lower .present)
+  ok-lower highest r s = passed-both (tightenLower r v i .lower .present) (r .lower .present)
   ok-lower (point x) r s = lower-tightened v i r fv hv x s
 
 -- ---- by a bound, there or not
@@ -143,15 +144,11 @@ module _ (t r : ValueRange) (st : SoundRange t) (sr : SoundRange r) where
   )
 
 -- ---- an empty range
-bare : (p : Bool) → T p → T (not p || false) → ⊥
-bare true t k = k
-bare false t k = t
-
 pub ok-empty : (p : Place) (r : ValueRange) → SoundRange r → T (emptyRange r) → T (okRange p r) → ⊥
-ok-empty nowhere r s e k = bare (r .lower .present) (and-l (r .lower .present) _ e) (and-l (not (r .lower .present) || false) _ k)
-ok-empty lowest r s e k = bare (r .lower .present) (and-l (r .lower .present) _ e) (and-l (not (r .lower .present) || false) _ k)
+ok-empty nowhere r s e k = T-or-neg-resolve-left (r .lower .present) false (and-l (r .lower .present) _ e) (and-l (not (r .lower .present) || false) _ k)
+ok-empty lowest r s e k = T-or-neg-resolve-left (r .lower .present) false (and-l (r .lower .present) _ e) (and-l (not (r .lower .present) || false) _ k)
 ok-empty highest r s e k =
-    bare (r .upper .present) (and-l (r .upper .present) _ (and-r (r .lower .present) _ e))
+    T-or-neg-resolve-left (r .upper .present) false (and-l (r .upper .present) _ (and-r (r .lower .present) _ e))
     (and-r (not (r .lower .present) || true) (not (r .upper .present) || false) k)
 ok-empty (point x) r s e k = subst T (nothing-within x r s (is-true (emptyRange r) e)) k
 
@@ -172,7 +169,7 @@ number-place (S.Date32 n) x t e = ap point (sym (converts (S.Date32 n) x t e .sa
 -- b before a, at it or not, and a below b, or at it where it may not be
 below-no : (w : Bool) (a b : ℤ) → T (ltZ a b || (eqZ a b && not w)) → T (upTo w b a) → ⊥
 below-no w a b t k =
-    or-elim (ltZ a b) (eqZ a b && not w) t
+    T-or-elim (ltZ a b) (eqZ a b && not w) t
     (λ l. irrefl a (lt-le a b a l (upTo-le w b a k)))
     (λ e. strict w (and-r (eqZ a b) (not w) e) (subst (λ (z : ℤ). T (upTo w z a)) (sym (eqZ→eq a b (and-l (eqZ a b) (not w) e))) k))
   where
@@ -182,17 +179,13 @@ below-no w a b t k =
 
 above-no : (w : Bool) (a b : ℤ) → T (ltZ b a || (eqZ a b && not w)) → T (upTo w a b) → ⊥
 above-no w a b t k =
-    or-elim (ltZ b a) (eqZ a b && not w) t
+    T-or-elim (ltZ b a) (eqZ a b && not w) t
     (λ l. irrefl a (le-lt a b a (upTo-le w a b k) l))
     (λ e. strict w (and-r (eqZ a b) (not w) e) (subst (λ (z : ℤ). T (upTo w a z)) (sym (eqZ→eq a b (and-l (eqZ a b) (not w) e))) k))
   where
     strict : (w : Bool) → T (not w) → T (upTo w a a) → ⊥
     strict true n k = n
     strict false n k = irrefl a k
-
-must : (p q : Bool) → T p → T (not p || q) → T q
-must true q t u = u
-must false q t u = absurd t
 
 module _ (x : Float) (fx : T (finite x)) (hx : T (fits binary64 x)) (r : ValueRange) (s : SoundRange r) where
   abbrev ex : Float → ℤ
@@ -204,7 +197,7 @@ module _ (x : Float) (fx : T (finite x)) (hx : T (fits binary64 x)) (r : ValueRa
       let u = r .upper in
       let below = lt x (l .value) || (eq x (l .value) && not (l .inclusive)) in
       let above = lt (u .value) x || (eq x (u .value) && not (u .inclusive)) in
-      or-elim (l .present && below) (u .present && above) t
+      T-or-elim (l .present && below) (u .present && above) t
       (λ b.
       let p = and-l (l .present) below b in
       below-no (l .inclusive) (ex x) (ex (l .value))
@@ -212,7 +205,7 @@ module _ (x : Float) (fx : T (finite x)) (hx : T (fits binary64 x)) (r : ValueRa
       (ap₂ (λ (a c : Bool). a || (c && not (l .inclusive))) (lt-exact binary64 x (l .value) fx (s .0 p .0) hx (s .0 p .1))
       (eq-exact binary64 x (l .value) fx (s .0 p .0) hx (s .0 p .1)))
       (and-r (l .present) below b))
-      (must (l .present) (upTo (l .inclusive) (ex (l .value)) (ex x)) p (and-l (okLower (point (ex x)) l) (okUpper (point (ex x)) u) k)))
+      (T-or-neg-resolve-left (l .present) (upTo (l .inclusive) (ex (l .value)) (ex x)) p (and-l (okLower (point (ex x)) l) (okUpper (point (ex x)) u) k)))
       (λ b.
       let p = and-l (u .present) above b in
       above-no (u .inclusive) (ex x) (ex (u .value))
@@ -220,7 +213,7 @@ module _ (x : Float) (fx : T (finite x)) (hx : T (fits binary64 x)) (r : ValueRa
       (ap₂ (λ (a c : Bool). a || (c && not (u .inclusive))) (lt-exact binary64 (u .value) x (s .1 p .0) fx (s .1 p .1) hx)
       (eq-exact binary64 x (u .value) fx (s .1 p .0) hx (s .1 p .1)))
       (and-r (u .present) above b))
-      (must (u .present) (upTo (u .inclusive) (ex x) (ex (u .value))) p (and-r (okLower (point (ex x)) l) (okUpper (point (ex x)) u) k)))
+      (T-or-neg-resolve-left (u .present) (upTo (u .inclusive) (ex x) (ex (u .value))) p (and-r (okLower (point (ex x)) l) (okUpper (point (ex x)) u) k)))
 
 -- a value that is the literal is not in a range that the literal is outside of
 pub literal-outside : (v l : ScalarValue) → Typed v → Typed l → T (sameScalar v l) → (r : ValueRange) → SoundRange r → T (outside (scalarToF64 l) r) → T

@@ -11,6 +11,7 @@ use lib.ListN.{length, getD, set, length-set}
 use lib.Seq.{getD-set-same, getD-set-other}
 use lib.Ieee.Bits.{is-true, is-false}
 use lib.Ieee.Fits.{and-i, and-l, and-r}
+use Rattle.laws.proofs.Bools.{T-or-neg-resolve-left, T-nor-left, T-nor-right, T-nor-intro}
 use Rattle.lists.specs.Ranges.{anyFrom}
 use Rattle.scalar.specs.Kinds.{isNull}
 use Rattle.scalar.specs.Scalars.{sameScalar, scalarToF64, Typed}
@@ -24,31 +25,15 @@ use Rattle.constraint_spec.specs.Meets.{nullOk, literalOk, entryOk, Each
 use Rattle.constraint_spec.specs.declared.Holder.{Holder}
 use Rattle.constraint_spec.specs.declared.Entry.{Entry}
 use Rattle.constraint_spec.specs.declared.ConstraintSet.{ConstraintSet}
-use Rattle.constraint_spec.proofs.ValueLaws.{same-sym, same-trans}
+use Rattle.constraint_spec.proofs.ValueLaws.{same-sym, T-same-trans}
 use Rattle.constraint_spec.proofs.Places.{ok-tighten, tighten-sound, ok-empty, literal-outside}
 use Rattle.constraint_spec.proofs.Goods.{nulls-good, literals-good, ranges-good, flag-good, core-nulls, core-flag}
 
 -- ---- Bools
-pub nor-l : (a b : Bool) → T (not (a || b)) → T (not a)
-nor-l true b t = t
-nor-l false b t = tt
-
-pub nor-r : (a b : Bool) → T (not (a || b)) → T (not b)
-nor-r true b t = absurd t
-nor-r false b t = t
-
-pub nor-i : (a b : Bool) → T (not a) → T (not b) → T (not (a || b))
-nor-i true b s t = s
-nor-i false b s t = t
-
-must : (p q : Bool) → T p → T (not p || q) → T q
-must true q t u = u
-must false q t u = absurd t
-
 pub none-from : (f : ℕ → Bool) (n i : ℕ) → ((j : ℕ) → i ≤ j → j < i + n → T (not (f j))) → T (not (anyFrom f i n))
 unfolding anyFrom
 none-from f zero i h = tt
-none-from f (suc n) i h = nor-i (f i) (anyFrom f (suc i) n) (h i (omega arith) (omega arith))
+none-from f (suc n) i h = T-nor-intro (f i) (anyFrom f (suc i) n) (h i (omega arith) (omega arith))
     (none-from f n (suc i) (λ j lo hi. h j (omega arith) (omega arith)))
 
 -- ---- one entry of a list, and all of them
@@ -81,24 +66,24 @@ module _ {A : Type 0} (P : ℕ → A → Bool) (d : A) (l : List A) (r : ℕ) (x
   pub put-flag : (c bad q : Bool) → (T (not bad) → P r x ≡ (P r (getD l r d) && q)) → (T bad → T (P r (getD l r d)) → T q → ⊥)
       → (T (not (c || bad)) × Each P d (set l r x)) ↔ ((T (not c) × Each P d l) × T q)
   put-flag c bad q f g = (
-    λ m. let k = put-iff q (f (nor-r c bad (m .0))) .0 (m .1) in ((nor-l c bad (m .0), k .0), k .1),
+    λ m. let k = put-iff q (f (T-nor-right c bad (m .0))) .0 (m .1) in ((T-nor-left c bad (m .0), k .0), k .1),
     λ m.
         let n = not-T bad (λ t. g t (m .0 .1 r h) (m .1)) in
-        (nor-i c bad (m .0 .0) n, put-iff q (f n) .1 (m .0 .1, m .1)),
+        (T-nor-intro c bad (m .0 .0) n, put-iff q (f n) .1 (m .0 .1, m .1)),
   )
 
 -- ---- the same for what is known of all entries, in a type
 module _ {A : Type 0} (S : A → Type 0) (d : A) (l : List A) (r : ℕ) (x : A) (long : length l ≡ 128) where
-  pub keeps : S x → ((i : ℕ) → i < 128 → S (getD l i d)) → (i : ℕ) → i < 128 → S (getD (set l r x) i d)
-  keeps t m i g = elim (ℕ-discrete i r) [
+  pub getD-set-keeps : S x → ((i : ℕ) → i < 128 → S (getD l i d)) → (i : ℕ) → i < 128 → S (getD (set l r x) i d)
+  getD-set-keeps t m i g = elim (ℕ-discrete i r) [
     | yes e ↦ subst (λ (k : ℕ). S (getD (set l k x) i d)) e (subst S (sym (getD-set-same l i x d (omega arith))) t)
     | no n ↦ subst S (sym (getD-set-other l r i x d n)) (m i g)
   ]
 
 -- ---- what is put, asked of a value
-not-not : (b : Bool) → T (not (not b)) → T b
-not-not true t = tt
-not-not false t = t
+T-not-not : (b : Bool) → T (not (not b)) → T b
+T-not-not true t = tt
+T-not-not false t = t
 
 null-put : (v : ScalarValue) (b : Bool) → nullOk v true ≡ (nullOk v b && not (isNull v))
 null-put v b = go b (not (isNull v))
@@ -122,8 +107,8 @@ module _ (v : ScalarValue) (tv : Typed v) where
           absorbed (equals v (old .value)) (equals v l)
           (λ e.
           and-i (not (isNull v)) (sameScalar v (old .value)) (and-l (not (isNull v)) (sameScalar v l) e)
-          (same-trans v l (and-r (not (isNull v)) (sameScalar v l) e) tv tl (old .value) (s tt)
-          (same-sym (old .value) l (not-not (sameScalar (old .value) l) n) (s tt) tl)))
+          (T-same-trans v l (and-r (not (isNull v)) (sameScalar v l) e) tv tl (old .value) (s tt)
+          (same-sym (old .value) l (T-not-not (sameScalar (old .value) l) n) (s tt) tl)))
         where
           absorbed : (a b : Bool) → (T b → T a) → b ≡ (a && b)
           absorbed true b f = refl
@@ -133,9 +118,9 @@ module _ (v : ScalarValue) (tv : Typed v) where
   literal-clash : (old : Holder) → SoundHolder old → (l : ScalarValue) → Typed l → T (clashes old l) → T (literalOk v old) → T (equals v l) → ⊥
   literal-clash old so l tl c o e =
       let p = and-l (old .present) (not (sameScalar (old .value) l)) c in
-      let k = must (old .present) (equals v (old .value)) p o in
+      let k = T-or-neg-resolve-left (old .present) (equals v (old .value)) p o in
       T-not (sameScalar (old .value) l) (and-r (old .present) (not (sameScalar (old .value) l)) c)
-      (same-trans (old .value) v (same-sym v (old .value) (and-r (not (isNull v)) (sameScalar v (old .value)) k) tv (so p)) (so p) tv l tl
+      (T-same-trans (old .value) v (same-sym v (old .value) (and-r (not (isNull v)) (sameScalar v (old .value)) k) tv (so p)) (so p) tv l tl
       (and-r (not (isNull v)) (sameScalar v l) e))
 
 -- an entry's range, or the one without bounds
@@ -175,7 +160,7 @@ module _ (s : ConstraintSet) (g : Good s) (r : ℕ) (h : r < 128) where
   literal-good l tl =
       flag-good (withLiterals s (set (literals s) r new))
       (literals-good s g (set (literals s) r new) (length-set (literals s) r new ∙ g .literalsLong)
-      (keeps SoundHolder none (literals s) r new (g .literalsLong) (either (clashes (literalAt s r) l)) (g .typed))) _
+      (getD-set-keeps SoundHolder none (literals s) r new (g .literalsLong) (either (clashes (literalAt s r) l)) (g .typed))) _
     where
       new : Holder
       new = cond (clashes (literalAt s r) l) (literalAt s r) (held l)
@@ -193,7 +178,7 @@ module _ (s : ConstraintSet) (g : Good s) (r : ℕ) (h : r < 128) where
     lay-good =
         ranges-good s g (set (s .ranges) r (entryOf (tightenBy (rangeIn (entryAt s r)) n)))
         (length-set (s .ranges) r (entryOf (tightenBy (rangeIn (entryAt s r)) n)) ∙ g .rangesLong)
-        (keeps SoundEntry blank (s .ranges) r (entryOf (tightenBy (rangeIn (entryAt s r)) n)) (g .rangesLong) (λ t. new-sound) (g .sound))
+        (getD-set-keeps SoundEntry blank (s .ranges) r (entryOf (tightenBy (rangeIn (entryAt s r)) n)) (g .rangesLong) (λ t. new-sound) (g .sound))
 
     pub range-good : Good (putRange s r n)
     unfolding putRange
@@ -267,15 +252,15 @@ module _ (v : ℕ → ScalarValue) (tv : (i : ℕ) → Typed (v i)) where
             let rest = and-r (a .present) (e .present && outside (scalarToF64 (a .value)) (e .range)) t in
             let q = and-l (e .present) (outside (scalarToF64 (a .value)) (e .range)) rest in
             literal-outside (v k) (a .value) (tv k) (g .typed k b p)
-            (and-r (not (isNull (v k))) (sameScalar (v k) (a .value)) (must (a .present) (equals (v k) (a .value)) p (m .equal k b)))
+            (and-r (not (isNull (v k))) (sameScalar (v k) (a .value)) (T-or-neg-resolve-left (a .present) (equals (v k) (a .value)) p (m .equal k b)))
             (e .range) (g .sound k b q) (and-r (e .present) (outside (scalarToF64 (a .value)) (e .range)) rest)
-            (must (e .present) (okRange (placeOf (v k)) (e .range)) q (m .within k b))
+            (T-or-neg-resolve-left (e .present) (okRange (placeOf (v k)) (e .range)) q (m .within k b))
 
     -- the cross check changes nothing for a row. Assumes a good set
     pub check-iff : Core v (crossCheck s) ↔ Core v s
     unfolding crossCheck
     check-iff = (
-      λ m. record { clear = nor-l (s .contradictory) (anyFrom (crossedAt s) 0 128) (m .clear); nulls = m .nulls; equal = m .equal; within = m .within },
+      λ m. record { clear = T-nor-left (s .contradictory) (anyFrom (crossedAt s) 0 128) (m .clear); nulls = m .nulls; equal = m .equal; within = m .within },
       λ m. core-flag m (s .contradictory || anyFrom (crossedAt s) 0 128)
-          (nor-i (s .contradictory) (anyFrom (crossedAt s) 0 128) (m .clear) (none-from (crossedAt s) 128 0 (λ j lo hi. uncrossed m j (omega arith)))),
+          (T-nor-intro (s .contradictory) (anyFrom (crossedAt s) 0 128) (m .clear) (none-from (crossedAt s) 128 0 (λ j lo hi. uncrossed m j (omega arith)))),
     )

@@ -10,7 +10,9 @@ use lib.Dec.{T, eqb, ltb, ltb→lt, nltb→le}
 use lib.ListN.{length, getD, set, take, length-append}
 use lib.Seq.{getD-take, length-take-le, take-suc-set}
 use lib.Ieee.{Float}
+use Rattle.laws.proofs.Bools.{cond-T-elim}
 use Rattle.lists.specs.Ranges.{anyFrom}
+use Rattle.lists.proofs.RangeLaws.{any-same}
 use Rattle.scalar.specs.declared.ScalarValue.{ScalarValue}
 use Rattle.value_classes.specs.Classes.{unionOf}
 use Rattle.comparison.specs.declared.BinaryOp.{BinaryOp}
@@ -20,10 +22,10 @@ use Rattle.constraint_spec.specs.Sets.{addBound, hasHandle, roomFor, pus
 use Rattle.constraint_spec.specs.Sets.{mergeRange, mergeNonNull, mergeResidual, mergeClasses, mergeLiterals, mergeRanges, mergeNonNulls}
 use Rattle.constraint_spec.specs.Sets.{mergeResiduals, mergeValues, mergedSet, roomTo, mergeRoom, mergeFrom}
 use Rattle.constraint_spec.specs.Meets.{Good}
-use Rattle.constraint_spec.specs.Room.{listed, has, pushed, pushTo}
+use Rattle.constraint_spec.specs.Room.{listed, has, pushed, pushTo, jointList}
 use Rattle.constraint_spec.specs.declared.ConstraintSet.{ConstraintSet}
 use Rattle.constraint_spec.specs.declared.Applied.{Applied}
-use Rattle.constraint_spec.proofs.Steps.{steps-good, pick-has}
+use Rattle.constraint_spec.proofs.Steps.{steps-good}
 use Rattle.constraint_spec.proofs.Beside.{Beside, beside-self, beside-null, beside-lay, beside-normalized, addNonNull-beside}
 use Rattle.constraint_spec.proofs.Beside.{addLiteral-beside, addBound-beside}
 use Rattle.constraint_spec.proofs.Operations.{residual-done, residual-refused}
@@ -55,7 +57,7 @@ unfolding unionValues
 same-union s i j =
     let u = unionOf (s .«equivalence_classes») i j in
     let t = withClasses s (u .classes) in
-    pick-has (SameList s) (u .joined) (normalized t) s (λ b. same-through s t (normalized t) (record { handles = refl; count = refl }) (same-normalized t))
+    cond-T-elim (SameList s) (u .joined) (normalized t) s (λ b. same-through s t (normalized t) (record { handles = refl; count = refl }) (same-normalized t))
     (same-self s)
 
 pub same-nonnull : (s : ConstraintSet) (i : ℕ) → SameList s (addNonNull s i)
@@ -71,11 +73,6 @@ pub same-listed : (s t : ConstraintSet) → SameList s t → listed t ≡ listed
 same-listed s t a = ap₂ (λ (k : ℕ) (l : List ℕ). take k l) (a .count) (a .handles)
 
 -- ---- the list that is recorded
-any-same : (f g : ℕ → Bool) (n i : ℕ) → ((k : ℕ) → i ≤ k → k < i + n → f k ≡ g k) → anyFrom f i n ≡ anyFrom g i n
-unfolding anyFrom
-any-same f g zero i h = refl
-any-same f g (suc n) i h = ap₂ (λ (a b : Bool). a || b) (h i (omega arith) (omega arith)) (any-same f g n (suc i) (λ k lo hi. h k (omega arith) (omega arith)))
-
 pub pushed-grows : (l : List ℕ) (h : ℕ) → length l ≤ length (pushed l h)
 unfolding pushed
 pushed-grows l h = go (has l h)
@@ -157,20 +154,20 @@ module _ (b : ConstraintSet) where
   unfolding mergeNonNulls mergeRanges mergeLiterals mergeClasses
   same-values a =
       steps-good (SameList a) (mergeNonNull (nonNulls b)) 128
-      (λ i h t m. pick-has (SameList a) (nonNullAt b i) (putNonNull t i) t
+      (λ i h t m. cond-T-elim (SameList a) (nonNullAt b i) (putNonNull t i) t
       (λ c. same-through a t (putNonNull t i) m (beside-same t (putNonNull t i) (beside-null t t (beside-self t) i))) m) 128 (omega arith) _
       (steps-good (SameList a) (mergeRange (b .ranges)) 128
-      (λ i h t m. pick-has (SameList a) (entryAt b i .present) (layRange t (canonicalAt t i) (entryAt b i .range)) t
+      (λ i h t m. cond-T-elim (SameList a) (entryAt b i .present) (layRange t (canonicalAt t i) (entryAt b i .range)) t
       (λ c. same-through a t (layRange t (canonicalAt t i) (entryAt b i .range)) m
       (beside-same t (layRange t (canonicalAt t i) (entryAt b i .range)) (beside-lay t t (beside-self t) (canonicalAt t i) (entryAt b i .range)))) m) 128
       (omega arith) _
       (steps-good (SameList a) (mergeLiteral (literals b)) 128
-      (λ i h t m. pick-has (SameList a) (literalAt b i .present) (addLiteral t i (literalAt b i .value)) t
+      (λ i h t m. cond-T-elim (SameList a) (literalAt b i .present) (addLiteral t i (literalAt b i .value)) t
       (λ c. same-through a t (addLiteral t i (literalAt b i .value)) m (same-addLiteral t i (literalAt b i .value))) m) 128 (omega arith) _
       (steps-good (SameList a) (joinClass (b .«equivalence_classes»)) 128
       (λ r hr t m.
       steps-good (SameList a) (joinMember (b .«equivalence_classes») r) 128
-      (λ i h u k. pick-has (SameList a) (eqb (canonicalAt b i) r && not (eqb i r)) (unionValues u r i) u
+      (λ i h u k. cond-T-elim (SameList a) (eqb (canonicalAt b i) r && not (eqb i r)) (unionValues u r i) u
       (λ c. same-through a u (unionValues u r i) k (same-union u r i)) k) 128 (omega arith) t m)
       128 (omega arith) (flagIf (b .contradictory) a) (same-flag a _))))
 
@@ -214,10 +211,6 @@ module _ (b : ConstraintSet) where
         go : Merged k → Merged (suc k)
         go (inl m) = next (roomFor u h) refl (m .0) (m .1)
         go (inr m) = inr (ap (λ (x : Bool). x && roomFor u h) (m .0), omega (arith, m .1, pushed-grows w h))
-
--- the list of both, as long as it gets
-abbrev pub jointList : ConstraintSet → ConstraintSet → List ℕ
-jointList a b = pushTo (listed a) (handles b) (b .residuals)
 
 module _ (a b : ConstraintSet) (ga : Good a) (gb : Good b) where
   abbrev t : ConstraintSet

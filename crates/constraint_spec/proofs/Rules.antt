@@ -7,16 +7,16 @@ use native.Mathlib.Omega.{arith}
 use borrow.Author.Tests.{le-leb, leb-true}
 use lib.Dec.{leb, ltb, eqb, ltb→lt}
 use lib.ListN.{length, set}
-use Rattle.lists.proofs.RangeLaws.{and-left, and-right, and-both}
 use Rattle.value_classes.specs.Classes.{Whole, Falling, classesOk, joinedClasses}
 use Rattle.value_classes.proofs.ClassLaws.{falling, falling-ok, joined-whole, joined-falling}
 use Rattle.constraint_spec.specs.Sets.{classesOf, nonNulls, literals, handles, nonNullAt, literalAt, entryAt, handleAt, canonicalAt}
+use Rattle.laws.proofs.Bools.{and-left, and-right, and-both, cond-T-elim}
 use Rattle.constraint_spec.specs.Sets.{withClasses, withResiduals, flagIf, setOk, putNonNull, layRange, normalized, unionValues, addLiteral}
 use Rattle.constraint_spec.specs.Sets.{hasHandle, pushResidual, joinMember, joinClass, mergeLiteral, mergeRange, mergeNonNull, mergeResidual}
 use Rattle.constraint_spec.specs.Sets.{mergeClasses, mergeLiterals, mergeRanges, mergeNonNulls, mergeResiduals, mergedSet}
 use Rattle.constraint_spec.specs.Meets.{SoundHolder, SoundEntry, Good}
 use Rattle.constraint_spec.specs.declared.ConstraintSet.{ConstraintSet}
-use Rattle.constraint_spec.proofs.Steps.{steps-good, pick-has}
+use Rattle.constraint_spec.proofs.Steps.{steps-good}
 use Rattle.constraint_spec.proofs.Beside.{Beside, beside-self, beside-null, beside-lay, beside-normalized, addLiteral-beside}
 use Rattle.constraint_spec.proofs.Operations.{union-one, union-two}
 
@@ -87,8 +87,8 @@ ruled-union s i j hi hj r = elim (ℕ-discrete (canonicalAt s i) (canonicalAt s 
 pub ruled-residual : (s : ConstraintSet) (h : ℕ) → Ruled s → Ruled (pushResidual s h)
 unfolding pushResidual
 ruled-residual s h r =
-    pick-has Ruled (hasHandle s h) s (cond (ltb (s .residuals) 64) (withResiduals s (set (handles s) (s .residuals) h) (s .residuals + 1)) s) (λ t. r)
-    (pick-has Ruled (ltb (s .residuals) 64) (withResiduals s (set (handles s) (s .residuals) h) (s .residuals + 1)) s
+    cond-T-elim Ruled (hasHandle s h) s (cond (ltb (s .residuals) 64) (withResiduals s (set (handles s) (s .residuals) h) (s .residuals + 1)) s) (λ t. r)
+    (cond-T-elim Ruled (ltb (s .residuals) 64) (withResiduals s (set (handles s) (s .residuals) h) (s .residuals + 1)) s
     (λ t. (r .0, r .1, omega (arith, ltb→lt (s .residuals) 64 t))) r)
 
 -- and so does a merge, whatever is merged. Assumes that the first set keeps them
@@ -98,16 +98,16 @@ ruled-merged a b ra =
     ruled-normalized _
     (steps-good Ruled (mergeResidual (handles b)) (min (b .residuals) 64) (λ k h t r. ruled-residual t (handleAt b k) r) (min (b .residuals) 64) (omega arith) _
     (steps-good Ruled (mergeNonNull (nonNulls b)) 128
-    (λ i h t r. pick-has Ruled (nonNullAt b i) (putNonNull t i) t (λ c. ruled-beside t (putNonNull t i) (beside-null t t (beside-self t) i) r) r) 128
+    (λ i h t r. cond-T-elim Ruled (nonNullAt b i) (putNonNull t i) t (λ c. ruled-beside t (putNonNull t i) (beside-null t t (beside-self t) i) r) r) 128
     (omega arith) _
     (steps-good Ruled (mergeRange (b .ranges)) 128
-    (λ i h t r. pick-has Ruled (entryAt b i .present) (layRange t (canonicalAt t i) (entryAt b i .range)) t
+    (λ i h t r. cond-T-elim Ruled (entryAt b i .present) (layRange t (canonicalAt t i) (entryAt b i .range)) t
     (λ c. ruled-beside t (layRange t (canonicalAt t i) (entryAt b i .range)) (beside-lay t t (beside-self t) (canonicalAt t i) (entryAt b i .range)) r) r) 128
     (omega arith) _
     (steps-good Ruled (mergeLiteral (literals b)) 128
-    (λ i h t r. pick-has Ruled (literalAt b i .present) (addLiteral t i (literalAt b i .value)) t
+    (λ i h t r. cond-T-elim Ruled (literalAt b i .present) (addLiteral t i (literalAt b i .value)) t
     (λ c. ruled-beside t (addLiteral t i (literalAt b i .value)) (addLiteral-beside t i (literalAt b i .value)) r) r) 128 (omega arith) _
     (steps-good Ruled (joinClass (b .«equivalence_classes»)) 128
     (λ q hq t r. steps-good Ruled (joinMember (b .«equivalence_classes») q) 128
-    (λ i hi u w. pick-has Ruled (eqb (canonicalAt b i) q && not (eqb i q)) (unionValues u q i) u (λ c. ruled-union u q i hq hi w) w) 128 (omega arith) t r)
+    (λ i hi u w. cond-T-elim Ruled (eqb (canonicalAt b i) q && not (eqb i q)) (unionValues u q i) u (λ c. ruled-union u q i hq hi w) w) 128 (omega arith) t r)
     128 (omega arith) (flagIf (b .contradictory) a) ra)))))

@@ -2,8 +2,9 @@
 use mathlib.Core.Path.{_≡_, _∙_, subst}
 use mathlib.Core.Bool.{Bool, true, false, not, _||_, cond}
 use mathlib.Core.Logic.{_↔_}
-use Prim.Native.Nat.{ℕ, zero, suc, _≤_, _<_}
+use Prim.Native.Nat.{ℕ, zero, suc, _+_, _≤_, _<_}
 use native.Mathlib.Decide.{decLt, ℕ-discrete}
+use native.Mathlib.Numerals.{add-one}
 use native.Mathlib.Omega.{arith}
 use lib.Dec.{T}
 use Rattle.constraint_spec.specs.Sets.{stepsTo}
@@ -14,6 +15,11 @@ module _ {A : Type 0} where
   unfolding stepsTo
   steps-good G f n step zero h s g = g
   steps-good G f n step (suc k) h s g = step k (omega arith) (stepsTo f k s) (steps-good G f n step k (omega arith) s g)
+
+  -- a loop that has made i of the steps makes one more
+  pub steps-next : (f : ℕ → A → A) (s : A) (i : ℕ) (t u : A) → t ≡ stepsTo f i s → u ≡ f i t → u ≡ stepsTo f (i + 1) s
+  unfolding stepsTo
+  steps-next f s i t u e d = rw (add-one, ← e) d
 
   -- M asks Q k more after the step k
   pub steps-iff : (G M : A → Type 0) (f : ℕ → A → A) (Q : ℕ → Type 0) (n : ℕ)
@@ -44,10 +50,6 @@ module _ {A : Type 0} where
   pub pick-iff : (M : A → Type 0) (b q : Bool) (a t : A) → (T b → M a ↔ (M t × T q)) → M (cond b a t) ↔ (M t × T (not b || q))
   pick-iff M true q a t f = f tt
   pick-iff M false q a t f = (λ m. (m, tt), λ m. m .0)
-
-  pub pick-has : (G : A → Type 0) (b : Bool) (a t : A) → (T b → G a) → G t → G (cond b a t)
-  pick-has G true a t f g = f tt
-  pick-has G false a t f g = g
 
   pub pick-if : (M : A → Type 0) (b : Bool) (Q : Type 0) (a t : A) → (T b → M a ↔ (M t × Q)) → M (cond b a t) ↔ (M t × (T b → Q))
   pick-if M true Q a t f = (λ m. let k = f tt .0 m in (k .0, λ u. k .1), λ m. f tt .1 (m .0, m .1 tt))

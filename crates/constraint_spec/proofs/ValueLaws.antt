@@ -1,19 +1,20 @@
 -- Being the same value is symmetric and transitive, and the same values lie at the same place. Assumes nothing.
 use mathlib.Core.Path.{_≡_, refl, sym, ap, _∙_, subst}
-use mathlib.Core.Bool.{Bool, true, false, not, _&&_, _||_, Bool·beq}
-use Prim.Native.Nat.{ℕ}
-use lib.Dec.{T, eqb, eqb→eq}
+use mathlib.Core.Bool.{Bool, true, false, not, _&&_, Bool·beq}
+use lib.Dec.{T}
 use lib.IntN.{ℤ}
 use lib.Ieee.{Float, nan, inf, fin, binary64, eq, fits}
-use lib.Ieee.Fits.{and-i, and-l, and-r, eq→eqb}
+use lib.Ieee.Fits.{and-i, and-l, and-r}
+use lib.Ieee.Bits.{is-true}
+use Rattle.laws.proofs.Bools.{T-or-elim, T-or-inl, T-or-inr}
 use Rattle.scalar.specs.Exact.{eqZ}
-use Rattle.scalar.specs.Kinds.{kindCode, sameKind, isNull}
+use Rattle.scalar.specs.Kinds.{sameKind, isNull}
 use Rattle.scalar.specs.Scalars.{sameScalar, Typed}
-use Rattle.scalar.specs.declared.Kind.{Kind}
 use Rattle.scalar.specs.declared.ScalarValue.{ScalarValue}
 use Rattle.scalar.specs.declared.ScalarValue.the-variants as S
 use Rattle.scalar.proofs.ExactLaws.{eq-exact}
-use Rattle.scalar.proofs.WholeLaws.{eqZ→eq, eq→eqZ}
+use Rattle.scalar.proofs.WholeLaws.{eqZ→eq}
+use Rattle.scalar.proofs.ScalarLaws.{same-null, same-trans, same-comm}
 use Rattle.constraint_spec.specs.Values.{same, equals, Place, nowhere, lowest, highest, point, placeOfFloat, placeOf, samePlace}
 use Rattle.constraint_spec.proofs.Pairs.{by-pairs}
 
@@ -56,10 +57,8 @@ eq-place (fin s m e) (inf false) p q = refl
 eq-place (fin s m e) (fin u n d) p q = eq-exact binary64 (fin s m e) (fin u n d) tt tt p q
 
 -- ---- scalars
-pub same-null : (v w : ScalarValue) → T (sameScalar v w) → isNull v ≡ isNull w
-same-null =
-    by-pairs (λ (v w : ScalarValue). isNull v ≡ isNull w) sameKind Bool·beq eqZ eqZ eq eqZ
-    (λ x y t. refl) (λ x y t. refl) (λ x y t. refl) (λ x y t. refl) (λ x y t. refl) (λ x y t. refl)
+pub T-same-null : (v w : ScalarValue) → T (sameScalar v w) → isNull v ≡ isNull w
+T-same-null v w t = same-null v w (is-true (sameScalar v w) t)
 
 pub same-place : (v w : ScalarValue) → T (sameScalar v w) → Typed v → Typed w → placeOf v ≡ placeOf w
 same-place =
@@ -71,67 +70,13 @@ same-place =
     (λ x y t p q. ap (λ (z : ℤ). placeOf (S.Date32 z)) (eqZ→eq x y t))
 
 -- one that is the same as another is the same as whatever that is the same as
-pub same-trans : (v w : ScalarValue) → T (sameScalar v w) → Typed v → Typed w → (u : ScalarValue) → Typed u → T (sameScalar w u) → T (sameScalar v u)
-same-trans =
-    by-pairs (λ (v w : ScalarValue). Typed v → Typed w → (u : ScalarValue) → Typed u → T (sameScalar w u) → T (sameScalar v u)) sameKind Bool·beq eqZ eqZ eq eqZ
-    (λ x y t p q. null x y (eqb→eq (kindCode x) (kindCode y) t))
-    (λ x y t p q u r k. subst (λ (b : Bool). T (sameScalar (S.Boolean b) u)) (sym (beq-eq x y t)) k)
-    (λ x y t p q u r k. subst (λ (z : ℤ). T (sameScalar (S.Int32 z) u)) (sym (eqZ→eq x y t)) k)
-    (λ x y t p q u r k. subst (λ (z : ℤ). T (sameScalar (S.Int64 z) u)) (sym (eqZ→eq x y t)) k)
-    (λ x y t p q u r k. float x y p q (place-eq (placeOfFloat x) (placeOfFloat y) (subst T (eq-place x y p q) t)) u r k)
-    (λ x y t p q u r k. subst (λ (z : ℤ). T (sameScalar (S.Date32 z) u)) (sym (eqZ→eq x y t)) k)
-  where
-    null : (x y : Kind) → kindCode x ≡ kindCode y → (u : ScalarValue) → Typed u → T (sameScalar (S.Null y) u) → T (sameScalar (S.Null x) u)
-    null x y e (S.Null z) r k = subst (λ (n : ℕ). T (eqb n (kindCode z))) (sym e) k
-    null x y e (S.Boolean z) r k = k
-    null x y e (S.Int32 z) r k = k
-    null x y e (S.Int64 z) r k = k
-    null x y e (S.Float64 z) r k = k
-    null x y e (S.Date32 z) r k = k
-
-    float : (x y : Float) → T (fits binary64 x) → T (fits binary64 y) → placeOfFloat x ≡ placeOfFloat y → (u : ScalarValue) → Typed u → T
-        (sameScalar (S.Float64 y) u) → T (sameScalar (S.Float64 x) u)
-    float x y p q e (S.Null z) r k = k
-    float x y p q e (S.Boolean z) r k = k
-    float x y p q e (S.Int32 z) r k = k
-    float x y p q e (S.Int64 z) r k = k
-    float x y p q e (S.Float64 z) r k =
-        subst T (sym (eq-place x z p r)) (subst (λ (a : Place). T (samePlace a (placeOfFloat z))) (sym e) (subst T (eq-place y z q r) k))
-    float x y p q e (S.Date32 z) r k = k
+pub T-same-trans : (v w : ScalarValue) → T (sameScalar v w) → Typed v → Typed w → (u : ScalarValue) → Typed u → T (sameScalar w u) → T (sameScalar v u)
+T-same-trans v w t p q u r k = subst T (sym (same-trans v w u (is-true (sameScalar v w) t) (is-true (sameScalar w u) k))) tt
 
 pub same-sym : (v w : ScalarValue) → T (sameScalar v w) → Typed v → Typed w → T (sameScalar w v)
-same-sym =
-    by-pairs (λ (v w : ScalarValue). Typed v → Typed w → T (sameScalar w v)) sameKind Bool·beq eqZ eqZ eq eqZ
-    (λ x y t p q. eq→eqb (sym (eqb→eq (kindCode x) (kindCode y) t)))
-    (λ x y t p q. turn x y t)
-    (λ x y t p q. eq→eqZ y x (sym (eqZ→eq x y t)))
-    (λ x y t p q. eq→eqZ y x (sym (eqZ→eq x y t)))
-    (λ x y t p q.
-    let s = subst T (eq-place x y p q) t in
-    let e = place-eq (placeOfFloat x) (placeOfFloat y) s in
-    subst T (sym (eq-place y x q p))
-    (subst (λ (a : Place). T (samePlace (placeOfFloat y) a)) (sym e) (subst (λ (a : Place). T (samePlace a (placeOfFloat y))) e s)))
-    (λ x y t p q. eq→eqZ y x (sym (eqZ→eq x y t)))
-  where
-    turn : (x y : Bool) → T (Bool·beq x y) → T (Bool·beq y x)
-    turn true true t = t
-    turn true false t = t
-    turn false true t = t
-    turn false false t = t
+same-sym v w t p q = subst T (same-comm v w) t
 
 -- ---- the same value, NULL with NULL
-pub or-elim : {X : Type 0} (a b : Bool) → T (a || b) → (T a → X) → (T b → X) → X
-or-elim true b t f g = f tt
-or-elim false b t f g = g t
-
-pub or-left : (a b : Bool) → T a → T (a || b)
-or-left true b t = tt
-or-left false b t = absurd t
-
-pub or-right : (a b : Bool) → T b → T (a || b)
-or-right true b t = tt
-or-right false b t = t
-
 pub both : (a b : Bool) → T a → T b → a ≡ b
 both true true p q = refl
 both true false p q = absurd q
@@ -140,29 +85,29 @@ both false b p q = absurd p
 module _ (v w : ScalarValue) (tv : Typed v) (tw : Typed w) where
   pub alike-null : T (same v w) → isNull v ≡ isNull w
   alike-null t =
-      or-elim (isNull v && isNull w) (sameScalar v w) t
-      (λ n. both (isNull v) (isNull w) (and-l (isNull v) (isNull w) n) (and-r (isNull v) (isNull w) n)) (same-null v w)
+      T-or-elim (isNull v && isNull w) (sameScalar v w) t
+      (λ n. both (isNull v) (isNull w) (and-l (isNull v) (isNull w) n) (and-r (isNull v) (isNull w) n)) (T-same-null v w)
 
   pub alike-sym : T (same v w) → T (same w v)
   alike-sym t =
-      or-elim (isNull v && isNull w) (sameScalar v w) t
-      (λ n. or-left (isNull w && isNull v) (sameScalar w v) (and-i (isNull w) (isNull v) (and-r (isNull v) (isNull w) n) (and-l (isNull v) (isNull w) n)))
-      (λ s. or-right (isNull w && isNull v) (sameScalar w v) (same-sym v w s tv tw))
+      T-or-elim (isNull v && isNull w) (sameScalar v w) t
+      (λ n. T-or-inl (isNull w && isNull v) (sameScalar w v) (and-i (isNull w) (isNull v) (and-r (isNull v) (isNull w) n) (and-l (isNull v) (isNull w) n)))
+      (λ s. T-or-inr (isNull w && isNull v) (sameScalar w v) (same-sym v w s tv tw))
 
   pub alike-trans : (u : ScalarValue) → Typed u → T (same v w) → T (same w u) → T (same v u)
   alike-trans u tu t k =
-      or-elim (isNull w && isNull u) (sameScalar w u) k
-      (λ n. or-left (isNull v && isNull u) (sameScalar v u) (and-i (isNull v) (isNull u) (subst T (sym (alike-null t)) (and-l (isNull w) (isNull u) n))
+      T-or-elim (isNull w && isNull u) (sameScalar w u) k
+      (λ n. T-or-inl (isNull v && isNull u) (sameScalar v u) (and-i (isNull v) (isNull u) (subst T (sym (alike-null t)) (and-l (isNull w) (isNull u) n))
       (and-r (isNull w) (isNull u) n)))
       (λ s.
-      or-elim (isNull v && isNull w) (sameScalar v w) t
-      (λ n. or-left (isNull v && isNull u) (sameScalar v u)
-      (and-i (isNull v) (isNull u) (and-l (isNull v) (isNull w) n) (subst T (same-null w u s) (and-r (isNull v) (isNull w) n))))
-      (λ m. or-right (isNull v && isNull u) (sameScalar v u) (same-trans v w m tv tw u tu s)))
+      T-or-elim (isNull v && isNull w) (sameScalar v w) t
+      (λ n. T-or-inl (isNull v && isNull u) (sameScalar v u)
+      (and-i (isNull v) (isNull u) (and-l (isNull v) (isNull w) n) (subst T (T-same-null w u s) (and-r (isNull v) (isNull w) n))))
+      (λ m. T-or-inr (isNull v && isNull u) (sameScalar v u) (T-same-trans v w m tv tw u tu s)))
 
   pub alike-place : T (same v w) → placeOf v ≡ placeOf w
   alike-place t =
-      or-elim (isNull v && isNull w) (sameScalar v w) t
+      T-or-elim (isNull v && isNull w) (sameScalar v w) t
       (λ n. null-place v (and-l (isNull v) (isNull w) n) ∙ sym (null-place w (and-r (isNull v) (isNull w) n)))
       (λ s. same-place v w s tv tw)
     where
@@ -180,9 +125,9 @@ module _ (v w : ScalarValue) (tv : Typed v) (tw : Typed w) where
       let n = and-l (not (isNull v)) (sameScalar v l) k in
       let s = and-r (not (isNull v)) (sameScalar v l) k in
       and-i (not (isNull w)) (sameScalar w l) (subst (λ (b : Bool). T (not b)) (alike-null t) n)
-      (or-elim (isNull v && isNull w) (sameScalar v w) t
+      (T-or-elim (isNull v && isNull w) (sameScalar v w) t
       (λ m. absurd (clash (isNull v) n (and-l (isNull v) (isNull w) m)))
-      (λ m. same-trans w v (same-sym v w m tv tw) tw tv l tl s))
+      (λ m. T-same-trans w v (same-sym v w m tv tw) tw tv l tl s))
     where
       clash : (b : Bool) → T (not b) → T b → ⊥
       clash true p q = p

@@ -23,3 +23,7 @@ pushed l h = cond (has l h) l (l ++ (h ∷ []))
 unfoldable pub pushTo : List ℕ → List ℕ → ℕ → List ℕ
 pushTo l items zero = l
 pushTo l items (suc k) = pushed (pushTo l items k) (getD items k 0)
+
+-- the list of two sets, however long
+abbrev pub jointList : ConstraintSet → ConstraintSet → List ℕ
+jointList a b = pushTo (listed a) (handles b) (b .residuals)

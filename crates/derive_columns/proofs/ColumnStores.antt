@@ -1,8 +1,7 @@
 -- What the loops and stores come to, on plain values. Assumes nothing.
-use Prim.Native.Nat.{ℕ, _+_, _-_, _≤_}
+use Prim.Native.Nat.{ℕ, _-_, _≤_}
 use mathlib.Core.Path.{_≡_, refl, sym, ap, _∙_}
 use mathlib.Core.List.{List}
-use native.Mathlib.Numerals.{add-one}
 use native.Mathlib.Omega.{arith}
 use lib.ListN.{length, getD, set, List·getD-eq-default}
 use lib.Seq.{set-out}
@@ -30,10 +29,6 @@ module _ {A : Type 0} (f : ℕ → A → A) (x : A) where
   pub steps-none : x ≡ stepsTo f 0 x
   unfolding stepsTo
   steps-none = refl
-
-  pub steps-next : (n : ℕ) (y z : A) → y ≡ stepsTo f n x → z ≡ f n y → z ≡ stepsTo f (n + 1) x
-  unfolding stepsTo
-  steps-next n y z e g = rw (add-one, ← e) g
 
   -- the loop's end: its number has reached n
   pub steps-all : (n i : ℕ) (y : A) → y ≡ stepsTo f i x → i ≡ n → y ≡ stepsTo f n x

@@ -8,16 +8,16 @@ use mathlib.Core.Logic.{_⊎_, inl, inr}
 use native.Mathlib.Omega.{arith}
 use lib.Dec.{ltb}
 use lib.ListN.{getD}
+use Rattle.laws.proofs.Bools.{cond-T-elim}
 use Rattle.lists.proofs.RangeLaws.{below-or-not}
 use Rattle.constraint_spec.specs.Sets.{emptySet, done, mergeFrom}
 use Rattle.constraint_spec.specs.declared.ConstraintSet.{ConstraintSet}
 use Rattle.constraint_spec.specs.declared.Applied.{Applied}
-use Rattle.constraint_spec.proofs.Steps.{pick-has}
 use Rattle.plan.specs.declared.Plan.{Plan}
 use Rattle.plan.specs.declared.Expr.{Expr}
 use Rattle.plan.specs.declared.Operator.{Operator}
 use Rattle.plan_rules.specs.Rules.{planOk}
-use Rattle.plan_data.specs.Nodes.{nodeAt}
+use Rattle.plan_data.specs.Nodes.{nodeAt, operatorAt}
 use Rattle.plan_data.specs.declared.JoinType.{JoinType}
 use Rattle.plan_data.specs.declared.JoinType.the-variants.{Inner, LeftSemi, LeftAnti, LeftOuter, Single, RightOuter, FullOuter, LeftMark}
 use Rattle.plan_data.specs.declared.Run.{Run}
@@ -34,7 +34,7 @@ use Rattle.apply_spec.specs.declared.Outcome.{Outcome}
 use Rattle.apply_spec.specs.declared.Outcome.the-variants as O
 use Rattle.derive_spec.specs.Columns.{columnsIn, factsWith, keysOk, aggregated}
 use Rattle.derive_spec.specs.Operators.{isAccepted, accepted, refused, given, fittedBy, fitted, filtered, joined, grouped, operatorDerived}
-use Rattle.derive_spec.specs.Deriving.{operatorAt, missing, answersTo, answerOf, deriveOf}
+use Rattle.derive_spec.specs.Deriving.{missing, answersTo, answerOf, deriveOf}
 use Rattle.derive_spec.specs.declared.DeriveOutcome.{DeriveOutcome}
 use Rattle.derive_spec.specs.declared.DeriveOutcome.the-variants.{UnsupportedKey, Residuals, NoSuch}
 use Rattle.derive_spec.specs.declared.DeriveAnswer.{DeriveAnswer}
@@ -58,7 +58,7 @@ module _ (P : ConstraintSet → Type 0) (nothing : P emptySet)
   given-has : (d : DeriveAnswer) (make : LogicalFacts → DeriveAnswer) → InAnswer d → ((f : LogicalFacts) → InFacts f → InAnswer (make f)) → InAnswer
       (given d make)
   unfolding given
-  given-has d make r g = pick-has InAnswer (isAccepted (d .outcome)) (make (d .facts)) d (λ t. g (d .facts) r) r
+  given-has d make r g = cond-T-elim InAnswer (isAccepted (d .outcome)) (make (d .facts)) d (λ t. g (d .facts) r) r
 
   fitted-has : (h : Operator) (a : FactsAnswer) → InFacts (a .facts) → InAnswer (fitted h a)
   fitted-has h a r = go (a .outcome)
@@ -88,7 +88,7 @@ module _ (P : ConstraintSet → Type 0) (nothing : P emptySet)
   merged-has f g both rf rg =
       answered-has f (overlaid f g (f .constraints))
       (cond both (mergeFrom (f .constraints) (g .constraints)) (done (f .constraints))) rf
-      (λ z. pick-has (λ (a : Applied). P (a .constraints)) both (mergeFrom (f .constraints) (g .constraints)) (done (f .constraints))
+      (λ z. cond-T-elim (λ (a : Applied). P (a .constraints)) both (mergeFrom (f .constraints) (g .constraints)) (done (f .constraints))
       (λ t. merge (f .constraints) (g .constraints) rf rg) rf)
 
   -- ---- each kind
@@ -111,7 +111,7 @@ module _ (P : ConstraintSet → Type 0) (nothing : P emptySet)
     grouped-has : (keys aggregates : Run) (f : LogicalFacts) → InAnswer (grouped p ids h keys aggregates f)
     unfolding grouped
     grouped-has keys aggregates f =
-        pick-has InAnswer (keysOk (nodeAt p) (p .items .a) keys)
+        cond-T-elim InAnswer (keysOk (nodeAt p) (p .items .a) keys)
         (accepted (factsWith (aggregated ids (nodeAt p) (p .items .a) keys aggregates (columnsIn f)) emptySet)) (refused (UnsupportedKey h))
         (λ t. nothing) (refused-has (UnsupportedKey h))
 
@@ -153,20 +153,20 @@ module _ (P : ConstraintSet → Type 0) (nothing : P emptySet)
   pub derived-has : (p : Plan) (h : ℕ) → InAnswer (deriveOf p h)
   unfolding deriveOf
   derived-has p h =
-      pick-has InAnswer (planOk p && ltb h (p .operators .count)) (answerOf p h) (refused (NoSuch (record { 0 = h }))) (λ t. answer-has p h)
+      cond-T-elim InAnswer (planOk p && ltb h (p .operators .count)) (answerOf p h) (refused (NoSuch (record { 0 = h }))) (λ t. answer-has p h)
       (refused-has (NoSuch (record { 0 = h })))
 
   -- ---- the two entries that take facts
   pub apply-has : (p : Plan) (f : LogicalFacts) (e : Expr) → InFacts f → InFacts (applyPredicate p f e .facts)
   unfolding applyPredicate
   apply-has p f e r =
-      pick-has (λ (a : FactsAnswer). InFacts (a .facts)) (planOk p && (ltb (e .0) (p .expressions .count) && factsOk p f))
+      cond-T-elim (λ (a : FactsAnswer). InFacts (a .facts)) (planOk p && (ltb (e .0) (p .expressions .count) && factsOk p f))
       (answered f f (predicateApplied p (f .lineage) (f .constraints) (e .0))) (record { facts = f; outcome = O.NoSuch })
       (λ t. answered-has f f (predicateApplied p (f .lineage) (f .constraints) (e .0)) r (apply p (f .lineage) (f .constraints) (e .0) r)) r
 
   pub merge-has : (p : Plan) (f g : LogicalFacts) (both : Bool) → InFacts f → InFacts g → InFacts (mergeInputs p f g both .facts)
   unfolding mergeInputs
   merge-has p f g both rf rg =
-      pick-has (λ (a : FactsAnswer). InFacts (a .facts)) (planOk p && (factsOk p f && factsOk p g)) (inputsMerged f g both)
+      cond-T-elim (λ (a : FactsAnswer). InFacts (a .facts)) (planOk p && (factsOk p f && factsOk p g)) (inputsMerged f g both)
       (record { facts = f; outcome = O.NoSuch })
       (λ t. merged-has f g both rf rg) rf

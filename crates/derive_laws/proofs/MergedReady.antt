@@ -7,8 +7,10 @@ use mathlib.Core.List.{List, [], _∷_}
 use mathlib.Core.Logic.{_⊎_, inl, inr}
 use native.Mathlib.Decide.{ℕ-discrete}
 use native.Mathlib.Omega.{arith}
-use lib.Dec.{T, ltb, eqb}
+use lib.Dec.{ltb, eqb}
 use lib.ListN.{length, getD, set, replicate, length-set, length-replicate, List·getD-eq-default}
+use lib.Ieee.Bits.{is-true}
+use Rattle.laws.proofs.Bools.{cond-T-elim}
 use Rattle.lists.proofs.RangeLaws.{below-or-not, any-none}
 use Rattle.scalar.specs.Kinds.{isNull}
 use Rattle.scalar.specs.declared.ScalarValue.{ScalarValue}
@@ -27,7 +29,7 @@ use Rattle.constraint_spec.specs.declared.Holder.{Holder}
 use Rattle.constraint_spec.specs.declared.Entry.{Entry}
 use Rattle.constraint_spec.specs.declared.ConstraintSet.{ConstraintSet}
 use Rattle.constraint_spec.specs.declared.Applied.{Applied}
-use Rattle.constraint_spec.proofs.Steps.{steps-good, pick-has}
+use Rattle.constraint_spec.proofs.Steps.{steps-good}
 use Rattle.constraint_spec.proofs.Goods.{at-replicate}
 use Rattle.constraint_spec.proofs.Empty.{empty-good}
 use Rattle.constraint_spec.proofs.Operations.{union-one, union-two}
@@ -108,10 +110,6 @@ comparable-in e b = go (e .present) b
     go true h = h refl
     go false h = comparable-open
 
-is-true : (b : Bool) → T b → b ≡ true
-is-true true t = refl
-is-true false t = absurd t
-
 -- ---- one thing put
 module _ (s : ConstraintSet) (g : Sorted s) where
   sorted-flag : (c : Bool) → Sorted (withFlag s c)
@@ -147,8 +145,8 @@ module _ (s : ConstraintSet) (g : Sorted s) where
   unfolding pushResidual
   sorted-push h =
       let u = withResiduals s (set (handles s) (s .residuals) h) (s .residuals + 1) in
-      pick-has Sorted (hasHandle s h) s (cond (ltb (s .residuals) 64) u s) (λ t. g)
-      (pick-has Sorted (ltb (s .residuals) 64) u s
+      cond-T-elim Sorted (hasHandle s h) s (cond (ltb (s .residuals) 64) u s) (λ t. g)
+      (cond-T-elim Sorted (ltb (s .residuals) 64) u s
       (λ t. record { many = g .many; fall = g .fall; room = length-set (handles s) (s .residuals) h ∙ g .room; bounds = g .bounds }) g)
 
 -- ---- the passes of `normalize`
@@ -156,7 +154,7 @@ module _ (s : ConstraintSet) (g : Sorted s) where
   nulls-sorted : Sorted (nonNullsMoved s)
   unfolding nonNullsMoved
   nulls-sorted =
-      steps-good Sorted (moveNonNull s) 128 (λ i h u e. pick-has Sorted (nonNullAt s i) (putNonNull u (canonicalAt s i)) u
+      steps-good Sorted (moveNonNull s) 128 (λ i h u e. cond-T-elim Sorted (nonNullAt s i) (putNonNull u (canonicalAt s i)) u
       (λ c. sorted-null u e (canonicalAt s i)) e) 128 (omega arith)
       (withNonNulls s (replicate 128 false)) (record { many = g .many; fall = g .fall; room = g .room; bounds = g .bounds })
 
@@ -164,7 +162,7 @@ module _ (s : ConstraintSet) (g : Sorted s) where
   unfolding literalsMoved
   literals-sorted =
       steps-good Sorted (moveLiteral s) 128
-      (λ i h u e. pick-has Sorted (literalAt s i .present) (putLiteral u (canonicalAt s i) (literalAt s i .value)) u
+      (λ i h u e. cond-T-elim Sorted (literalAt s i .present) (putLiteral u (canonicalAt s i) (literalAt s i .value)) u
       (λ c. sorted-literal u e (canonicalAt s i) (literalAt s i .value)) e) 128 (omega arith)
       (withLiterals s (replicate 128 none)) (record { many = g .many; fall = g .fall; room = g .room; bounds = g .bounds })
 
@@ -172,7 +170,7 @@ module _ (s : ConstraintSet) (g : Sorted s) where
   unfolding rangesMoved
   ranges-sorted =
       steps-good Sorted (moveRange s) 128
-      (λ i h u e. pick-has Sorted (entryAt s i .present) (putRange u (canonicalAt s i) (entryAt s i .range)) u
+      (λ i h u e. cond-T-elim Sorted (entryAt s i .present) (putRange u (canonicalAt s i) (entryAt s i .range)) u
       (λ c. sorted-range u e (canonicalAt s i) (entryAt s i .range) (g .bounds i (is-true (entryAt s i .present) c))) e) 128 (omega arith)
       (withRanges s (replicate 128 noEntry))
       (record { many = g .many; fall = g .fall; room = g .room; bounds = at-replicated Bounded 128 noEntry blank none-bounded blank-bounded })
@@ -209,25 +207,26 @@ sorted-add s i l g =
     let r = canonicalAt s i in
     let s1 = putNonNull s r in
     let s2 = putLiteral s1 r l in
-    pick-has Sorted (ltb i 128) (cond (isNull l) (withFlag s true) (crossCheck s2)) s
-    (λ t. pick-has Sorted (isNull l) (withFlag s true) (crossCheck s2) (λ n. sorted-flag s g true)
+    cond-T-elim Sorted (ltb i 128) (cond (isNull l) (withFlag s true) (crossCheck s2)) s
+    (λ t. cond-T-elim Sorted (isNull l) (withFlag s true) (crossCheck s2) (λ n. sorted-flag s g true)
     (sorted-check s2 (sorted-literal s1 (sorted-null s g r) r l))) g
 
 module _ (a b : ConstraintSet) (ga : Sorted a) (gb : (i : ℕ) → Bounded (entryAt b i)) where
   values-sorted : Sorted (mergeValues a b)
   unfolding mergeNonNulls mergeRanges mergeLiterals mergeClasses
   values-sorted =
-      steps-good Sorted (mergeNonNull (nonNulls b)) 128 (λ i h t g. pick-has Sorted (nonNullAt b i) (putNonNull t i) t (λ c. sorted-null t g i) g) 128
+      steps-good Sorted (mergeNonNull (nonNulls b)) 128 (λ i h t g. cond-T-elim Sorted (nonNullAt b i) (putNonNull t i) t (λ c. sorted-null t g i) g) 128
       (omega arith) _
       (steps-good Sorted (mergeRange (b .ranges)) 128
-      (λ i h t g. pick-has Sorted (entryAt b i .present) (layRange t (canonicalAt t i) (entryAt b i .range)) t
+      (λ i h t g. cond-T-elim Sorted (entryAt b i .present) (layRange t (canonicalAt t i) (entryAt b i .range)) t
       (λ c. sorted-lay t g (canonicalAt t i) (entryAt b i .range) (gb i (is-true (entryAt b i .present) c))) g) 128 (omega arith) _
       (steps-good Sorted (mergeLiteral (literals b)) 128
-      (λ i h t g. pick-has Sorted (literalAt b i .present) (addLiteral t i (literalAt b i .value)) t (λ c. sorted-add t i (literalAt b i .value) g) g) 128
+      (λ i h t g. cond-T-elim Sorted (literalAt b i .present) (addLiteral t i (literalAt b i .value)) t (λ c. sorted-add t i (literalAt b i .value) g) g) 128
       (omega arith) _
       (steps-good Sorted (joinClass (b .«equivalence_classes»)) 128
       (λ q hq t g. steps-good Sorted (joinMember (b .«equivalence_classes») q) 128
-      (λ i hi u w. pick-has Sorted (eqb (canonicalAt b i) q && not (eqb i q)) (unionValues u q i) u (λ c. sorted-union u q i hq hi w) w) 128 (omega arith) t g)
+      (λ i hi u w. cond-T-elim Sorted (eqb (canonicalAt b i) q && not (eqb i q)) (unionValues u q i) u (λ c. sorted-union u q i hq hi w) w)
+      128 (omega arith) t g)
       128 (omega arith) (flagIf (b .contradictory) a) (sorted-flag a ga _))))
 
   merged-ready : Ready (mergedSet a b)
@@ -241,5 +240,5 @@ module _ (a b : ConstraintSet) (ga : Sorted a) (gb : (i : ℕ) → Bounded (entr
 pub merge-ready : (a b : ConstraintSet) → Ready a → Ready b → Ready (mergeFrom a b .constraints)
 unfolding mergeFrom
 merge-ready a b ra rb =
-    pick-has (λ (x : Applied). Ready (x .constraints)) (mergeRoom a b) (done (mergedSet a b)) (refusedWith a)
+    cond-T-elim (λ (x : Applied). Ready (x .constraints)) (mergeRoom a b) (done (mergedSet a b)) (refusedWith a)
     (λ t. merged-ready a b (ready-sorted a ra) (ready-sorted b rb .bounds)) ra

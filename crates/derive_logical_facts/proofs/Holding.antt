@@ -10,19 +10,20 @@ use lib.Dec.{leb}
 use lib.ListN.{getD, set, length, replicate, length-set, getD-replicate}
 use lib.Seq.{getD-set-same, getD-set-other}
 use borrow.Author.Tests.{leb-true}
-use Rattle.lists.proofs.RangeLaws.{and-left, and-right}
 use Rattle.value_classes.specs.Classes.{classesBy}
 use Rattle.constraint_spec.specs.Sets.{withValues, withResiduals, emptySet}
+use Rattle.laws.proofs.Bools.{and-left, and-right}
 use Rattle.plan.specs.declared.Plan.{Plan}
 use Rattle.plan_rules.specs.Rules.{planOk, countsWithin}
 use Rattle.plan_rules.proofs.RuleLaws.{Rules, rules}
 use Rattle.plan_data.specs.declared.OperatorData.{OperatorData}
+use Rattle.plan_data.specs.Nodes.{operatorAt}
 use Rattle.plan_identities.specs.Identities.{identitiesOf}
 use Rattle.plan_identities.specs.declared.Identities.{Identities}
 use Rattle.apply_spec.specs.Facts.{withConstraints}
 use Rattle.apply_spec.specs.Meaning.{freshFacts}
 use Rattle.derive_spec.specs.Operators.{operatorDerived, outerOf, innerOf}
-use Rattle.derive_spec.specs.Deriving.{operatorAt, missing, answerFrom, answersTo, answerOf}
+use Rattle.derive_spec.specs.Deriving.{missing, answerFrom, answersTo, answerOf}
 use Rattle.derive_spec.specs.declared.DeriveOutcome.the-variants.{Accepted}
 use Rattle.derive_spec.specs.declared.DeriveAnswer.{DeriveAnswer}
 use Rattle.derive_spec.proofs.Answers.{answer-made, answer-at, answer-past}

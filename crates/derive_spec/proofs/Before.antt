@@ -1,11 +1,11 @@
 -- In a plan that keeps the rules the inputs of an operator stand before it. Assumes nothing.
 use mathlib.Core.Path.{_≡_, refl, sym, subst}
-use mathlib.Core.Bool.{Bool, true, false, cond, _&&_}
+use mathlib.Core.Bool.{true, _&&_}
 use mathlib.Core.Logic.{_⊎_, inl, inr}
 use Prim.Native.Nat.{ℕ, _<_}
 use lib.Dec.{T, eqb, eqb→eq}
 use borrow.Author.Tests.{ltb-true}
-use Rattle.lists.proofs.RangeLaws.{and-left, and-right}
+use Rattle.laws.proofs.Bools.{and-left, and-right, cond-T-elim}
 use Rattle.plan_kinds.specs.declared.Record.{Record}
 use Rattle.plan_kinds.specs.Rows.{lineOf, rowOf}
 use Rattle.plan_kinds.specs.Records.{codeOk, bitsOk, handleOk, handlesOk}
@@ -13,24 +13,19 @@ use Rattle.plan.specs.declared.Plan.{Plan}
 use Rattle.plan.specs.Records.{operatorRecord, operatorStart}
 use Rattle.plan_rules.specs.Rules.{recordOk, operatorOkOf, planOk}
 use Rattle.plan_rules.proofs.RuleLaws.{rules}
-use Rattle.plan_data.specs.Nodes.{operatorData}
+use Rattle.plan_data.specs.Nodes.{operatorData, operatorAt}
 use Rattle.plan_data.specs.declared.OperatorData.{OperatorData}
-use Rattle.derive_spec.specs.Deriving.{operatorAt}
 use Rattle.derive_spec.specs.Residuals.{IsInput}
 
 abbrev InputsBefore : ℕ → OperatorData → Type 0
 InputsBefore h o = (i : ℕ) → IsInput o i → i < h
 
-either : (P : OperatorData → Type 0) (b : Bool) (x y : OperatorData) → (T b → P x) → P y → P (cond b x y)
-either P true x y f q = f tt
-either P false x y f q = q
+lt-of-eq : (h i j : ℕ) → j < h → i ≡ j → i < h
+lt-of-eq h i j l e = subst (λ (k : ℕ). k < h) (sym e) l
 
-one : (h i j : ℕ) → j < h → i ≡ j → i < h
-one h i j l e = subst (λ (k : ℕ). k < h) (sym e) l
-
-two : (h i j k : ℕ) → j < h → k < h → (i ≡ j) ⊎ (i ≡ k) → i < h
-two h i j k l m (inl e) = one h i j l e
-two h i j k l m (inr e) = one h i k m e
+lt-of-eq-either : (h i j k : ℕ) → j < h → k < h → (i ≡ j) ⊎ (i ≡ k) → i < h
+lt-of-eq-either h i j k l m (inl e) = lt-of-eq h i j l e
+lt-of-eq-either h i j k l m (inr e) = lt-of-eq h i k m e
 
 module _ (x : Record) (st nc ne h : ℕ) (e : recordOk 3 x nc ne h ≡ true) where
   handles : handlesOk (rowOf (x .kind)) x nc ne h ≡ true
@@ -69,20 +64,20 @@ module _ (x : Record) (st nc ne h : ℕ) (e : recordOk 3 x nc ne h ≡ true) whe
   unfolding operatorData rowOf lineOf
   record-before =
       let P = InputsBefore h in
-      either P (eqb (x .kind) 0x30) _ _ (λ t i u. absurd u)
-      (either P (eqb (x .kind) 0x31) _ _ (λ t i u. absurd u)
-      (either P (eqb (x .kind) 0x32) _ _ (λ t i u. absurd u)
-      (either P (eqb (x .kind) 0x33) _ _ (λ t i u. one h i (x .b) (b-below 0x33 t refl) u)
-      (either P (eqb (x .kind) 0x34) _ _ (λ t i u. one h i (x .a) (a-below 0x34 t refl) u)
-      (either P (eqb (x .kind) 0x35) _ _ (λ t i u. one h i (x .a) (a-below 0x35 t refl) u)
-      (either P (eqb (x .kind) 0x36) _ _ (λ t i u. one h i (x .a) (a-below 0x36 t refl) u)
-      (either P (eqb (x .kind) 0x37) _ _ (λ t i u. one h i (x .a) (a-below 0x37 t refl) u)
-      (either P (eqb (x .kind) 0x38) _ _ (λ t i u. one h i (x .a) (a-below 0x38 t refl) u)
-      (either P (eqb (x .kind) 0x39) _ _ (λ t i u. one h i (x .a) (a-below 0x39 t refl) u)
-      (either P (eqb (x .kind) 0x3A) _ _ (λ t i u. one h i (x .a) (a-below 0x3A t refl) u)
-      (either P (eqb (x .kind) 0x3B) _ _ (λ t i u. two h i (x .a) (x .b) (a-below 0x3B t refl) (b-below 0x3B t refl) u)
-      (either P (eqb (x .kind) 0x3C) _ _ (λ t i u. two h i (x .b) (x .c) (b-below 0x3C t refl) (c-below 0x3C t refl) u)
-      (either P (eqb (x .kind) 0x3D) _ _ (λ t i u. two h i (x .b) (x .c) (b-below 0x3D t refl) (c-below 0x3D t refl) u)
+      cond-T-elim P (eqb (x .kind) 0x30) _ _ (λ t i u. absurd u)
+      (cond-T-elim P (eqb (x .kind) 0x31) _ _ (λ t i u. absurd u)
+      (cond-T-elim P (eqb (x .kind) 0x32) _ _ (λ t i u. absurd u)
+      (cond-T-elim P (eqb (x .kind) 0x33) _ _ (λ t i u. lt-of-eq h i (x .b) (b-below 0x33 t refl) u)
+      (cond-T-elim P (eqb (x .kind) 0x34) _ _ (λ t i u. lt-of-eq h i (x .a) (a-below 0x34 t refl) u)
+      (cond-T-elim P (eqb (x .kind) 0x35) _ _ (λ t i u. lt-of-eq h i (x .a) (a-below 0x35 t refl) u)
+      (cond-T-elim P (eqb (x .kind) 0x36) _ _ (λ t i u. lt-of-eq h i (x .a) (a-below 0x36 t refl) u)
+      (cond-T-elim P (eqb (x .kind) 0x37) _ _ (λ t i u. lt-of-eq h i (x .a) (a-below 0x37 t refl) u)
+      (cond-T-elim P (eqb (x .kind) 0x38) _ _ (λ t i u. lt-of-eq h i (x .a) (a-below 0x38 t refl) u)
+      (cond-T-elim P (eqb (x .kind) 0x39) _ _ (λ t i u. lt-of-eq h i (x .a) (a-below 0x39 t refl) u)
+      (cond-T-elim P (eqb (x .kind) 0x3A) _ _ (λ t i u. lt-of-eq h i (x .a) (a-below 0x3A t refl) u)
+      (cond-T-elim P (eqb (x .kind) 0x3B) _ _ (λ t i u. lt-of-eq-either h i (x .a) (x .b) (a-below 0x3B t refl) (b-below 0x3B t refl) u)
+      (cond-T-elim P (eqb (x .kind) 0x3C) _ _ (λ t i u. lt-of-eq-either h i (x .b) (x .c) (b-below 0x3C t refl) (c-below 0x3C t refl) u)
+      (cond-T-elim P (eqb (x .kind) 0x3D) _ _ (λ t i u. lt-of-eq-either h i (x .b) (x .c) (b-below 0x3D t refl) (c-below 0x3D t refl) u)
       (λ i u. absurd u))))))))))))))
 
 -- an input of an operator stands before it

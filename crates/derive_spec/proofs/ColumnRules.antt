@@ -10,7 +10,8 @@ use native.Mathlib.Omega.{arith}
 use lib.Dec.{ltb, eqb}
 use lib.ListN.{getD, set, replicate}
 use lib.Seq.{getD-set-other}
-use Rattle.constraint_spec.proofs.Steps.{steps-good, pick-has}
+use Rattle.laws.proofs.Bools.{cond-T-elim}
+use Rattle.constraint_spec.proofs.Steps.{steps-good}
 use Rattle.plan.specs.declared.Plan.{Plan}
 use Rattle.plan.specs.declared.Column.{Column}
 use Rattle.plan_data.specs.declared.Run.{Run}
@@ -54,7 +55,7 @@ module _ (right : ℕ → Type 0) (nc : ℕ) where
   ]
 
   inserted-right : (l : List ℕ) (i v : ℕ) → RightEntries right nc l → RightEntry right nc i v → RightEntries right nc (inserted l i v)
-  inserted-right l i v r q = pick-has (RightEntries right nc) (eqb v 0) l (set l i v) (λ t. r) (set-right l i v r q)
+  inserted-right l i v r q = cond-T-elim (RightEntries right nc) (eqb v 0) l (set l i v) (λ t. r) (set-right l i v r q)
 
   -- the entry of one column is right for another of the plan
   moved : (c d v : ℕ) → d < nc → RightEntry right nc c v → RightEntry right nc d v
@@ -83,7 +84,7 @@ nothing-right nc ne = record { lineage = none-right (RightIdentity nc) nc 64; de
 
 -- ---- the entries of the plan's identities and expressions
 numbered-right : (nc c n : ℕ) → c < nc → (n < nc) ⊎ ((64 ≤ n) × (n < 64 + nc)) → RightEntry (RightIdentity nc) nc c (cond (ltb n 128) (n + 1) 0)
-numbered-right nc c n l q = pick-has (RightEntry (RightIdentity nc) nc c) (ltb n 128) (n + 1) 0 (λ t. inr (l, go q)) (inl refl)
+numbered-right nc c n l q = cond-T-elim (RightEntry (RightIdentity nc) nc c) (ltb n 128) (n + 1) 0 (λ t. inr (l, go q)) (inl refl)
   where
     go : (n < nc) ⊎ ((64 ≤ n) × (n < 64 + nc)) → RightIdentity nc (n + 1)
     go (inl a) = inl (omega arith)
@@ -91,7 +92,7 @@ numbered-right nc c n l q = pick-has (RightEntry (RightIdentity nc) nc c) (ltb n
 
 definition-right : (nc ne c e : ℕ) → c < nc → e < ne → RightEntry (RightDefinition ne) nc c (definitionEntry e)
 unfolding definitionEntry
-definition-right nc ne c e l m = pick-has (RightEntry (RightDefinition ne) nc c) (ltb e 1024) (e + 1) 0 (λ t. inr (l, omega arith)) (inl refl)
+definition-right nc ne c e l m = cond-T-elim (RightEntry (RightDefinition ne) nc c) (ltb e 1024) (e + 1) 0 (λ t. inr (l, omega arith)) (inl refl)
 
 module _ (p : Plan) (few : p .columns .count ≤ 64) where
   abbrev nc : ℕ
@@ -154,7 +155,7 @@ module _ (p : Plan) (few : p .columns .count ≤ 64) where
   unfolding computed
   computed-right t c e x l m r =
       let v = valueForExpr (t .lineage) x in
-      pick-has Right (eqb v 0) (defined (derivedColumn ids t c) c (definitionEntry e)) (assigned t c v)
+      cond-T-elim Right (eqb v 0) (defined (derivedColumn ids t c) c (definitionEntry e)) (assigned t c v)
       (λ z. defined-right (derivedColumn ids t c) c (definitionEntry e) (made-derived t c l r) (definition-right nc ne c e l m))
       (assigned-right t c v r (value-right (t .lineage) (r .lineage) c l x))
 

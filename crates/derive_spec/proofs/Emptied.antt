@@ -12,7 +12,7 @@ use Rattle.plan.specs.declared.Plan.{Plan}
 use Rattle.plan.specs.declared.Expr.{Expr}
 use Rattle.plan.specs.declared.Operator.{Operator}
 use Rattle.plan_rules.specs.Rules.{planOk}
-use Rattle.plan_data.specs.Nodes.{nodeAt}
+use Rattle.plan_data.specs.Nodes.{nodeAt, operatorAt}
 use Rattle.plan_data.specs.declared.Run.{Run}
 use Rattle.plan_data.specs.declared.JoinType.{JoinType}
 use Rattle.plan_data.specs.declared.JoinType.the-variants.{Inner, LeftSemi, LeftAnti, LeftOuter, Single, RightOuter, FullOuter, LeftMark}
@@ -29,7 +29,7 @@ use Rattle.apply_spec.specs.declared.Outcome.{Outcome}
 use Rattle.apply_spec.specs.declared.Outcome.the-variants as O
 use Rattle.derive_spec.specs.Columns.{columnsIn, factsWith, keysOk, aggregated}
 use Rattle.derive_spec.specs.Operators.{isAccepted, accepted, refused, given, fittedBy, fitted, filtered, joined, grouped, operatorDerived}
-use Rattle.derive_spec.specs.Deriving.{operatorAt, missing, answersTo, answerOf, deriveOf}
+use Rattle.derive_spec.specs.Deriving.{missing, answersTo, answerOf, deriveOf}
 use Rattle.derive_spec.specs.declared.DeriveOutcome.{DeriveOutcome}
 use Rattle.derive_spec.specs.declared.DeriveOutcome.the-variants.{UnsupportedKey, Residuals, NoSuch}
 use Rattle.derive_spec.specs.declared.DeriveAnswer.{DeriveAnswer}

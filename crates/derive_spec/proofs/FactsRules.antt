@@ -8,20 +8,20 @@ use native.Mathlib.Omega.{arith}
 use lib.Dec.{T, T-not, ltb, leb, eqb}
 use lib.ListN.{getD, length, List·getD-eq-default}
 use borrow.Author.Tests.{lt-ltb, ltb-true, le-leb, leb-true, eq-eqb, eqb-true}
+use Rattle.laws.proofs.Bools.{and-left, and-right, and-both, cond-T-elim, or-elim}
 use Rattle.lists.specs.Ranges.{allFrom}
-use Rattle.lists.proofs.RangeLaws.{below-or-not, and-left, and-right, and-both, all-at, all-of}
+use Rattle.lists.proofs.RangeLaws.{below-or-not, all-at, all-of}
 use Rattle.value_classes.specs.Classes.{Whole}
 use Rattle.constraint_spec.specs.Sets.{classesOf, handleAt, setOk, emptySet, done, mergeFrom}
 use Rattle.constraint_spec.specs.declared.ConstraintSet.{ConstraintSet}
 use Rattle.constraint_spec.specs.declared.Applied.{Applied}
-use Rattle.constraint_spec.proofs.Steps.{pick-has}
 use Rattle.constraint_spec.proofs.Rules.{ruled, ruled-ok}
 use Rattle.plan.specs.declared.Plan.{Plan}
 use Rattle.plan.specs.declared.Expr.{Expr}
 use Rattle.plan.specs.declared.Operator.{Operator}
-use Rattle.plan_rules.specs.Rules.{countsWithin, planOk}
+use Rattle.plan_rules.specs.Rules.{planOk}
 use Rattle.plan_rules.proofs.RuleLaws.{rules}
-use Rattle.plan_data.specs.Nodes.{nodeAt}
+use Rattle.plan_data.specs.Nodes.{nodeAt, operatorAt}
 use Rattle.plan_data.specs.declared.Run.{Run}
 use Rattle.plan_data.specs.declared.JoinType.{JoinType}
 use Rattle.plan_data.specs.declared.JoinType.the-variants.{Inner, LeftSemi, LeftAnti, LeftOuter, Single, RightOuter, FullOuter, LeftMark}
@@ -37,9 +37,10 @@ use Rattle.apply_spec.specs.declared.FactsAnswer.{FactsAnswer}
 use Rattle.apply_spec.specs.declared.Outcome.{Outcome}
 use Rattle.apply_spec.specs.declared.Outcome.the-variants as O
 use Rattle.apply_spec.proofs.Applying.{Within}
+use Rattle.apply_spec.proofs.Answers.{columns-within}
 use Rattle.derive_spec.specs.Columns.{noColumns, columnsIn, factsWith, keysOk, aggregated}
 use Rattle.derive_spec.specs.Operators.{isAccepted, accepted, refused, given, fittedBy, fitted, filtered, joined, grouped, operatorDerived}
-use Rattle.derive_spec.specs.Deriving.{operatorAt, missing, answersTo, answerOf, deriveOf}
+use Rattle.derive_spec.specs.Deriving.{missing, answersTo, answerOf, deriveOf}
 use Rattle.derive_spec.specs.declared.ColumnFacts.{ColumnFacts}
 use Rattle.derive_spec.specs.declared.DeriveOutcome.{DeriveOutcome}
 use Rattle.derive_spec.specs.declared.DeriveOutcome.the-variants.{UnsupportedKey, Residuals, NoSuch}
@@ -144,7 +145,7 @@ module _ (p : Plan) (few : p .columns .count ≤ 64) where
   given-right : (d : DeriveAnswer) (make : LogicalFacts → DeriveAnswer) → RightAnswer d → ((f : LogicalFacts) → Right f → RightAnswer (make f)) → RightAnswer
       (given d make)
   unfolding given
-  given-right d make r g = pick-has RightAnswer (isAccepted (d .outcome)) (make (d .facts)) d (λ t. g (d .facts) r) r
+  given-right d make r g = cond-T-elim RightAnswer (isAccepted (d .outcome)) (make (d .facts)) d (λ t. g (d .facts) r) r
 
   fitted-right : (h : Operator) (a : FactsAnswer) → Right (a .facts) → RightAnswer (fitted h a)
   fitted-right h a r = go (a .outcome)
@@ -157,7 +158,7 @@ module _ (p : Plan) (few : p .columns .count ≤ 64) where
   -- ---- applying and merging
   answered-right : (old f : LogicalFacts) (a : Applied) → Right old → Right (withConstraints f (a .constraints)) → Right (answered old f a .facts)
   answered-right old f a q r =
-      pick-has (λ (x : FactsAnswer). Right (x .facts)) (a .refused) (record { facts = old; outcome = O.Residuals })
+      cond-T-elim (λ (x : FactsAnswer). Right (x .facts)) (a .refused) (record { facts = old; outcome = O.Residuals })
       (record { facts = withConstraints f (a .constraints); outcome = O.Accepted })
       (λ t. q) r
 
@@ -184,7 +185,7 @@ module _ (p : Plan) (few : p .columns .count ≤ 64) where
       answered-right f (overlaid f g (f .constraints))
       (cond merge (mergeFrom (f .constraints) (g .constraints)) (done (f .constraints))) rf (record {
         columns = both-columns f g rf rg;
-        set = pick-has (λ (a : Applied). RightSet (p .expressions .count) (a .constraints)) merge (mergeFrom (f .constraints) (g .constraints))
+        set = cond-T-elim (λ (a : Applied). RightSet (p .expressions .count) (a .constraints)) merge (mergeFrom (f .constraints) (g .constraints))
             (done (f .constraints))
             (λ t. merge-right (p .expressions .count) (f .constraints) (g .constraints) (rf .set) (rg .set)) (rf .set);
       })
@@ -209,7 +210,7 @@ module _ (p : Plan) (few : p .columns .count ≤ 64) where
         → RightAnswer (grouped p ids h keys aggregates f)
     unfolding grouped
     grouped-right keys aggregates f b r =
-        pick-has RightAnswer (keysOk (nodeAt p) (p .items .a) keys)
+        cond-T-elim RightAnswer (keysOk (nodeAt p) (p .items .a) keys)
         (accepted (factsWith (aggregated ids (nodeAt p) (p .items .a) keys aggregates (columnsIn f)) emptySet)) (refused (UnsupportedKey h))
         (λ t. with-empty _ (aggregated-right p few (nodeAt p) (p .items .a) keys aggregates (columnsIn f) b (r .columns))) (refused-right (UnsupportedKey h))
 
@@ -239,10 +240,6 @@ module _ (p : Plan) (few : p .columns .count ≤ 64) where
       operator-right (Join j on o i) b = given-right l _ rl (λ f q. given-right r _ rr (λ g w. joined-right on f g j (b .0) (b .1) q w))
 
 -- ---- in handle order
-columns-within : (nc ne np used : ℕ) → countsWithin nc ne np used ≡ true → nc ≤ 64
-unfolding countsWithin
-columns-within nc ne np used h = leb-true nc 64 (and-left _ _ h)
-
 module _ (p : Plan) (ok : planOk p ≡ true) where
   few : p .columns .count ≤ 64
   few = columns-within (p .columns .count) (p .expressions .count) (p .operators .count) (p .items .count) (rules p ok .counts)
@@ -363,10 +360,6 @@ module _ (right : ℕ → Type 0) (nc : ℕ) (l : List ℕ) (long : length l ≡
       go : (c < 64) ⊎ (64 ≤ c) → RightEntry right nc c (getD l c 0)
       go (inl m) = r c m
       go (inr m) = inl (List·getD-eq-default l 0 (subst (λ (n : ℕ). n ≤ c) (sym long) m))
-
-or-elim : {X : Type 0} (a b : Bool) → (a || b) ≡ true → (a ≡ true → X) → (b ≡ true → X) → X
-or-elim true b e f g = f refl
-or-elim false b e f g = g e
 
 lineage-right : (nc : ℕ) (l : List ℕ) (c : ℕ) → lineageOk l nc c ≡ true → RightEntry (RightIdentity nc) nc c (getD l c 0)
 unfolding lineageOk

@@ -9,6 +9,7 @@ use lib.Dec.{eqb}
 use lib.ListN.{getD, set, replicate}
 use lib.Seq.{getD-set-other}
 use borrow.Author.Tests.{ne-eqb}
+use Rattle.laws.proofs.Lists.{getD-replicate-self}
 use Rattle.constraint_spec.specs.Sets.{stepsTo, emptySet}
 use Rattle.plan.specs.declared.Plan.{Plan}
 use Rattle.plan.specs.declared.Column.{Column}
@@ -100,11 +101,6 @@ unfolding computed assigned
 shared ids t c e x h = rw h
 
 -- ---- Projection and Rename: a column that is not listed is forgotten
-nowhere : (n c : ℕ) → _≡_ {A = ℕ} (getD (replicate n 0) c 0) 0
-nowhere zero c = refl
-nowhere (suc n) zero = refl
-nowhere (suc n) (suc c) = nowhere n c
-
 -- an insert elsewhere
 elsewhere : (l : List ℕ) (to c v : ℕ) → (c ≡ to → ⊥) → getD (inserted l to v) c 0 ≡ getD l c 0
 elsewhere l to c v n = go (eqb v 0)
@@ -120,14 +116,14 @@ module _ (g : ColumnFacts) (items originals : List ℕ) (r : Run) (c : ℕ) wher
 
   rename-lineage : (n : ℕ) → Unlisted n → getD (stepsTo (renameStep g items originals r) n noColumns .lineage) c 0 ≡ 0
   unfolding stepsTo carried
-  rename-lineage zero u = nowhere 64 c
+  rename-lineage zero u = getD-replicate-self 64 c 0
   rename-lineage (suc n) u =
       elsewhere (stepsTo (renameStep g items originals r) n noColumns .lineage) (itemAt items r n) c (getD (g .lineage) (itemAt originals r n) 0)
       (u n (omega arith)) ∙ rename-lineage n (λ k l. u k (omega arith))
 
   rename-definitions : (n : ℕ) → Unlisted n → getD (stepsTo (renameStep g items originals r) n noColumns .definitions) c 0 ≡ 0
   unfolding stepsTo carried
-  rename-definitions zero u = nowhere 64 c
+  rename-definitions zero u = getD-replicate-self 64 c 0
   rename-definitions (suc n) u =
       elsewhere (stepsTo (renameStep g items originals r) n noColumns .definitions) (itemAt items r n) c (getD (g .definitions) (itemAt originals r n) 0)
       (u n (omega arith)) ∙ rename-definitions n (λ k l. u k (omega arith))

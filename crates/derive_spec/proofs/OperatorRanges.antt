@@ -1,15 +1,16 @@
 -- In a plan that keeps the rules what an operator names is of the plan: its expressions, its marker, and the columns and expressions of its lists.
 -- Assumes nothing.
 use mathlib.Core.Path.{_≡_, refl, subst}
-use mathlib.Core.Bool.{Bool, true, false, cond, _&&_}
+use mathlib.Core.Bool.{Bool, true, _&&_}
 use mathlib.Core.List.{List}
 use Prim.Native.Nat.{ℕ, _+_, _<_}
 use native.Mathlib.Omega.{arith}
 use lib.Dec.{T, leb, eqb, eqb→eq}
 use lib.ListN.{getD}
 use borrow.Author.Tests.{ltb-true}
+use Rattle.laws.proofs.Bools.{and-left, and-right, cond-T-elim, and4-first, and4-second}
 use Rattle.lists.specs.Ranges.{allFrom}
-use Rattle.lists.proofs.RangeLaws.{and-left, and-right, all-at}
+use Rattle.lists.proofs.RangeLaws.{all-at}
 use Rattle.plan_kinds.specs.declared.Record.{Record}
 use Rattle.plan_kinds.specs.Rows.{lineOf, rowOf}
 use Rattle.plan_kinds.specs.Records.{codeOk, bitsOk, handleOk, handlesOk, countOf, moreOf}
@@ -18,13 +19,12 @@ use Rattle.plan.specs.Records.{operatorRecord, operatorStart}
 use Rattle.plan_rules.specs.Rules.{recordOk, itemOk, listsOk, operatorOkOf, planOk}
 use Rattle.plan_rules.proofs.RuleLaws.{rules}
 use Rattle.plan_data.specs.Codes.{joinTypeOf}
-use Rattle.plan_data.specs.Nodes.{runOf, operatorData}
+use Rattle.plan_data.specs.Nodes.{runOf, operatorData, operatorAt}
 use Rattle.plan_data.specs.declared.JoinType.{JoinType}
 use Rattle.plan_data.specs.declared.JoinType.the-variants.{Inner, LeftSemi, LeftAnti, LeftOuter, Single, RightOuter, FullOuter, LeftMark}
 use Rattle.plan_data.specs.declared.OperatorData.{OperatorData}
 use Rattle.plan_data.specs.declared.OperatorData.the-variants.{Scan, ConstScan, TableFunction, Selection, Projection, Rename, Map, Aggregation, Sort}
 use Rattle.plan_data.specs.declared.OperatorData.the-variants.{Limit, Output, CrossProduct, Join}
-use Rattle.derive_spec.specs.Deriving.{operatorAt}
 use Rattle.derive_spec.proofs.ColumnRules.{ItemsBelow}
 
 -- the marker of a LeftMark join is a column
@@ -54,26 +54,16 @@ InRange nc ne a b (Output input) = Unit {0}
 InRange nc ne a b (CrossProduct outer inner) = Unit {0}
 InRange nc ne a b (Join joinType on outer inner) = (on .0 < ne) × MarkerBelow nc joinType
 
-either : {A : Type 0} (P : A → Type 0) (b : Bool) (x y : A) → (T b → P x) → P y → P (cond b x y)
-either P true x y f q = f tt
-either P false x y f q = q
-
 -- a code stands for no LeftMark join
 unmarked : (nc n : ℕ) → MarkerBelow nc (joinTypeOf n)
 unmarked nc n =
     let P = MarkerBelow nc in
-    either P (eqb n 0) _ _ (λ t. tt)
-    (either P (eqb n 1) _ _ (λ t. tt)
-    (either P (eqb n 2) _ _ (λ t. tt)
-    (either P (eqb n 3) _ _ (λ t. tt)
-    (either P (eqb n 4) _ _ (λ t. tt)
-    (either P (eqb n 5) _ _ (λ t. tt) tt)))))
-
-first : (a b c d : Bool) → (((a && b) && c) && d) ≡ true → a ≡ true
-first a b c d e = and-left a b (and-left (a && b) c (and-left ((a && b) && c) d e))
-
-second : (a b c d : Bool) → (((a && b) && c) && d) ≡ true → b ≡ true
-second a b c d e = and-right a b (and-left (a && b) c (and-left ((a && b) && c) d e))
+    cond-T-elim P (eqb n 0) _ _ (λ t. tt)
+    (cond-T-elim P (eqb n 1) _ _ (λ t. tt)
+    (cond-T-elim P (eqb n 2) _ _ (λ t. tt)
+    (cond-T-elim P (eqb n 3) _ _ (λ t. tt)
+    (cond-T-elim P (eqb n 4) _ _ (λ t. tt)
+    (cond-T-elim P (eqb n 5) _ _ (λ t. tt) tt)))))
 
 fourth : (a b c d : Bool) → (((a && b) && c) && d) ≡ true → d ≡ true
 fourth a b c d e = and-right ((a && b) && c) d e
@@ -92,13 +82,14 @@ module _ (nc ne np : ℕ) where
     item-columns : rowOf i .a ≡ 2 → ItemsBelow nc ia (runOf from n)
     unfolding itemOk
     item-columns e k l =
-        as-column (rowOf i .a) (getD ia (from + k) 0) e (first _ _ _ _ (all-at (itemOk ia ib i nc ne np) n from all (from + k) (omega arith) (omega arith)))
+        as-column (rowOf i .a) (getD ia (from + k) 0) e
+        (and4-first _ _ _ _ (all-at (itemOk ia ib i nc ne np) n from all (from + k) (omega arith) (omega arith)))
 
     item-expressions : rowOf i .b ≡ 3 → ItemsBelow ne ib (runOf from n)
     unfolding itemOk
     item-expressions e k l =
         as-expression (rowOf i .b) (getD ib (from + k) 0) e
-        (second (handleOk (rowOf i .a) (getD ia (from + k) 0) nc ne np) _ _ _
+        (and4-second (handleOk (rowOf i .a) (getD ia (from + k) 0) nc ne np) _ _ _
         (all-at (itemOk ia ib i nc ne np) n from all (from + k) (omega arith) (omega arith)))
 
 module _ (x : Record) (st nc ne np used : ℕ) (ia ib : List ℕ) (ok : recordOk 3 x nc ne np ≡ true) (lists : listsOk ia ib used x st nc ne np ≡ true) where
@@ -128,7 +119,7 @@ module _ (x : Record) (st nc ne np used : ℕ) (ia ib : List ℕ) (ok : recordOk
     held = subst (λ (k : ℕ). handlesOk (rowOf k) x nc ne np ≡ true) (eqb→eq (x .kind) k q) handles
 
     a-expression : rowOf k .a ≡ 3 → x .a < ne
-    a-expression e = as-expression nc ne np (rowOf k .a) (x .a) e (first _ _ _ _ held)
+    a-expression e = as-expression nc ne np (rowOf k .a) (x .a) e (and4-first _ _ _ _ held)
 
     d-column : rowOf k .d ≡ 2 → x .d < nc
     d-column e =
@@ -154,21 +145,21 @@ module _ (x : Record) (st nc ne np used : ℕ) (ia ib : List ℕ) (ok : recordOk
   unfolding operatorData rowOf lineOf countOf moreOf
   record-ranges =
       let P = InRange nc ne ia ib in
-      either P (eqb (x .kind) 0x30) _ _ (λ t. columns 0x30 t 0x40 (x .b) refl refl refl)
-      (either P (eqb (x .kind) 0x31) _ _ (λ t. columns 0x31 t 0x40 (x .a) refl refl refl)
-      (either P (eqb (x .kind) 0x32) _ _ (λ t. columns 0x32 t 0x40 (x .a) refl refl refl)
-      (either P (eqb (x .kind) 0x33) _ _ (λ t. a-expression 0x33 t refl)
-      (either P (eqb (x .kind) 0x34) _ _ (λ t. columns 0x34 t 0x40 (x .b) refl refl refl)
-      (either P (eqb (x .kind) 0x35) _ _ (λ t. columns 0x35 t 0x41 (x .b) refl refl refl)
-      (either P (eqb (x .kind) 0x36) _ _
+      cond-T-elim P (eqb (x .kind) 0x30) _ _ (λ t. columns 0x30 t 0x40 (x .b) refl refl refl)
+      (cond-T-elim P (eqb (x .kind) 0x31) _ _ (λ t. columns 0x31 t 0x40 (x .a) refl refl refl)
+      (cond-T-elim P (eqb (x .kind) 0x32) _ _ (λ t. columns 0x32 t 0x40 (x .a) refl refl refl)
+      (cond-T-elim P (eqb (x .kind) 0x33) _ _ (λ t. a-expression 0x33 t refl)
+      (cond-T-elim P (eqb (x .kind) 0x34) _ _ (λ t. columns 0x34 t 0x40 (x .b) refl refl refl)
+      (cond-T-elim P (eqb (x .kind) 0x35) _ _ (λ t. columns 0x35 t 0x41 (x .b) refl refl refl)
+      (cond-T-elim P (eqb (x .kind) 0x36) _ _
       (λ t. (columns 0x36 t 0x42 (x .b) refl refl refl, item-expressions nc ne np ia ib 0x42 st (x .b) (firsts 0x36 t 0x42 (x .b) refl refl) refl))
-      (either P (eqb (x .kind) 0x37) _ _ (λ t. item-columns nc ne np ia ib 0x40 (st + x .b) (x .c) (lasts 0x37 t (x .b) (x .c) refl refl) refl)
-      (either P (eqb (x .kind) 0x38) _ _ (λ t. tt)
-      (either P (eqb (x .kind) 0x39) _ _ (λ t. tt)
-      (either P (eqb (x .kind) 0x3A) _ _ (λ t. tt)
-      (either P (eqb (x .kind) 0x3B) _ _ (λ t. tt)
-      (either P (eqb (x .kind) 0x3C) _ _ (λ t. (a-expression 0x3C t refl, unmarked nc (x .code)))
-      (either P (eqb (x .kind) 0x3D) _ _ (λ t. (a-expression 0x3D t refl, d-column 0x3D t refl))
+      (cond-T-elim P (eqb (x .kind) 0x37) _ _ (λ t. item-columns nc ne np ia ib 0x40 (st + x .b) (x .c) (lasts 0x37 t (x .b) (x .c) refl refl) refl)
+      (cond-T-elim P (eqb (x .kind) 0x38) _ _ (λ t. tt)
+      (cond-T-elim P (eqb (x .kind) 0x39) _ _ (λ t. tt)
+      (cond-T-elim P (eqb (x .kind) 0x3A) _ _ (λ t. tt)
+      (cond-T-elim P (eqb (x .kind) 0x3B) _ _ (λ t. tt)
+      (cond-T-elim P (eqb (x .kind) 0x3C) _ _ (λ t. (a-expression 0x3C t refl, unmarked nc (x .code)))
+      (cond-T-elim P (eqb (x .kind) 0x3D) _ _ (λ t. (a-expression 0x3D t refl, d-column 0x3D t refl))
       (λ k l. absurd (omega arith)))))))))))))))
 
 -- what an operator of the plan names is of the plan

@@ -9,14 +9,14 @@ use lib.Dec.{ltb}
 use lib.ListN.{getD, length}
 use borrow.Author.Tests.{lt-ltb, ltb-true}
 use Rattle.constraint_spec.specs.Sets.{emptySet, mergeFrom, done}
-use Rattle.constraint_spec.specs.Room.{listed}
+use Rattle.constraint_spec.specs.Room.{listed, jointList}
 use Rattle.constraint_spec.specs.declared.ConstraintSet.{ConstraintSet}
 use Rattle.constraint_spec.specs.declared.Applied.{Applied}
 use Rattle.plan.specs.declared.Plan.{Plan}
 use Rattle.plan.specs.declared.Expr.{Expr}
 use Rattle.plan.specs.declared.Operator.{Operator}
 use Rattle.plan_rules.specs.Rules.{planOk}
-use Rattle.plan_data.specs.Nodes.{nodeAt}
+use Rattle.plan_data.specs.Nodes.{nodeAt, operatorAt}
 use Rattle.plan_data.specs.declared.Run.{Run}
 use Rattle.plan_data.specs.declared.JoinType.{JoinType}
 use Rattle.plan_data.specs.declared.JoinType.the-variants.{Inner, LeftSemi, LeftAnti, LeftOuter, Single, RightOuter, FullOuter, LeftMark}
@@ -35,8 +35,8 @@ use Rattle.apply_spec.proofs.Refusals.{Roomy}
 use Rattle.derive_spec.specs.Columns.{columnsIn, factsWith, keysOk, aggregated}
 use Rattle.derive_spec.specs.Operators.{refusalOf, refuserOf, isAccepted, accepted, refused, given, fitted, filtered, joined, grouped}
 use Rattle.derive_spec.specs.Operators.{operatorDerived, outerOf, innerOf}
-use Rattle.derive_spec.specs.Deriving.{operatorAt, missing, answerFrom, answersTo, answerOf, deriveOf}
-use Rattle.derive_spec.specs.Residuals.{predicateList, bothLists, joinList, operatorList, residualsAt, keysFine, IsInput, Reached, here, through}
+use Rattle.derive_spec.specs.Deriving.{missing, answerFrom, answersTo, answerOf, deriveOf}
+use Rattle.derive_spec.specs.Residuals.{predicateList, joinList, operatorList, residualsAt, keysFine, IsInput, Reached, here, through}
 use Rattle.derive_spec.specs.declared.DeriveOutcome.{DeriveOutcome}
 use Rattle.derive_spec.specs.declared.DeriveOutcome.the-variants.{Accepted, UnsupportedKey, Residuals, NoSuch}
 use Rattle.derive_spec.specs.declared.DeriveAnswer.{DeriveAnswer}
@@ -123,7 +123,7 @@ module _ (p : Plan) (h : ℕ) where
 
     -- Inner: first both lists, then the predicate
     inner-told : Inputs → keysFine p o ≡ true → (on : Expr) (f g : LogicalFacts) → Roomy (f .constraints) → Roomy (g .constraints)
-        → listHere ≡ predicateList p (overridden (f .lineage) (g .lineage)) (bothLists (f .constraints) (g .constraints)) (on .0)
+        → listHere ≡ predicateList p (overridden (f .lineage) (g .lineage)) (jointList (f .constraints) (g .constraints)) (on .0)
         → Told p h (given (fitted (numbered h) (inputsMerged f g true)) (λ m. fitted (numbered h) (filtered p on m)))
     unfolding inputsMerged given
     inner-told up y on f g rf rg e = go (merge-kept (f .constraints) (g .constraints) rf rg)
@@ -138,7 +138,7 @@ module _ (p : Plan) (h : ℕ) where
         both t = given (fitted (numbered h) (cond t (record { facts = f; outcome = O.Residuals }) (record { facts = m; outcome = O.Accepted })))
             (λ m. fitted (numbered h) (filtered p on m))
 
-        go : Kept a (bothLists (f .constraints) (g .constraints)) → Told p h (both (a .refused))
+        go : Kept a (jointList (f .constraints) (g .constraints)) → Told p h (both (a .refused))
         go (inl k) =
             subst (λ (t : Bool). Told p h (both t)) (sym (k .0))
             (filter-told up y on m
@@ -152,7 +152,7 @@ module _ (p : Plan) (h : ℕ) where
             (omega (
               arith,
               k .1,
-              list-grows (conjunctRecorded (overridden (f .lineage) (g .lineage)) (nodeAt p)) (bothLists (f .constraints) (g .constraints))
+              list-grows (conjunctRecorded (overridden (f .lineage) (g .lineage)) (nodeAt p)) (jointList (f .constraints) (g .constraints))
                   (conjunctsOf (nodeAt p) (p .items .a) (on .0)),
             ))))
 

@@ -10,7 +10,7 @@ use lib.ListN.{getD, set, length, length-set}
 use borrow.Author.Tests.{ltb-true}
 use Rattle.constraint_spec.specs.Sets.{handles, withResiduals, emptySet, stepsTo, hasHandle, roomFor, pushResidual, done, normalized, mergeResidual, mergeResiduals}
 use Rattle.constraint_spec.specs.Sets.{mergeValues, mergedSet, roomTo, mergeRoom, mergeFrom}
-use Rattle.constraint_spec.specs.Room.{listed, pushed, pushTo}
+use Rattle.constraint_spec.specs.Room.{listed, pushed, pushTo, jointList}
 use Rattle.constraint_spec.specs.declared.ConstraintSet.{ConstraintSet}
 use Rattle.constraint_spec.specs.declared.Applied.{Applied}
 use Rattle.constraint_spec.proofs.RoomLaws.{SameList, same-normalized, same-listed, same-values, pushed-grows, length-listed, room-noted, room-full, Fits}
@@ -23,7 +23,7 @@ use Rattle.apply_spec.specs.Apply.{conjunctApplied, allApplied}
 use Rattle.apply_spec.specs.Entries.{predicateApplied}
 use Rattle.apply_spec.specs.Wanted.{conjunctRecorded, wantedBy}
 use Rattle.apply_spec.proofs.Refusals.{Roomy, Leaves, conjunct-leaves}
-use Rattle.derive_spec.specs.Residuals.{predicateList, bothLists}
+use Rattle.derive_spec.specs.Residuals.{predicateList}
 
 -- ---- sets with 64 places for residuals, of which they use no more
 roomy-same : (s t : ConstraintSet) → SameList s t → Roomy s → Roomy t
@@ -141,7 +141,7 @@ module _ (b t : ConstraintSet) (r : Roomy t) where
       go (inr m) = inr (ap (λ (x : Bool). x && roomFor u h) (m .0), omega (arith, m .1, pushed-grows w h))
 
 -- two sets are refused exactly where the joint list would pass 64, and else the list is that one
-pub merge-kept : (a b : ConstraintSet) → Roomy a → Roomy b → Kept (mergeFrom a b) (bothLists a b)
+pub merge-kept : (a b : ConstraintSet) → Roomy a → Roomy b → Kept (mergeFrom a b) (jointList a b)
 unfolding mergeRoom mergedSet mergeResiduals
 merge-kept a b ra rb = go (merged-to b t rt n)
   where
@@ -160,14 +160,14 @@ merge-kept a b ra rb = go (merged-to b t rt n)
     u : ConstraintSet
     u = stepsTo (mergeResidual (handles b)) n t
 
-    e : pushTo (listed t) (handles b) n ≡ bothLists a b
+    e : pushTo (listed t) (handles b) n ≡ jointList a b
     e = ap₂ (λ (l : List ℕ) (k : ℕ). pushTo l (handles b) k) (same-listed a t (same-values b a)) few
 
     go : ((roomTo t (handles b) n ≡ true) × (listed u ≡ pushTo (listed t) (handles b) n) × (length (pushTo (listed t) (handles b) n) ≤ 64))
         ⊎ ((roomTo t (handles b) n ≡ false) × (64 < length (pushTo (listed t) (handles b) n)))
-        → Kept (mergeFrom a b) (bothLists a b)
+        → Kept (mergeFrom a b) (jointList a b)
     go (inl m) =
-        subst (λ (x : Applied). Kept x (bothLists a b)) (sym (merge-done a b (m .0)))
+        subst (λ (x : Applied). Kept x (jointList a b)) (sym (merge-done a b (m .0)))
         (inl (
           refl,
           roomy-same u (normalized u) (same-normalized u) (after-roomy b t rt n),
@@ -176,4 +176,4 @@ merge-kept a b ra rb = go (merged-to b t rt n)
               (λ (l : List ℕ). length l ≤ 64) e (m .2),
         ))
     go (inr m) =
-        subst (λ (x : Applied). Kept x (bothLists a b)) (sym (merge-refused a b (m .0))) (inr (refl, subst (λ (l : List ℕ). 64 < length l) e (m .1)))
+        subst (λ (x : Applied). Kept x (jointList a b)) (sym (merge-refused a b (m .0))) (inr (refl, subst (λ (l : List ℕ). 64 < length l) e (m .1)))

@@ -8,6 +8,7 @@ use native.Mathlib.Omega.{arith}
 use lib.Dec.{ltb}
 use lib.ListN.{getD, set}
 use lib.Seq.{getD-set-other}
+use Rattle.laws.proofs.Bools.{cond-T-elim}
 use Rattle.scalar.specs.Scalars.{scalarToF64}
 use Rattle.scalar.specs.declared.Number.{Number}
 use Rattle.scalar.specs.declared.Number.the-variants.{Of, Nothing}
@@ -21,7 +22,7 @@ use Rattle.constraint_spec.specs.Sets.{rangedBy, addRange, hasHandle, roomFor, 
 use Rattle.constraint_spec.specs.Sets.{mergeResidual, mergeResiduals, mergeValues, mergedSet, mergeRoom, mergeFrom}
 use Rattle.constraint_spec.specs.declared.ConstraintSet.{ConstraintSet}
 use Rattle.constraint_spec.specs.declared.Applied.{Applied}
-use Rattle.constraint_spec.proofs.Steps.{steps-good, pick-has}
+use Rattle.constraint_spec.proofs.Steps.{steps-good}
 use Rattle.constraint_spec.proofs.Beside.{Beside, beside-self, beside-flag, addNonNull-beside, addLiteral-beside, addBound-beside}
 use Rattle.constraint_spec.proofs.Empty.{empty-good}
 use Rattle.constraint_spec.proofs.RoomLaws.{SameList, beside-same, same-union, same-normalized, same-values}
@@ -69,7 +70,7 @@ module _ (ne : ℕ) where
   unfolding pushResidual
   below-push s h l b =
       let u = withResiduals s (set (handles s) (s .residuals) h) (s .residuals + 1) in
-      pick-has (Below ne) (hasHandle s h) s (cond (ltb (s .residuals) 64) u s) (λ t. b) (pick-has (Below ne) (ltb (s .residuals) 64) u s (λ t. more) b)
+      cond-T-elim (Below ne) (hasHandle s h) s (cond (ltb (s .residuals) 64) u s) (λ t. b) (cond-T-elim (Below ne) (ltb (s .residuals) 64) u s (λ t. more) b)
     where
       more : (k : ℕ) → k < s .residuals + 1 → getD (set (handles s) (s .residuals) h) k 0 < ne
       more k m = elim (ℕ-discrete k (s .residuals)) [
@@ -96,7 +97,7 @@ module _ (ne : ℕ) where
   module _ (h : ℕ) (hl : h < ne) where
     residual : (s : ConstraintSet) → RightSet ne s → Kept (addResidual s h)
     unfolding addResidual
-    residual s r = pick-has Kept (roomFor s h) (done (pushResidual s h)) (refusedWith s) (λ t. right-push s h hl r) r
+    residual s r = cond-T-elim Kept (roomFor s h) (done (pushResidual s h)) (refusedWith s) (λ t. right-push s h hl r) r
 
   module _ (h : ℕ) (hl : h < ne) (s : ConstraintSet) (r : RightSet ne s) where
     flagged : Kept (done (withFlag s true))
@@ -109,7 +110,7 @@ module _ (ne : ℕ) where
     bounded i op Nothing = residual h hl s r
     bounded i op (Of x) =
         let q = right-beside s (addBound s i op x) (addBound-beside s i op x) r in
-        pick-has Kept (bounding op) (done (addBound s i op x)) (addResidual (addBound s i op x) h) (λ t. q) (residual h hl (addBound s i op x) q)
+        cond-T-elim Kept (bounding op) (done (addBound s i op x)) (addResidual (addBound s i op x) h) (λ t. q) (residual h hl (addBound s i op x) q)
 
     -- an operand that is an identity is one of the 128
     abbrev Small : Seen → Type 0
@@ -154,7 +155,7 @@ module _ (ne : ℕ) where
     comparison : (op : BinaryOp) (a b : Seen) → Small a → Small b → Kept (comparisonApplied s h op a b)
     unfolding comparisonApplied
     comparison op a b x y =
-        pick-has Kept (ordinary op && (isNullLiteral a || isNullLiteral b)) (done (withFlag s true)) (operandsApplied s h op a b) (λ t. flagged)
+        cond-T-elim Kept (ordinary op && (isNullLiteral a || isNullLiteral b)) (done (withFlag s true)) (operandsApplied s h op a b) (λ t. flagged)
         (operands op a b x y)
 
     constant : (v : ScalarValue) → Kept (literalApplied s h v)
@@ -169,7 +170,7 @@ module _ (ne : ℕ) where
     module _ (lineage : List ℕ) (small : Within lineage) (node : ℕ → ExprData) where
       seen-small : (x : ExprData) → Small (seenOf lineage x)
       seen-small (Literal v) = tt
-      seen-small (ColumnRef c) = pick-has Small (hasLineage lineage (c .0)) (Identity (identityOf lineage (c .0))) Unseen (small (c .0)) tt
+      seen-small (ColumnRef c) = cond-T-elim Small (hasLineage lineage (c .0)) (Identity (identityOf lineage (c .0))) Unseen (small (c .0)) tt
       seen-small (Unary op e) = tt
       seen-small (Binary op a b) = tt
       seen-small (Nary op a) = tt
@@ -193,14 +194,14 @@ module _ (ne : ℕ) where
     conjuncts-right [] q a r = r
     conjuncts-right (h ∷ hs) q a r =
         conjuncts-right hs (q .1) (cond (a .refused) a (conjunctApplied lineage node (a .constraints) h))
-        (pick-has Kept (a .refused) a (conjunctApplied lineage node (a .constraints) h) (λ t. r)
+        (cond-T-elim Kept (a .refused) a (conjunctApplied lineage node (a .constraints) h) (λ t. r)
         (conjunct-right h (q .0) (a .constraints) r lineage small node))
 
   -- ---- a merge of two such sets
   pub merge-right : (a b : ConstraintSet) → RightSet ne a → RightSet ne b → RightSet ne (mergeFrom a b .constraints)
   unfolding mergeFrom mergedSet mergeResiduals
   merge-right a b ra rb =
-      pick-has Kept (mergeRoom a b) (done (mergedSet a b)) (refusedWith a)
+      cond-T-elim Kept (mergeRoom a b) (done (mergedSet a b)) (refusedWith a)
       (λ t. record { rules = ruled-merged a b (ra .rules); below = below-same pushed (normalized pushed) (same-normalized pushed) pushed-below }) ra
     where
       n : ℕ

@@ -5,18 +5,13 @@ use mathlib.Core.Bool.{Bool, cond, _&&_}
 use mathlib.Core.List.{List, [], _∷_, _++_}
 use lib.Dec.{ltb}
 use lib.ListN.{getD}
-use Rattle.plan.specs.Records.{operatorRecord, operatorStart}
 use Rattle.plan.specs.declared.Plan.{Plan}
 use Rattle.plan_rules.specs.Rules.{planOk}
-use Rattle.plan_data.specs.Nodes.{operatorData}
-use Rattle.plan_data.specs.declared.OperatorData.{OperatorData}
+use Rattle.plan_data.specs.Nodes.{operatorAt}
 use Rattle.plan_identities.specs.Identities.{identitiesOf}
 use Rattle.derive_spec.specs.Operators.{refused, operatorDerived, outerOf, innerOf}
 use Rattle.derive_spec.specs.declared.DeriveOutcome.the-variants.{NoSuch}
 use Rattle.derive_spec.specs.declared.DeriveAnswer.{DeriveAnswer}
-
-abbrev pub operatorAt : Plan → ℕ → OperatorData
-operatorAt p h = operatorData (operatorRecord p h) (operatorStart p h)
 
 -- what is read of an input that does not stand before its operator, which no plan that keeps the rules has
 abbrev pub missing : DeriveAnswer

@@ -5,11 +5,9 @@ use mathlib.Core.Bool.{Bool, true}
 use mathlib.Core.List.{List, []}
 use mathlib.Core.Path.{_≡_}
 use mathlib.Core.Logic.{_⊎_}
-use Rattle.constraint_spec.specs.Sets.{handles}
-use Rattle.constraint_spec.specs.Room.{listed, pushTo}
-use Rattle.constraint_spec.specs.declared.ConstraintSet.{ConstraintSet}
+use Rattle.constraint_spec.specs.Room.{listed, jointList}
 use Rattle.plan.specs.declared.Plan.{Plan}
-use Rattle.plan_data.specs.Nodes.{nodeAt}
+use Rattle.plan_data.specs.Nodes.{nodeAt, operatorAt}
 use Rattle.plan_data.specs.declared.JoinType.{JoinType}
 use Rattle.plan_data.specs.declared.JoinType.the-variants.{Inner, LeftSemi, LeftAnti, LeftOuter, Single, RightOuter, FullOuter, LeftMark}
 use Rattle.plan_data.specs.declared.OperatorData.{OperatorData}
@@ -21,19 +19,15 @@ use Rattle.apply_spec.specs.Wanted.{conjunctRecorded, wantedBy}
 use Rattle.apply_spec.specs.declared.LogicalFacts.{LogicalFacts}
 use Rattle.derive_spec.specs.Columns.{keysOk}
 use Rattle.derive_spec.specs.Operators.{outerOf, innerOf}
-use Rattle.derive_spec.specs.Deriving.{operatorAt, answerOf}
+use Rattle.derive_spec.specs.Deriving.{answerOf}
 
 -- the list l after the predicate e
 abbrev pub predicateList : Plan → List ℕ → List ℕ → ℕ → List ℕ
 predicateList p lineage l e = wantedBy (conjunctRecorded lineage (nodeAt p)) l (conjunctsOf (nodeAt p) (p .items .a) e)
 
--- the list of both sets
-abbrev pub bothLists : ConstraintSet → ConstraintSet → List ℕ
-bothLists a b = pushTo (listed a) (handles b) (b .residuals)
-
 -- a join of f and g on the predicate e: only Inner adds to a list
 abbrev pub joinList : Plan → LogicalFacts → LogicalFacts → ℕ → JoinType → List ℕ
-joinList p f g e Inner = predicateList p (overridden (f .lineage) (g .lineage)) (bothLists (f .constraints) (g .constraints)) e
+joinList p f g e Inner = predicateList p (overridden (f .lineage) (g .lineage)) (jointList (f .constraints) (g .constraints)) e
 joinList p f g e LeftSemi = []
 joinList p f g e LeftAnti = []
 joinList p f g e LeftOuter = []
@@ -55,7 +49,7 @@ operatorList p f g (Aggregation input keys aggregates) = []
 operatorList p f g (Sort input keys) = []
 operatorList p f g (Limit input) = []
 operatorList p f g (Output input) = []
-operatorList p f g (CrossProduct outer inner) = bothLists (f .constraints) (g .constraints)
+operatorList p f g (CrossProduct outer inner) = jointList (f .constraints) (g .constraints)
 operatorList p f g (Join joinType on outer inner) = joinList p f g (on .0) joinType
 
 -- the residual list of the operator h

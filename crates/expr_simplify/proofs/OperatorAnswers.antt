@@ -1,6 +1,6 @@
 -- The ways of the functions over an operator, one by one, over their definitions. Assumes nothing.
 use mathlib.Core.Path.{_≡_, refl, sym, ap, ap₂, fun-ext, _∙_}
-use mathlib.Core.Bool.{Bool, true, false, not, cond, _&&_}
+use mathlib.Core.Bool.{Bool, true, false, not, cond, _&&_, and-false}
 use mathlib.Core.List.{List}
 use Prim.Native.Nat.{ℕ, _+_, _<_, _≤_}
 use native.Mathlib.Omega.{arith}
@@ -8,7 +8,7 @@ use native.Mathlib.Numerals.{add-one}
 use lib.Dec.{ltb, leb, eqb}
 use lib.ListN.{getD, set}
 use borrow.Author.Tests.{not-true, not-false, eqb-true, ltb-true, leb-true, lt-leb, lt-ltb, le-ltb}
-use Rattle.lists.proofs.RangeLaws.{and-left, and-right}
+use Rattle.laws.proofs.Bools.{and-left, and-right, cond-elim}
 use Rattle.plan_kinds.specs.declared.Record.{Record}
 use Rattle.plan.specs.declared.Plan.{Plan}
 use Rattle.plan.specs.declared.Items.{Items}
@@ -17,11 +17,11 @@ use Rattle.plan.specs.declared.Appended.{Appended}
 use Rattle.plan.specs.Append.{appendOperator, noRoom, addedAt, withOperator}
 use Rattle.plan.specs.Records.{operatorRecord, operatorStart}
 use Rattle.plan_rules.specs.Rules.{planOk}
-use Rattle.plan_data.specs.Nodes.{operatorData, recordOfOperator}
+use Rattle.plan_data.specs.Nodes.{operatorData, recordOfOperator, operatorAt}
 use Rattle.plan_data.specs.declared.OperatorData.{OperatorData}
 use Rattle.simplify_spec.specs.Shapes.{isLiteral}
 use Rattle.simplify_spec.specs.OneExpression.{shapeIn, enterOf, simplifyAt}
-use Rattle.simplify_spec.specs.OneOperator.{operatorAt, heldOf, heldCount, heldAt, eachWith, eachTo, itemCount, itemFirst, itemSecond, writeAll}
+use Rattle.simplify_spec.specs.OneOperator.{heldOf, heldCount, heldAt, eachWith, eachTo, itemCount, itemFirst, itemSecond, writeAll}
 use Rattle.simplify_spec.specs.OneOperator.{withList, rebuiltOf, planWith, planAdded, answered, operatorHandle, addOperator, inputOr, rewriteOf}
 use Rattle.simplify_spec.specs.OneOperator.{startOf, eachOf, simplifyOf}
 use Rattle.simplify_spec.specs.declared.Tables.{Tables}
@@ -166,21 +166,21 @@ module _ (p : Plan) (st : Tables) (d : OperatorData) (held : Held) (at : ℕ →
       go : addOperator p st d held at ≡ inputOr p st d held at (operatorData x start)
       go =
           let k = x .kind in
-          choose P (eqb k 0x30) _ _ (λ t. refl)
-          (λ t. choose P (eqb k 0x31) _ _ (λ t. refl)
-          (λ t. choose P (eqb k 0x32) _ _ (λ t. refl)
-          (λ t. choose P (eqb k 0x33) _ _
+          cond-elim P (eqb k 0x30) _ _ (λ t. refl)
+          (λ t. cond-elim P (eqb k 0x31) _ _ (λ t. refl)
+          (λ t. cond-elim P (eqb k 0x32) _ _ (λ t. refl)
+          (λ t. cond-elim P (eqb k 0x33) _ _
           (λ t. (λ j. cond (sym (off t) j) (answered (planWith p st) (Replace (operatorHandle (x .b)))) (addOperator p st d held at)))
-          (λ t. choose P (eqb k 0x34) _ _ (λ t. refl)
-          (λ t. choose P (eqb k 0x35) _ _ (λ t. refl)
-          (λ t. choose P (eqb k 0x36) _ _ (λ t. refl)
-          (λ t. choose P (eqb k 0x37) _ _ (λ t. refl)
-          (λ t. choose P (eqb k 0x38) _ _ (λ t. refl)
-          (λ t. choose P (eqb k 0x39) _ _ (λ t. refl)
-          (λ t. choose P (eqb k 0x3A) _ _ (λ t. refl)
-          (λ t. choose P (eqb k 0x3B) _ _ (λ t. refl)
-          (λ t. choose P (eqb k 0x3C) _ _ (λ t. refl)
-          (λ t. choose P (eqb k 0x3D) _ _ (λ t. refl) (λ t. refl))))))))))))))
+          (λ t. cond-elim P (eqb k 0x34) _ _ (λ t. refl)
+          (λ t. cond-elim P (eqb k 0x35) _ _ (λ t. refl)
+          (λ t. cond-elim P (eqb k 0x36) _ _ (λ t. refl)
+          (λ t. cond-elim P (eqb k 0x37) _ _ (λ t. refl)
+          (λ t. cond-elim P (eqb k 0x38) _ _ (λ t. refl)
+          (λ t. cond-elim P (eqb k 0x39) _ _ (λ t. refl)
+          (λ t. cond-elim P (eqb k 0x3A) _ _ (λ t. refl)
+          (λ t. cond-elim P (eqb k 0x3B) _ _ (λ t. refl)
+          (λ t. cond-elim P (eqb k 0x3C) _ _ (λ t. refl)
+          (λ t. cond-elim P (eqb k 0x3D) _ _ (λ t. refl) (λ t. refl))))))))))))))
 
 -- ---- the answer
 module _ (p : Plan) (d : OperatorData) (r : Each) (er : r ≡ eachOf p d) where
@@ -208,10 +208,6 @@ pub each-held : (p : Plan) (d : OperatorData) (held : Held) → held ≡ heldOf 
     (startOf p) (heldCount held) → r ≡ eachOf p d
 each-held p d held eh r er = er ∙ ap (λ (h : Held). eachTo (p .expressions .count) (heldAt (p .items) h) (startOf p) (heldCount h)) eh
 
-and-none : (a : Bool) → a && false ≡ false
-and-none true = refl
-and-none false = refl
-
 module _ (p : Plan) (o : Operator) (ok : Bool) (eo : ok ≡ planOk p) where
   abbrev whole : Rewritten
   whole = rewriteOf p (operatorAt p (o .0)) (eachOf p (operatorAt p (o .0)))
@@ -223,7 +219,7 @@ module _ (p : Plan) (o : Operator) (ok : Bool) (eo : ok ≡ planOk p) where
   pub simplify-none : p .operators .count ≤ o .0 → (w : Rewritten) → w ≡ answered p NoSuch → w ≡ simplifyOf p o
   unfolding simplifyOf
   simplify-none le w ew =
-      ew ∙ (λ j. cond (sym (ap (λ (b : Bool). planOk p && b) (le-ltb (o .0) (p .operators .count) le) ∙ and-none (planOk p)) j) whole (answered p NoSuch))
+      ew ∙ (λ j. cond (sym (ap (λ (b : Bool). planOk p && b) (le-ltb (o .0) (p .operators .count) le) ∙ and-false (planOk p)) j) whole (answered p NoSuch))
 
   pub simplify-some : ok ≡ true → o .0 < p .operators .count → (x : Record) → x ≡ operatorRecord p (o .0) → (start : ℕ) → start ≡ operatorStart p (o .0)
       → (w : Rewritten) → w ≡ rewriteOf p (operatorData x start) (eachOf p (operatorData x start)) → w ≡ simplifyOf p o

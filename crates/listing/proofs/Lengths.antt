@@ -9,8 +9,9 @@ use native.Mathlib.Omega.{arith}
 use borrow.Author.Tests.{lt-ltb, le-ltb, le-leb, lt-leb, eq-eqb, ne-eqb, ltb-true}
 use lib.Dec.{ltb, leb, eqb}
 use lib.ListN.{getD, length, length-append}
+use Rattle.laws.proofs.Bools.{and-left, and-right, cond-one-le}
 use Rattle.lists.specs.Ranges.{allFrom, countFrom}
-use Rattle.lists.proofs.RangeLaws.{and-left, and-right, table}
+use Rattle.lists.proofs.RangeLaws.{table, count-last}
 use Rattle.plan.specs.declared.Plan.{Plan}
 use Rattle.plan_rules.specs.Rules.{planOk}
 use Rattle.plan_rules.proofs.RuleLaws.{rules}
@@ -57,11 +58,6 @@ sum-both f g h zero e = omega arith
 sum-both f g h (suc n) e = omega (arith, sum-both f g h n e, e n)
 
 -- ---- classes: every identity is a member of one at the most
-count-last : (f : ℕ → Bool) (n i : ℕ) → countFrom f i (suc n) ≡ countFrom f i n + cond (f (i + n)) 1 0
-unfolding countFrom
-count-last f zero i = let e : i + 0 ≡ i = omega arith in rw e (omega arith)
-count-last f (suc n) i = let e : i + suc n ≡ suc i + n = omega arith in rw e (omega (arith, count-last f n (suc i)))
-
 one-root : (x n : ℕ) → sumTo (λ (r : ℕ). cond (eqb x r) 1 0) n ≡ cond (ltb x n) 1 0
 unfolding sumTo
 one-root x zero = rw (le-ltb x 0 (omega arith))
@@ -73,10 +69,6 @@ one-root x (suc n) =
         | no k ↦ rw (one-root x n, le-ltb x n (omega arith), le-ltb x (suc n) (omega arith), ne-eqb x n (λ e. absurd (omega (arith, e)))) (omega arith)
       ]
     ]
-
-at-most-one : (b : Bool) → cond b 1 0 ≤ 1
-at-most-one true = omega arith
-at-most-one false = omega arith
 
 sum-none : (g : ℕ → ℕ) (n : ℕ) → ((k : ℕ) → g k ≡ 0) → sumTo g n ≡ 0
 unfolding sumTo
@@ -93,7 +85,7 @@ all-members root m (suc n) =
       sum-both (λ (r : ℕ). countFrom (λ (i : ℕ). eqb (root i) r) 0 n) (λ (r : ℕ). cond (eqb (root (0 + n)) r) 1 0)
           (λ (r : ℕ). countFrom (λ (i : ℕ). eqb (root i) r) 0 (suc n)) m (λ r. count-last (λ (i : ℕ). eqb (root i) r) n 0),
       one-root (root (0 + n)) m,
-      at-most-one (ltb (root (0 + n)) m),
+      cond-one-le (ltb (root (0 + n)) m),
       all-members root m n,
     )
 

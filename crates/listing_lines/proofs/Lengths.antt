@@ -110,13 +110,13 @@ bound-length b = go (b .present) (b .inclusive)
 
 -- ---- lines
 -- what stands in a list or not
-choice : (b : Bool) (x : List ℕ) (n : ℕ) → length x ≤ n → length (cond b x []) ≤ n
-choice true x n l = l
-choice false x n l = omega arith
+length-cond-then : (b : Bool) (x : List ℕ) (n : ℕ) → length x ≤ n → length (cond b x []) ≤ n
+length-cond-then true x n l = l
+length-cond-then false x n l = omega arith
 
-other : (b : Bool) (x : List ℕ) (n : ℕ) → length x ≤ n → length (cond b [] x) ≤ n
-other true x n l = omega arith
-other false x n l = l
+length-cond-else : (b : Bool) (x : List ℕ) (n : ℕ) → length x ≤ n → length (cond b [] x) ≤ n
+length-cond-else true x n l = omega arith
+length-cond-else false x n l = l
 
 -- of an operator whose number has d + 1 digits
 pub header-length : (d h : ℕ) (b : Bool) → h < 10 ^ suc d → length (headerLine h b) ≤ 10 + d
@@ -130,7 +130,7 @@ header-length d h b l = go b
 pub column-length : (ids : Identities) (k c v : ℕ) → c < 64 → v < 65 + 10 ^ suc (suc k) → length (columnLine ids c v) ≤ 14 + k
 unfolding columnLine
 column-length ids k c v lc lv =
-    other (eqb v 0) _ (14 + k)
+    length-cond-else (eqb v 0) _ (14 + k)
     (omega (
       arith,
       length-append (decimalOf c) (32 ∷ [] ++ (nameText ids (v - 1) ++ (10 ∷ []))),
@@ -142,7 +142,7 @@ column-length ids k c v lc lv =
 pub define-length : (e c d : ℕ) → c < 64 → d < 10 ^ suc e → length (defineLine c d) ≤ 13 + e
 unfolding defineLine
 define-length e c d lc ld =
-    other (eqb d 0) _ (13 + e)
+    length-cond-else (eqb d 0) _ (13 + e)
     (omega (
       arith,
       length-append (decimalOf c) (32 ∷ 101 ∷ [] ++ (decimalOf (d - 1) ++ (10 ∷ []))),
@@ -164,12 +164,12 @@ member-length ids root r i l = go (eqb root r)
 
 pub nonnull-length : (ids : Identities) (i : ℕ) (b : Bool) → i < 128 → length (nonnullLine ids i b) ≤ 12
 unfolding nonnullLine
-nonnull-length ids i b l = choice b _ 12 (omega (arith, length-append (nameText ids i) (10 ∷ []), name-3 ids i l))
+nonnull-length ids i b l = length-cond-then b _ 12 (omega (arith, length-append (nameText ids i) (10 ∷ []), name-3 ids i l))
 
 pub literal-length : (ids : Identities) (i : ℕ) (h : Holder) → i < 128 → Typed (h .value) → length (literalLine ids i h) ≤ 37
 unfolding literalLine
 literal-length ids i h l t =
-    choice (h .present) _ 37
+    length-cond-then (h .present) _ 37
     (omega (
       arith,
       length-append (nameText ids i) (valueText (h .value) ++ (10 ∷ [])),
@@ -181,7 +181,7 @@ literal-length ids i h l t =
 pub range-length : (ids : Identities) (i : ℕ) (e : Entry) → i < 128 → length (rangeLine ids i e) ≤ 46
 unfolding rangeLine
 range-length ids i e l =
-    choice (e .present) _ 46
+    length-cond-then (e .present) _ 46
     (omega (
       arith,
       length-append (nameText ids i) (32 ∷ [] ++ (boundText (e .range .lower) ++ (32 ∷ [] ++ (boundText (e .range .upper) ++ (10 ∷ []))))),

@@ -5,21 +5,13 @@ use mathlib.Core.Logic.{_⊎_, inl, inr, ⊎-elim}
 use lib.Dec.{ltb}
 use borrow.Author.Tests.{ltb-true, ltb-false}
 use Prim.Native.Nat.{ℕ, zero, suc, _+_, _-_, _<_, _≤_}
-use native.Mathlib.Nat.{eq-or-lt-of-le}
+use native.Mathlib.Nat.{eq-or-lt-of-le, sub-eq-zero-of-le}
 use native.Mathlib.Omega.{arith}
 use native.Mathlib.Numerals.{add-one}
+use native.Mathlib.Decide.{ℕ-discrete}
+use Rattle.laws.proofs.Bools.{and-left, and-right, and-both, cond-one-le, or-inr}
+use Rattle.laws.proofs.Numbers.{sub-suc-of-lt}
 use Rattle.lists.specs.Ranges.{allFrom, anyFrom, countFrom}
-
-pub and-left : (a b : Bool) → (a && b) ≡ true → a ≡ true
-and-left true b e = refl
-and-left false b e = e
-
-pub and-right : (a b : Bool) → (a && b) ≡ true → b ≡ true
-and-right true b e = e
-and-right false b e = cc
-
-pub and-both : (a b : Bool) → a ≡ true → b ≡ true → (a && b) ≡ true
-and-both a b p q = rw (p, q)
 
 -- a number is below another or not
 pub below-or-not : (i n : ℕ) → (i < n) ⊎ (n ≤ i)
@@ -52,13 +44,6 @@ table f n e j h = all-at f n 0 e j (omega arith) (omega arith)
 pub grid : (f : ℕ → ℕ → Bool) (n m : ℕ) → allFrom (λ (i : ℕ). allFrom (f i) 0 m) 0 n ≡ true → (i j : ℕ) → i < n → j < m → f i j ≡ true
 grid f n m e i j hi hj = table (f i) m (table (λ (k : ℕ). allFrom (f k) 0 m) n e i hi) j hj
 
--- what is left of a run from i up to e
-left-one : (i e : ℕ) → i < e → e - i ≡ suc (e - (i + 1))
-left-one i e lt = omega arith
-
-left-none : (i e : ℕ) → e ≤ i → e - i ≡ 0
-left-none i e le = omega arith
-
 -- a run from i, of n places, ends at i + n
 pub run-whole : (i n : ℕ) → n ≡ i + n - i
 run-whole i n = omega arith
@@ -69,11 +54,11 @@ run-start g n = let e : n - 0 ≡ n = omega arith in rw e (omega arith)
 
 pub all-step : (f : ℕ → Bool) (i e : ℕ) → i < e → allFrom f i (e - i) ≡ (f i && allFrom f (i + 1) (e - (i + 1)))
 unfolding allFrom
-all-step f i e lt = rw (left-one i e lt, add-one)
+all-step f i e lt = rw (sub-suc-of-lt i e lt, add-one)
 
 pub all-done : (f : ℕ → Bool) (i e : ℕ) → e ≤ i → allFrom f i (e - i) ≡ true
 unfolding allFrom
-all-done f i e le = rw (left-none i e le)
+all-done f i e le = rw (sub-eq-zero-of-le le)
 
 pub all-fails : (f : ℕ → Bool) (i e : ℕ) → i < e → f i ≡ false → allFrom f i (e - i) ≡ false
 all-fails f i e lt q = rw (all-step f i e lt, q)
@@ -83,11 +68,11 @@ all-passes f i e lt q = rw (all-step f i e lt, q)
 
 pub any-step : (f : ℕ → Bool) (i e : ℕ) → i < e → anyFrom f i (e - i) ≡ (f i || anyFrom f (i + 1) (e - (i + 1)))
 unfolding anyFrom
-any-step f i e lt = rw (left-one i e lt, add-one)
+any-step f i e lt = rw (sub-suc-of-lt i e lt, add-one)
 
 pub any-done : (f : ℕ → Bool) (i e : ℕ) → e ≤ i → anyFrom f i (e - i) ≡ false
 unfolding anyFrom
-any-done f i e le = rw (left-none i e le)
+any-done f i e le = rw (sub-eq-zero-of-le le)
 
 pub any-found : (f : ℕ → Bool) (i e : ℕ) → i < e → f i ≡ true → anyFrom f i (e - i) ≡ true
 any-found f i e lt q = rw (any-step f i e lt, q)
@@ -97,11 +82,11 @@ any-missed f i e lt q = rw (any-step f i e lt, q)
 
 pub count-step : (f : ℕ → Bool) (i e : ℕ) → i < e → countFrom f i (e - i) ≡ cond (f i) 1 0 + countFrom f (i + 1) (e - (i + 1))
 unfolding countFrom
-count-step f i e lt = rw (left-one i e lt, add-one)
+count-step f i e lt = rw (sub-suc-of-lt i e lt, add-one)
 
 pub count-done : (f : ℕ → Bool) (i e : ℕ) → e ≤ i → countFrom f i (e - i) ≡ 0
 unfolding countFrom
-count-done f i e le = rw (left-none i e le)
+count-done f i e le = rw (sub-eq-zero-of-le le)
 
 pub count-found : (f : ℕ → Bool) (i e : ℕ) → i < e → f i ≡ true → countFrom f i (e - i) ≡ 1 + countFrom f (i + 1) (e - (i + 1))
 count-found f i e lt q = rw (count-step f i e lt, q)
@@ -109,15 +94,11 @@ count-found f i e lt q = rw (count-step f i e lt, q)
 pub count-missed : (f : ℕ → Bool) (i e : ℕ) → i < e → f i ≡ false → countFrom f i (e - i) ≡ countFrom f (i + 1) (e - (i + 1))
 count-missed f i e lt q = rw (count-step f i e lt, q) (omega arith)
 
-one-or-none : (b : Bool) → cond b 1 0 ≤ 1
-one-or-none true = omega arith
-one-or-none false = omega arith
-
 -- no more places pass than there are
 pub count-most : (f : ℕ → Bool) (n i : ℕ) → countFrom f i n ≤ n
 unfolding countFrom
 count-most f zero i = omega arith
-count-most f (suc n) i = omega (arith, count-most f n (suc i), one-or-none (f i))
+count-most f (suc n) i = omega (arith, count-most f n (suc i), cond-one-le (f i))
 
 -- what passes one test passes another, where each place says so
 pub all-mono :
@@ -146,3 +127,18 @@ pub count-none : (f : ℕ → Bool) (n i : ℕ) → ((j : ℕ) → i ≤ j → j
 unfolding countFrom
 count-none f zero i h = refl
 count-none f (suc n) i h = rw (h i (omega arith) (omega arith)) (omega (arith, count-none f n (suc i) (λ j lo hi. h j (omega arith) (omega arith))))
+
+-- one place more, at the end
+pub count-last : (f : ℕ → Bool) (n i : ℕ) → countFrom f i (suc n) ≡ countFrom f i n + cond (f (i + n)) 1 0
+unfolding countFrom
+count-last f zero i = let e : i + 0 ≡ i = omega arith in rw e (omega arith)
+count-last f (suc n) i = let e : i + suc n ≡ suc i + n = omega arith in rw e (omega (arith, count-last f n (suc i)))
+
+-- a test that passes at a place passes somewhere
+pub any-of : (f : ℕ → Bool) (n i k : ℕ) → i ≤ k → k < i + n → f k ≡ true → anyFrom f i n ≡ true
+unfolding anyFrom
+any-of f zero i k lo hi e = absurd (omega arith)
+any-of f (suc n) i k lo hi e = elim (ℕ-discrete k i) [
+  | yes q ↦ ap (λ (b : Bool). b || anyFrom f (suc i) n) (subst (λ (j : ℕ). f j ≡ true) q e)
+  | no d ↦ or-inr (f i) (anyFrom f (suc i) n) (any-of f n (suc i) k (omega arith) (omega arith) e)
+]

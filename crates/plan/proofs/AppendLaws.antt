@@ -49,8 +49,8 @@ extends-trans e f =
     }
 
 -- an entry below the count is not touched by a store at the count
-kept : (l : List ℕ) (n i v : ℕ) → i < n → getD (set l n v) i 0 ≡ getD l i 0
-kept l n i v h = getD-set-other l n i v 0 (λ e. omega arith)
+getD-set-before : (l : List ℕ) (n i v : ℕ) → i < n → getD (set l n v) i 0 ≡ getD l i 0
+getD-set-before l n i v h = getD-set-other l n i v 0 (λ e. omega arith)
 
 more : (n : ℕ) → n ≤ n + 1
 more n = omega arith
@@ -70,8 +70,8 @@ column-longer p x =
       items = le-refl _;
       column = λ i h. λ j. record {
         kind = 0x01;
-        code = kept (p .columns .kind) (p .columns .count) i (x .code) h j;
-        a = kept (p .columns .name)
+        code = getD-set-before (p .columns .kind) (p .columns .count) i (x .code) h j;
+        a = getD-set-before (p .columns .name)
             (p .columns .count) i (x .a) h j;
         b = 0;
         c = 0;
@@ -125,17 +125,17 @@ expr-longer p x st =
       items = le-refl _;
       column = λ i h. refl;
       expr = λ i h. λ j. record {
-        kind = kept (p .expressions .kind) (p .expressions .count) i (x .kind) h j;
-        code = kept (p .expressions .code)
+        kind = getD-set-before (p .expressions .kind) (p .expressions .count) i (x .kind) h j;
+        code = getD-set-before (p .expressions .code)
             (p .expressions .count) i (x .code) h j;
-        a = kept (p .expressions .a) (p .expressions .count) i (x .a) h j;
-        b = kept (p .expressions .b)
+        a = getD-set-before (p .expressions .a) (p .expressions .count) i (x .a) h j;
+        b = getD-set-before (p .expressions .b)
             (p .expressions .count) i (x .b) h j;
         c = 0;
         d = 0;
-        bits = kept (p .expressions .bits) (p .expressions .count) i (x .bits) h j;
+        bits = getD-set-before (p .expressions .bits) (p .expressions .count) i (x .bits) h j;
       };
-      expr-start = λ i h. kept (p .expressions .start) (p .expressions .count) i st h;
+      expr-start = λ i h. getD-set-before (p .expressions .start) (p .expressions .count) i st h;
       operator = λ i h. refl;
       operator-start = λ i h. refl;
       item = λ i h. refl;
@@ -183,18 +183,18 @@ operator-longer p x st =
       expr = λ i h. refl;
       expr-start = λ i h. refl;
       operator = λ i h. λ j. record {
-        kind = kept (p .operators .kind) (p .operators .count) i (x .kind) h j;
-        code = kept (p .operators .code)
+        kind = getD-set-before (p .operators .kind) (p .operators .count) i (x .kind) h j;
+        code = getD-set-before (p .operators .code)
             (p .operators .count) i (x .code) h j;
-        a = kept (p .operators .a) (p .operators .count) i (x .a) h j;
-        b = kept (p .operators .b)
+        a = getD-set-before (p .operators .a) (p .operators .count) i (x .a) h j;
+        b = getD-set-before (p .operators .b)
             (p .operators .count) i (x .b) h j;
-        c = kept (p .operators .c) (p .operators .count) i (x .c) h j;
-        d = kept (p .operators .d) (p .operators .count)
+        c = getD-set-before (p .operators .c) (p .operators .count) i (x .c) h j;
+        d = getD-set-before (p .operators .d) (p .operators .count)
             i (x .d) h j;
         bits = 0;
       };
-      operator-start = λ i h. kept (p .operators .start) (p .operators .count) i st h;
+      operator-start = λ i h. getD-set-before (p .operators .start) (p .operators .count) i st h;
       item = λ i h. refl;
     }
 
@@ -244,8 +244,8 @@ item-longer p x =
       item = λ i h. λ j. record {
         kind = 0;
         code = 0;
-        a = kept (p .items .a) (p .items .count) i (x .a) h j;
-        b = kept (p .items .b) (p .items .count) i (x .b)
+        a = getD-set-before (p .items .a) (p .items .count) i (x .a) h j;
+        b = getD-set-before (p .items .b) (p .items .count) i (x .b)
             h j;
         c = 0;
         d = 0;
@@ -289,8 +289,8 @@ unfolding appendItem
 append-item-sized p x s = choice (λ (r : Appended). Sized (r .plan)) (leb 2048 (p .items .count)) _ _ s (item-longer-sized p x s)
 
 -- the new entry reads as what was appended
-new : (l : List ℕ) (n v m : ℕ) → length l ≡ m → n < m → getD (set l n v) n 0 ≡ v
-new l n v m e h = getD-set-same l n v 0 (omega (arith, e))
+getD-set-at : (l : List ℕ) (n v m : ℕ) → length l ≡ m → n < m → getD (set l n v) n 0 ≡ v
+getD-set-at l n v m e h = getD-set-same l n v 0 (omega (arith, e))
 
 pub new-expr :
     (p : Plan) (x : Record) (st : ℕ) → Sized p → p .expressions .count < 1024
@@ -298,17 +298,17 @@ pub new-expr :
 new-expr p x st s h =
     λ j.
     record {
-      kind = new (p .expressions .kind) (p .expressions .count) (x .kind) 1024 (s .expr-kind) h j;
-      code = new (p .expressions .code) (p .expressions .count) (x .code) 1024 (s .expr-code) h j;
-      a = new (p .expressions .a) (p .expressions .count) (x .a) 1024 (s .expr-a) h j;
-      b = new (p .expressions .b) (p .expressions .count) (x .b) 1024 (s .expr-b) h j;
+      kind = getD-set-at (p .expressions .kind) (p .expressions .count) (x .kind) 1024 (s .expr-kind) h j;
+      code = getD-set-at (p .expressions .code) (p .expressions .count) (x .code) 1024 (s .expr-code) h j;
+      a = getD-set-at (p .expressions .a) (p .expressions .count) (x .a) 1024 (s .expr-a) h j;
+      b = getD-set-at (p .expressions .b) (p .expressions .count) (x .b) 1024 (s .expr-b) h j;
       c = 0;
       d = 0;
-      bits = new (p .expressions .bits) (p .expressions .count) (x .bits) 1024 (s .expr-bits) h j;
+      bits = getD-set-at (p .expressions .bits) (p .expressions .count) (x .bits) 1024 (s .expr-bits) h j;
     }
 
 pub new-expr-start : (p : Plan) (x : Record) (st : ℕ) → Sized p → p .expressions .count < 1024 → exprStart (withExpr p x st) (p .expressions .count) ≡ st
-new-expr-start p x st s h = new (p .expressions .start) (p .expressions .count) st 1024 (s .expr-start) h
+new-expr-start p x st s h = getD-set-at (p .expressions .start) (p .expressions .count) st 1024 (s .expr-start) h
 
 pub new-operator :
     (p : Plan) (x : Record) (st : ℕ) → Sized p → p .operators .count < 128
@@ -316,17 +316,17 @@ pub new-operator :
 new-operator p x st s h =
     λ j.
     record {
-      kind = new (p .operators .kind) (p .operators .count) (x .kind) 128 (s .operator-kind) h j;
-      code = new (p .operators .code) (p .operators .count) (x .code) 128 (s .operator-code) h j;
-      a = new (p .operators .a) (p .operators .count) (x .a) 128 (s .operator-a) h j;
-      b = new (p .operators .b) (p .operators .count) (x .b) 128 (s .operator-b) h j;
-      c = new (p .operators .c) (p .operators .count) (x .c) 128 (s .operator-c) h j;
-      d = new (p .operators .d) (p .operators .count) (x .d) 128 (s .operator-d) h j;
+      kind = getD-set-at (p .operators .kind) (p .operators .count) (x .kind) 128 (s .operator-kind) h j;
+      code = getD-set-at (p .operators .code) (p .operators .count) (x .code) 128 (s .operator-code) h j;
+      a = getD-set-at (p .operators .a) (p .operators .count) (x .a) 128 (s .operator-a) h j;
+      b = getD-set-at (p .operators .b) (p .operators .count) (x .b) 128 (s .operator-b) h j;
+      c = getD-set-at (p .operators .c) (p .operators .count) (x .c) 128 (s .operator-c) h j;
+      d = getD-set-at (p .operators .d) (p .operators .count) (x .d) 128 (s .operator-d) h j;
       bits = 0;
     }
 
 pub new-operator-start : (p : Plan) (x : Record) (st : ℕ) → Sized p → p .operators .count < 128 → operatorStart (withOperator p x st) (p .operators .count) ≡ st
-new-operator-start p x st s h = new (p .operators .start) (p .operators .count) st 128 (s .operator-start) h
+new-operator-start p x st s h = getD-set-at (p .operators .start) (p .operators .count) st 128 (s .operator-start) h
 
 pub new-item :
     (p : Plan) (x : Record) → Sized p → p .items .count < 2048
@@ -336,8 +336,8 @@ new-item p x s h =
     record {
       kind = 0;
       code = 0;
-      a = new (p .items .a) (p .items .count) (x .a) 2048 (s .item-a) h j;
-      b = new (p .items .b) (p .items .count) (x .b) 2048 (s .item-b) h j;
+      a = getD-set-at (p .items .a) (p .items .count) (x .a) 2048 (s .item-a) h j;
+      b = getD-set-at (p .items .b) (p .items .count) (x .b) 2048 (s .item-b) h j;
       c = 0;
       d = 0;
       bits = 0;
@@ -350,8 +350,8 @@ new-column p x s h =
     λ j.
     record {
       kind = 0x01;
-      code = new (p .columns .kind) (p .columns .count) (x .code) 64 (s .column-kind) h j;
-      a = new (p .columns .name) (p .columns .count) (x .a) 64 (s .column-name) h j;
+      code = getD-set-at (p .columns .kind) (p .columns .count) (x .code) 64 (s .column-kind) h j;
+      a = getD-set-at (p .columns .name) (p .columns .count) (x .a) 64 (s .column-name) h j;
       b = 0;
       c = 0;
       d = 0;

@@ -8,7 +8,7 @@ use lib.ListN.{getD, take, drop}
 use Rattle.comparison.specs.Operators.{binaryOpCode, binaryOpOf}
 use Rattle.plan_kinds.specs.declared.Record.{Record}
 use Rattle.plan.specs.declared.Plan.{Plan}
-use Rattle.plan.specs.Records.{exprRecordOf}
+use Rattle.plan.specs.Records.{exprRecordOf, operatorRecord, operatorStart}
 use Rattle.scalar.specs.Coded.{caseCode, codeOf, bitsOf, scalarOf}
 use Rattle.plan_data.specs.Codes.{unaryOpCode, unaryOpOf, naryOpCode, naryOpOf, joinTypeCode, joinTypeOf, kindOfJoin, markerOf}
 use Rattle.plan_data.specs.declared.Run.{Run}
@@ -58,6 +58,9 @@ nodeOf kind code a b bits start h = exprData (exprRecordOf kind code a b bits h)
 abbrev pub nodeAt : Plan → ℕ → ExprData
 nodeAt p h =
     nodeOf (p .expressions .kind) (p .expressions .code) (p .expressions .a) (p .expressions .b) (p .expressions .bits) (p .expressions .start) h
+
+abbrev pub operatorAt : Plan → ℕ → OperatorData
+operatorAt p h = operatorData (operatorRecord p h) (operatorStart p h)
 
 -- the operands of a run of items
 abbrev pub operandsOf : List ℕ → Run → List ℕ

@@ -1,17 +1,18 @@
 -- Reading ends within as many steps as there are bytes; an accepted file was read to its end; a refusal has one of the numbers 1 to 5, a place
 -- in the file, and the empty plan. Assumes nothing.
 use Prim.Native.Nat.{ℕ, zero, suc, _+_, _-_, _*_, _≤_, _<_}
-use mathlib.Core.Path.{_≡_, refl, sym, ap, _∙_, subst}
-use mathlib.Core.Bool.{Bool, true, false, cond, _&&_, _||_, not}
+use mathlib.Core.Path.{_≡_, refl, sym, ap, subst}
+use mathlib.Core.Bool.{Bool, true, false, _&&_, _||_, not}
 use mathlib.Core.List.{List}
 use mathlib.Core.Logic.{_⊎_, inl, inr, ⊎-elim}
 use native.Mathlib.Omega.{arith}
 use lib.Dec.{leb, eqb}
 use lib.ListN.{length, length-drop}
 use borrow.Author.Tests.{eqb-true, leb-true, lt-leb}
+use Rattle.laws.proofs.Bools.{and-left, and-right, ne-false-of-true}
 use Rattle.plan_kinds.specs.declared.Record.{Record}
 use Rattle.plan_kinds.specs.Rows.{rowOf}
-use Rattle.plan_kinds.proofs.Table.{and-left, and-right, long-row}
+use Rattle.plan_kinds.proofs.Table.{long-row}
 use Rattle.plan.specs.Plans.{emptyPlan}
 use Rattle.plan_file.specs.declared.State.{State}
 use Rattle.plan_file.specs.declared.Reading.{Reading}
@@ -25,10 +26,6 @@ pub record Going (n k : ℕ) (q : State) : Type 0 where
   pub within : q .at ≤ n
   pub far : (isDone n q ≡ true) ⊎ (2 * k ≤ q .at)
   pub place : placeOf (q .reading) ≤ n
-
--- a Bool is not both
-pub true-false : (b : Bool) → b ≡ true → b ≡ false → ⊥
-true-false b e f = let z : _≡_ {A = ℕ} 0 1 = ap (λ (t : Bool). cond t 0 1) (sym e ∙ f) in omega arith
 
 done-refused : (n : ℕ) (q : State) (k : Reading) → isWhole k ≡ false → isDone n (refusedBy q k) ≡ true
 done-refused n q k e = rw e
@@ -50,7 +47,7 @@ going-taken s k q x t g u =
     let l : 2 ≤ rowOf (x .kind) .length = long-row (x .kind) (e .2) in
     let w : rowOf (x .kind) .length ≤ length s - q .at = rw (← length-drop (q .at) s) (u .passed .whole) in
     let h = u .here in
-    let far : 2 * k ≤ q .at = ⊎-elim (λ z. absurd (true-false _ z (not-done s q x t u))) (λ z. z) (g .far) in
+    let far : 2 * k ≤ q .at = ⊎-elim (λ z. absurd (ne-false-of-true _ z (not-done s q x t u))) (λ z. z) (g .far) in
     let at = e .0 in
     record { within = omega arith; far = inr (omega arith); place = subst (λ (r : Reading). placeOf r ≤ length s) (sym (e .1)) (omega arith) }
 
@@ -84,7 +81,7 @@ lastOf s = stepsOf s (length s)
 
 done-parts : (a b c : Bool) → a ≡ true → (not a || (b && c)) ≡ true → (b ≡ true) × (c ≡ true)
 done-parts true b c e d = (and-left b c d, and-right b c d)
-done-parts false b c e d = absurd (true-false true refl (sym e))
+done-parts false b c e d = absurd (ne-false-of-true true refl (sym e))
 
 pub record Accepted (s : List ℕ) : Type 0 where
   pub end : lastOf s .at ≡ length s
@@ -94,11 +91,11 @@ pub record Accepted (s : List ℕ) : Type 0 where
 
 is-whole : (k : Reading) → isWhole k ≡ true → k ≡ Whole
 is-whole Whole e = refl
-is-whole (Short at) e = absurd (true-false true refl (sym e))
-is-whole (Unknown at) e = absurd (true-false true refl (sym e))
-is-whole (Room at) e = absurd (true-false true refl (sym e))
-is-whole (Handle at) e = absurd (true-false true refl (sym e))
-is-whole (ScannedTwice at) e = absurd (true-false true refl (sym e))
+is-whole (Short at) e = absurd (ne-false-of-true true refl (sym e))
+is-whole (Unknown at) e = absurd (ne-false-of-true true refl (sym e))
+is-whole (Room at) e = absurd (ne-false-of-true true refl (sym e))
+is-whole (Handle at) e = absurd (ne-false-of-true true refl (sym e))
+is-whole (ScannedTwice at) e = absurd (ne-false-of-true true refl (sym e))
 
 -- An accepted file was read to its end, with no item wanted, and its plan is what was read. Assumes nothing.
 pub accepted : (s : List ℕ) → isWhole (readOf s .reading) ≡ true → Accepted s

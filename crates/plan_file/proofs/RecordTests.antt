@@ -20,9 +20,9 @@ use Rattle.plan_file.specs.Answers.{isWhole}
 use Rattle.plan_file.specs.Steps.{kindWanted, kindOk, scannedTwice, scansAfter, faultOf}
 
 -- Where an item is wanted, and none of the first kind, one of the second is. Assumes nothing.
-pub some-more : (w : Wanted) → w .left ≤ 0 → (kindWanted w ≡ 0 → ⊥) → 1 ≤ w .more
+pub wanted-more : (w : Wanted) → w .left ≤ 0 → (kindWanted w ≡ 0 → ⊥) → 1 ≤ w .more
 unfolding kindWanted
-some-more w h n = elim (decLt 0 (w .more)) [ yes l ↦ l | no g ↦ absurd (n (rw (le-ltb _ _ h, le-ltb 0 (w .more) (omega arith)))) ]
+wanted-more w h n = elim (decLt 0 (w .more)) [ yes l ↦ l | no g ↦ absurd (n (rw (le-ltb _ _ h, le-ltb 0 (w .more) (omega arith)))) ]
 
 -- An item is taken only where one is wanted. Assumes nothing.
 pub wanted-item : (r : Row) (x : Record) (w : Wanted) → r .sort ≡ 4 → kindOk r x w ≡ true → kindWanted w ≡ 0 → ⊥

@@ -8,11 +8,12 @@ use native.Mathlib.Decide.{decLt, ℕ-discrete}
 use lib.Dec.{ltb, leb, eqb}
 use lib.ListN.{getD, set, length, drop}
 use borrow.Author.Tests.{eqb-true, leb-false, ltb-true, lt-ltb, le-ltb, eq-eqb, ne-eqb}
+use Rattle.laws.proofs.Bools.{and-left, and-right, cond-elim}
 use Rattle.plan_kinds.specs.declared.Record.{Record}
 use Rattle.plan_kinds.specs.declared.Row.{Row}
 use Rattle.plan_kinds.specs.Rows.{rowOf, lineOf}
 use Rattle.plan_kinds.specs.Records.{codeOk, handlesOk, countOf}
-use Rattle.plan_kinds.proofs.Table.{and-left, and-right, item-kinds}
+use Rattle.plan_kinds.proofs.Table.{item-kinds}
 use Rattle.plan.specs.declared.Plan.{Plan}
 use Rattle.plan.specs.Append.{noRoom, addedAt, withColumn, withExpr, withOperator, withItem, appendColumn, appendExpr, appendOperator, appendItem}
 use Rattle.plan_file.specs.declared.Wanted.{Wanted}
@@ -162,10 +163,6 @@ pub record Taking (s : List ℕ) (q : State) (x : Record) (t : State) : Type 0 w
   pub passed : Passed (rowOf (x .kind)) x (length (drop (q .at) s)) q
   pub way : Way q x t
 
-pub choice : (P : State → Type 0) (t : Bool) (a b : State) → (t ≡ true → P a) → (t ≡ false → P b) → P (cond t a b)
-choice P true a b f g = f refl
-choice P false a b f g = g refl
-
 is-going : (a b : Bool) → (not a || b) ≡ false → a ≡ true
 is-going true b e = refl
 is-going false b e = sym e
@@ -198,17 +195,17 @@ pub step-cases :
     → ((x : Record) (t : State) → Taking s q x t → P t) → P (stepOf s q)
 unfolding stepOf recordStep rowStep judgedStep appendedStep recordFrom
 step-cases P s q f same refused taken =
-    choice P (isDone (length s) q) q _ same
-    (λ d. choice P (leb (length s) (q .at)) (refusedBy q (Short (q .at))) _ (λ l. refused (Short (q .at)) (record { refuses = refl; place = refl }))
+    cond-elim P (isDone (length s) q) q _ same
+    (λ d. cond-elim P (leb (length s) (q .at)) (refusedBy q (Short (q .at))) _ (λ l. refused (Short (q .at)) (record { refuses = refl; place = refl }))
     (λ l.
     let u = drop (q .at) s in
     let r = rowOf (getD u 0 0) in
     let x = recordFrom u r in
     let k = faultOf r x (length u) q in
-    choice P (isWhole k) _ (refusedBy q k)
+    cond-elim P (isWhole k) _ (refusedBy q k)
     (λ w.
     let g = no-fault r x (length u) q w in
-    choice P (isAdded (appendOf (q .plan) r x .added)) (takenBy q r x (appendOf (q .plan) r x .plan)) (refusedBy q (Room (q .at)))
+    cond-elim P (isAdded (appendOf (q .plan) r x .added)) (takenBy q r x (appendOf (q .plan) r x .plan)) (refusedBy q (Room (q .at)))
     (λ a. taken x _ (record { going = is-going _ _ d; here = leb-false _ _ l; fetched = refl; passed = g; way = way-of q x f (g .kind) a }))
     (λ a. refused (Room (q .at)) (record { refuses = refl; place = refl })))
     (λ w. refused k (record { refuses = w; place = place-of-fault r x (length u) q w }))))

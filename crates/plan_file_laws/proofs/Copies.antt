@@ -9,8 +9,9 @@ use native.Mathlib.Decide.{decLt}
 use lib.Dec.{leb, eqb}
 use lib.ListN.{set}
 use borrow.Author.Tests.{eqb-true, le-leb, lt-ltb, le-ltb, eq-eqb, ne-eqb}
+use Rattle.laws.proofs.Bools.{and-left, and-right}
 use Rattle.lists.specs.Ranges.{allFrom}
-use Rattle.lists.proofs.RangeLaws.{below-or-not, and-left, and-right, all-at}
+use Rattle.lists.proofs.RangeLaws.{below-or-not, all-at}
 use Rattle.plan_kinds.specs.declared.Record.{Record}
 use Rattle.plan_kinds.specs.declared.Row.{Row}
 use Rattle.plan_kinds.specs.Rows.{rowOf, lineOf}
@@ -30,7 +31,7 @@ use Rattle.plan_file_laws.specs.ListItems.{firstOf, secondOf, itemKind, 
 use Rattle.plan_file_laws.specs.PlanRecords.{itemOf, itemsOf}
 use Rattle.plan_file_laws.proofs.RowFacts.{item-row, no-bits, handles-part}
 use Rattle.plan_file_laws.proofs.OpenLists.{kind-none}
-use Rattle.plan_file_laws.proofs.Phases.{Right, RulesTo, zero-bits}
+use Rattle.plan_file_laws.proofs.Phases.{Right, RulesTo, bits-ok-zero}
 use Rattle.plan_file_laws.proofs.RulesRead.{Takes, rules-in}
 use Rattle.plan_file_laws.proofs.Sequences.{Reads, next, kept-reads}
 
@@ -183,7 +184,7 @@ item-right p x st m nc me mp np h g =
     let s = kind-sort x m h in
     record {
       code = zero-code (rowOf (itemKind x m)) (itemOf p x st m) (item-low (itemKind x m) s) refl;
-      bits = zero-bits (rowOf (itemKind x m)) (itemOf p x st m) (no-bits (itemKind x m) (λ e. omega arith)) refl;
+      bits = bits-ok-zero (rowOf (itemKind x m)) (itemOf p x st m) (no-bits (itemKind x m) (λ e. omega arith)) refl;
       handles = handles-part (rowOf (itemKind x m)) (itemRecord p (st + m)) (itemOf p x st m) nc me mp np (item-row (itemKind x m) s) refl refl refl refl g;
     }
 
@@ -313,13 +314,13 @@ operator-parts p i e = (
 pub head-once : (r : Row) (x : Record) (w : Wanted) (scans : List ℕ) (np : ℕ) → (r .sort ≡ 4 → ⊥) → scannedTwice r x w scans np ≡ false
 head-once r x w scans np n = rw (ne-eqb (r .sort) 4 n)
 
-and-false : (a b c : Bool) → (((a && false) && b) && c) ≡ false
-and-false true b c = refl
-and-false false b c = refl
+and-false-first : (a b c : Bool) → (((a && false) && b) && c) ≡ false
+and-false-first true b c = refl
+and-false-first false b c = refl
 
 pub other-once : (r : Row) (x y : Record) (m : ℕ) (w : Wanted) (scans : List ℕ) (np : ℕ) → w ≡ wantedAt y m → (y .kind ≡ 0x30 → ⊥) → scannedTwice r x w scans
     np ≡ false
-other-once r x y m w scans np e n = rw (ap (λ (v : Wanted). v .scan) e ∙ ne-eqb (y .kind) 0x30 n) (and-false (eqb (r .sort) 4) _ _)
+other-once r x y m w scans np e n = rw (ap (λ (v : Wanted). v .scan) e ∙ ne-eqb (y .kind) 0x30 n) (and-false-first (eqb (r .sort) 4) _ _)
 
 -- ---- a column more
 pub column-sort : rowOf 0x01 .sort ≡ 1
@@ -329,6 +330,3 @@ column-sort = refl
 pub column-right : (p : Plan) (i nc ne np : ℕ) → (leb 1 (columnRecord p i .code) && leb (columnRecord p i .code) 5) ≡ true → Right (columnRecord p i) nc ne np
 unfolding rowOf lineOf bitsOk handleOk
 column-right p i nc ne np e = record { code = e; bits = refl; handles = refl }
-
-pub one-more : (P : ℕ → Type 0) (n : ℕ) → ((j : ℕ) → j < n → P j) → P n → (j : ℕ) → j < suc n → P j
-one-more P n old new j h = ⊎-elim (λ l. old j l) (λ g. let q : n ≡ j = omega arith in subst P q new) (below-or-not j n)

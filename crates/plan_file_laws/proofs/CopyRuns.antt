@@ -11,6 +11,7 @@ use native.Mathlib.Nat.{suc-add, zero-add}
 use lib.Dec.{leb, eqb}
 use lib.ListN.{getD}
 use borrow.Author.Tests.{eq-eqb}
+use Rattle.laws.proofs.Numbers.{all-below-suc}
 use Rattle.lists.proofs.RangeLaws.{below-or-not}
 use Rattle.plan_kinds.specs.declared.Record.{Record}
 use Rattle.plan_kinds.specs.Rows.{rowOf}
@@ -29,12 +30,12 @@ use Rattle.plan_file_laws.proofs.RowFacts.{column-row, expr-row, handle
 use Rattle.plan_file_laws.proofs.OpenLists.{kind-none}
 use Rattle.plan_file_laws.proofs.Phases.{Right, no-list}
 use Rattle.plan_file_laws.proofs.Marks.{scan-whole, scan-first, scan-second, scan-sort}
-use Rattle.plan_file_laws.proofs.RulesRead.{Takes, rules-in, not-zero}
+use Rattle.plan_file_laws.proofs.RulesRead.{Takes, rules-in, suc-of-ne-zero}
 use Rattle.plan_file_laws.proofs.Sequences.{Reads, begin, next, kept-reads}
 use Rattle.plan_file_laws.proofs.Parts.{append-nil}
 use Rattle.plan_file_laws.proofs.Copies.{totalOf, at-start, kind-end, Copy, copy-grow, Rest, Mid, Going, item-right, right-at, mid-run}
 use Rattle.plan_file_laws.proofs.Copies.{Source, itemsTo, exprItems, operatorItems, list-item, expr-parts, operator-parts, head-once}
-use Rattle.plan_file_laws.proofs.Copies.{other-once, column-sort, column-right, one-more}
+use Rattle.plan_file_laws.proofs.Copies.{other-once, column-sort, column-right}
 
 -- the arrays of a plan that was read have their sizes
 sized : (xs : List Record) (q : State) → Reads xs q → Sized (q .plan)
@@ -81,7 +82,7 @@ column-next p xs q i h ok d =
         operators = d .operators;
         items = d .items;
         copy = columns-only p (withColumn (q .plan) x) (suc i)
-            (one-more (λ (j : ℕ). columnRecord (withColumn (q .plan) x) j ≡ columnRecord p j) i
+            (all-below-suc (λ (j : ℕ). columnRecord (withColumn (q .plan) x) j ≡ columnRecord p j) i
             (λ j u. e .column j (omega (arith, d .columns)) ∙ d .copy .column j u)
             (ap (columnRecord (withColumn (q .plan) x)) (sym (d .columns)) ∙ new-column (q .plan) x (sized xs q (d .reads)) l));
       },
@@ -199,12 +200,12 @@ module _ (p : Plan) (s : Source p) where
         items = d .items;
         copy = record {
           column = d .copy .column;
-          expr = one-more (λ (j : ℕ). exprRecord (q .plan) j ≡ exprRecord p j) n (d .copy .expr) (d .head .0);
-          expr-start = one-more (λ (j : ℕ). exprStart (q .plan) j ≡ exprItems p j) n (d .copy .expr-start) (d .head .1 ∙ ek);
-          expr-items = one-more (λ (j : ℕ). (m : ℕ) → m < totalOf (exprRecord p j) → itemRecord (q .plan) (exprStart (q .plan) j + m) ≡ itemRecord p
+          expr = all-below-suc (λ (j : ℕ). exprRecord (q .plan) j ≡ exprRecord p j) n (d .copy .expr) (d .head .0);
+          expr-start = all-below-suc (λ (j : ℕ). exprStart (q .plan) j ≡ exprItems p j) n (d .copy .expr-start) (d .head .1 ∙ ek);
+          expr-items = all-below-suc (λ (j : ℕ). (m : ℕ) → m < totalOf (exprRecord p j) → itemRecord (q .plan) (exprStart (q .plan) j + m) ≡ itemRecord p
               (exprStart p j + m)) n (d .copy .expr-items)
               (λ m l. ap (λ (v : ℕ). itemRecord (q .plan) (v + m)) (d .head .1) ∙ d .so-far m l);
-          expr-whole = one-more (λ (j : ℕ). exprStart (q .plan) j + totalOf (exprRecord p j) ≤ q .plan .items .count) n (d .copy .expr-whole)
+          expr-whole = all-below-suc (λ (j : ℕ). exprStart (q .plan) j + totalOf (exprRecord p j) ≤ q .plan .items .count) n (d .copy .expr-whole)
               (omega (arith, d .head .1, d .items));
           operator = d .copy .operator;
           operator-start = d .copy .operator-start;
@@ -330,7 +331,7 @@ module _ (p : Plan) (s : Source p) where
   scan-once xs q n k m h z l d c e =
       elim (ℕ-discrete (getD (q .scans) c 0) 0) [
         | yes o ↦ inl o
-        | no o ↦ (let v : getD (q .scans) c 0 ≡ suc (getD (q .scans) c 0 - 1) = not-zero (getD (q .scans) c 0) o in
+        | no o ↦ (let v : getD (q .scans) c 0 ≡ suc (getD (q .scans) c 0 - 1) = suc-of-ne-zero (getD (q .scans) c 0) o in
             let i = getD (q .scans) c 0 - 1 in
             let w = kept-reads xs q (d .reads) .marks .sound i c v in
             inr (⊎-elim
@@ -398,14 +399,15 @@ module _ (p : Plan) (s : Source p) where
           expr-start = d .copy .expr-start;
           expr-items = d .copy .expr-items;
           expr-whole = d .copy .expr-whole;
-          operator = one-more (λ (j : ℕ). operatorRecord (q .plan) j ≡ operatorRecord p j) n (d .copy .operator) (d .head .0);
-          operator-start = one-more (λ (j : ℕ). operatorStart (q .plan) j ≡ exprItems p (p .expressions .count) + operatorItems p j) n
+          operator = all-below-suc (λ (j : ℕ). operatorRecord (q .plan) j ≡ operatorRecord p j) n (d .copy .operator) (d .head .0);
+          operator-start = all-below-suc (λ (j : ℕ). operatorStart (q .plan) j ≡ exprItems p (p .expressions .count) + operatorItems p j) n
               (d .copy .operator-start) (d .head .1 ∙ ek);
-          operator-items = one-more (λ (j : ℕ). (m : ℕ) → m < totalOf (operatorRecord p j) → itemRecord (q .plan) (operatorStart (q .plan) j + m) ≡ itemRecord
-              p (operatorStart p j + m)) n (d .copy .operator-items)
+          operator-items = all-below-suc
+              (λ (j : ℕ). (m : ℕ) → m < totalOf (operatorRecord p j)
+              → itemRecord (q .plan) (operatorStart (q .plan) j + m) ≡ itemRecord p (operatorStart p j + m)) n (d .copy .operator-items)
               (λ m l. ap (λ (v : ℕ). itemRecord (q .plan) (v + m)) (d .head .1) ∙ d .so-far m l);
-          operator-whole = one-more (λ (j : ℕ). operatorStart (q .plan) j + totalOf (operatorRecord p j) ≤ q .plan .items .count) n (d .copy .operator-whole)
-              (omega (arith, d .head .1, d .items));
+          operator-whole = all-below-suc (λ (j : ℕ). operatorStart (q .plan) j + totalOf (operatorRecord p j) ≤ q .plan .items .count) n
+              (d .copy .operator-whole) (omega (arith, d .head .1, d .items));
         };
       }
 

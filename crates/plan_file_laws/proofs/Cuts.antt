@@ -1,7 +1,7 @@
 -- A file that is cut off: inside a record or a counted list it is refused by 1, elsewhere it is accepted as far as it goes. Assumes nothing.
 use Prim.Native.Nat.{ℕ, zero, suc, _+_, _-_, _≤_, _<_}
 use mathlib.Core.Path.{_≡_, refl, sym, ap, _∙_, subst}
-use mathlib.Core.Bool.{Bool, true, false, cond, _&&_}
+use mathlib.Core.Bool.{Bool, true, false, cond, and-false}
 use mathlib.Core.List.{List, [], _∷_, _++_}
 use mathlib.Core.Logic.{⊎-elim}
 use native.Mathlib.Omega.{arith}
@@ -10,6 +10,7 @@ use lib.Dec.{leb, eqb}
 use lib.ListN.{getD, length, take, drop, length-append}
 use lib.Seq.{take-all, take-append-le, take-append-add, length-take-le, getD-take}
 use borrow.Author.Tests.{le-leb, lt-leb, ne-eqb}
+use Rattle.laws.proofs.Bools.{ne-false-of-true}
 use Rattle.lists.proofs.RangeLaws.{below-or-not}
 use Rattle.plan_kinds.specs.declared.Record.{Record}
 use Rattle.plan_kinds.specs.declared.Row.{Row}
@@ -24,7 +25,7 @@ use Rattle.plan_file.specs.Bytes.{recordFrom}
 use Rattle.plan_file.specs.Steps.{kindWanted, kindOk, faultOf, refusedBy, judgedStep, rowStep, recordStep, isDone, stepOf, stepsOf, startState}
 use Rattle.plan_file.specs.Steps.{answerOf, readOf}
 use Rattle.plan_file.proofs.StepsTaken.{read-early}
-use Rattle.plan_file.proofs.Finish.{finished, lastOf, true-false}
+use Rattle.plan_file.proofs.Finish.{finished, lastOf}
 use Rattle.plan_file_laws.specs.ByteStrings.{Bytes}
 use Rattle.plan_file_laws.specs.Writing.{put2, put4, put8, putWord, putCode, putBits, putBody, putRecord, putRecords, recordsOf, Fits}
 use Rattle.plan_file_laws.proofs.Written.{record-length, All, none, records-short}
@@ -44,7 +45,7 @@ not-last s i q h e d =
     ⊎-elim (λ l. l)
     (λ g.
     let n : length s ≡ i = omega arith in
-    absurd (true-false (isDone (length s) q) (subst (λ (t : State). isDone (length s) t ≡ true) (ap (stepsOf s) n ∙ e) (finished s)) d))
+    absurd (ne-false-of-true (isDone (length s) q) (subst (λ (t : State). isDone (length s) t ≡ true) (ap (stepsOf s) n ∙ e) (finished s)) d))
     (below-or-not i (length s))
 
 -- where the next step refuses by 1, that is the answer
@@ -53,10 +54,6 @@ short-next : (s : List ℕ) (i : ℕ) (q : State) (n : ℕ) → i ≤ length s �
 unfolding stepsOf
 short-next s i q n h e d g =
     sym (read-early s (suc i) (refusedBy q (Short n)) (not-last s i q h e d) (sym (ap (stepOf s) e ∙ g)) refl) ∙ answer-short q n
-
-and-false : (b : Bool) → (b && false) ≡ false
-and-false true = refl
-and-false false = refl
 
 wanting : (n : ℕ) (q : State) → q .reading ≡ Whole → (kindWanted (q .wanted) ≡ 0 → ⊥) → isDone n q ≡ false
 wanting n q w z = rw (ap isWhole w, ne-eqb _ 0 z) (and-false (leb n (q .at)))

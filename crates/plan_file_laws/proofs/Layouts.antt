@@ -1,14 +1,14 @@
 -- Where the parts of a record stand, by a test over the table of kinds. Assumes nothing.
 use Prim.Native.Nat.{ℕ, _+_}
 use mathlib.Core.Path.{_≡_, refl}
-use mathlib.Core.Bool.{Bool, true, false, cond, _&&_, _||_}
+use mathlib.Core.Bool.{Bool, true, cond, _&&_, _||_}
 use mathlib.Core.Logic.{_⊎_, inl, inr, ⊎-elim}
 use lib.Dec.{eqb}
 use borrow.Author.Tests.{eqb-true}
+use Rattle.laws.proofs.Bools.{and-left, and-right, or-cases}
 use Rattle.plan_kinds.specs.declared.Row.{Row}
 use Rattle.plan_kinds.specs.Rows.{rowOf}
 use Rattle.plan_kinds.proofs.Table.{holds, every-row}
-use Rattle.lists.proofs.RangeLaws.{and-left, and-right}
 
 -- how many bytes a number takes, and a code that stands at the place n
 abbrev pub width : ℕ → ℕ
@@ -55,11 +55,6 @@ layoutTest r =
     && ((eqb (r .code) 0 || (eqb (r .code) 1 || (eqb (r .code) 3 && eqb (place5 r) 3)))
     && ((eqb (r .bits) 0 || ((eqb (r .bits) 4 || eqb (r .bits) 8) && eqb (place6 r) 1))
     && eqb (r .length) (place6 r + r .bits))))))
-
--- one or the other
-pub or-cases : (a b : Bool) → (a || b) ≡ true → (a ≡ true) ⊎ (b ≡ true)
-or-cases true b e = inl refl
-or-cases false b e = inr e
 
 here-or : (a m n k : ℕ) → (eqb a k || eqb m n) ≡ true → (a ≡ k) ⊎ (m ≡ n)
 here-or a m n k e = ⊎-elim (λ h. inl (eqb-true _ _ h)) (λ h. inr (eqb-true _ _ h)) (or-cases (eqb a k) (eqb m n) e)

@@ -10,7 +10,7 @@ use lib.Dec.{leb, eqb}
 use lib.ListN.{getD, length, take, drop, length-drop}
 use lib.Seq.{length-take-le, getD-take, getD-drop}
 use borrow.Author.Tests.{eqb-true, leb-true, le-leb, lt-leb}
-use Rattle.lists.proofs.RangeLaws.{and-left, and-right}
+use Rattle.laws.proofs.Bools.{and-left, and-right, or-cases, ne-false-of-true}
 use Rattle.plan_kinds.specs.declared.Record.{Record}
 use Rattle.plan_kinds.specs.declared.Row.{Row}
 use Rattle.plan_kinds.specs.Rows.{rowOf}
@@ -20,9 +20,8 @@ use Rattle.plan_file.specs.Answers.{isWhole}
 use Rattle.plan_file.specs.Bytes.{word2, word4, codeFrom, wordFrom, bitsFrom, recordFrom}
 use Rattle.plan_file.specs.Steps.{faultOf, judgedStep, rowStep, recordStep, isDone, stepOf, stepsOf, answerOf, readOf}
 use Rattle.plan_file.proofs.StepsTaken.{read-early}
-use Rattle.plan_file.proofs.Finish.{finished, true-false}
-use Rattle.plan_file_laws.proofs.Layouts.{or-cases}
-use Rattle.plan_file_laws.proofs.Longest.{at-most}
+use Rattle.plan_file.proofs.Finish.{finished}
+use Rattle.plan_file_laws.proofs.Longest.{steps-at-most}
 
 -- ---- the table of kinds
 -- a record is 9 bytes long at most, and so far reach its code and its four numbers
@@ -141,7 +140,7 @@ module _ (s : List ℕ) (n : ℕ) (enough : 20865 ≤ n) (there : n ≤ length s
   steps-same : (i : ℕ) → stepsOf (take n s) i ≡ stepsOf s i
   unfolding stepsOf
   steps-same zero = refl
-  steps-same (suc i) = ap (stepOf (take n s)) (steps-same i) ∙ step-same (stepsOf s i) (at-most s i)
+  steps-same (suc i) = ap (stepOf (take n s)) (steps-same i) ∙ step-same (stepsOf s i) (steps-at-most s i)
 
   -- the reading has ended by a refusal
   refused : isWhole (stepsOf s n .reading) ≡ false
@@ -152,8 +151,8 @@ module _ (s : List ℕ) (n : ℕ) (enough : 20865 ≤ n) (there : n ≤ length s
       go true e =
           let d : isDone n (stepsOf s n) ≡ true = subst (λ (m : ℕ). isDone m (stepsOf s n) ≡ true) size
           (subst (λ (q : State). isDone (length (take n s)) q ≡ true) (ap (stepsOf (take n s)) size ∙ steps-same n) (finished (take n s))) in
-          let f : isDone n (stepsOf s n) ≡ false = rw (e, lt-leb n (stepsOf s n .at) (omega (arith, at-most s n))) in
-          absurd (true-false (isDone n (stepsOf s n)) d f)
+          let f : isDone n (stepsOf s n) ≡ false = rw (e, lt-leb n (stepsOf s n .at) (omega (arith, steps-at-most s n))) in
+          absurd (ne-false-of-true (isDone n (stepsOf s n)) d f)
 
   -- A file of 20,865 bytes or more is answered by its first n, where n is 20,865 or more. Assumes nothing.
   pub long-file : readOf (take n s) ≡ readOf s

@@ -8,7 +8,7 @@ use native.Mathlib.Omega.{arith}
 use lib.Dec.{ltb, leb, eqb}
 use lib.ListN.{length}
 use borrow.Author.Tests.{eqb-true, leb-true, ltb-true, eq-eqb, not-true}
-use Rattle.lists.proofs.RangeLaws.{and-left, and-right}
+use Rattle.laws.proofs.Bools.{and-left, and-right, or-cases, ne-false-of-true}
 use Rattle.plan_kinds.specs.declared.Record.{Record}
 use Rattle.plan_kinds.specs.declared.Row.{Row}
 use Rattle.plan_kinds.specs.Rows.{rowOf, lineOf}
@@ -22,10 +22,9 @@ use Rattle.plan_file.specs.declared.Reading.{Reading}
 use Rattle.plan_file.specs.Answers.{isWhole, refusalOf}
 use Rattle.plan_file.specs.Steps.{kindWanted, lessOne, refusedBy, stepsOf, startState, readOf}
 use Rattle.plan_file.proofs.StepCases.{Way, a-column, an-expr, an-operator, an-item, steps-keep}
-use Rattle.plan_file.proofs.Finish.{accepted, refusal-none, true-false}
+use Rattle.plan_file.proofs.Finish.{accepted, refusal-none}
 use Rattle.plan_file_laws.proofs.RowFacts.{handles}
 use Rattle.plan_file_laws.proofs.Phases.{Within}
-use Rattle.plan_file_laws.proofs.Layouts.{or-cases}
 
 -- ---- the table of kinds
 -- the most bytes that a record of a sort takes: a column 4, an item 5, the others 9
@@ -46,7 +45,7 @@ inputTest r = not (eqb (r .sort) 3) || (leb (r .length) 5 || (eqb (r .a) 4 || eq
 inputs-row : (k : ℕ) → rowOf k .sort ≡ 3 → (rowOf k .length ≤ 5) ⊎ ((rowOf k .a ≡ 4) ⊎ (rowOf k .b ≡ 4))
 unfolding inputTest holds
 inputs-row k e =
-    ⊎-elim (λ n. absurd (true-false _ (eq-eqb (rowOf k .sort) 3 e) (not-true _ n)))
+    ⊎-elim (λ n. absurd (ne-false-of-true _ (eq-eqb (rowOf k .sort) 3 e) (not-true _ n)))
     (λ h. ⊎-elim (λ l. inl (leb-true _ _ l))
     (λ g. inr (⊎-elim (λ a. inl (eqb-true _ _ a)) (λ b. inr (eqb-true _ _ b)) (or-cases (eqb (rowOf k .a) 4) (eqb (rowOf k .b) 4) g)))
     (or-cases (leb (rowOf k .length) 5) (eqb (rowOf k .a) 4 || eqb (rowOf k .b) 4) h))
@@ -173,12 +172,12 @@ most-far q w (narrow h f i) = omega arith
 most-far q w (wide h) = omega arith
 
 -- No reading comes further than 20,856 bytes, whatever it reads. Assumes nothing.
-pub at-most : (s : List ℕ) (i : ℕ) → stepsOf s i .at ≤ 20856
-at-most s i = most-far (stepsOf s i) (spent s i .within) (spent s i .far)
+pub steps-at-most : (s : List ℕ) (i : ℕ) → stepsOf s i .at ≤ 20856
+steps-at-most s i = most-far (stepsOf s i) (spent s i .within) (spent s i .far)
 
 -- An accepted file has 20,856 bytes at most. Assumes nothing.
 pub accepted-length : (s : List ℕ) → isWhole (readOf s .reading) ≡ true → length s ≤ 20856
-accepted-length s e = omega (arith, accepted s e .end, at-most s (length s))
+accepted-length s e = omega (arith, accepted s e .end, steps-at-most s (length s))
 
 -- So a longer one is refused. Assumes nothing.
 pub longer-refused : (s : List ℕ) → 20856 < length s → refusalOf (readOf s .reading) ≡ 0 → ⊥

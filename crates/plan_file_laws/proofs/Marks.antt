@@ -10,7 +10,8 @@ use lib.Dec.{ltb, eqb}
 use lib.ListN.{getD, set, length, length-set}
 use lib.Seq.{getD-set-same, getD-set-other}
 use borrow.Author.Tests.{eqb-true, leb-true, ltb-true, eq-eqb}
-use Rattle.lists.proofs.RangeLaws.{below-or-not, and-left, and-right}
+use Rattle.laws.proofs.Bools.{and-left, and-right}
+use Rattle.lists.proofs.RangeLaws.{below-or-not}
 use Rattle.plan_kinds.specs.declared.Record.{Record}
 use Rattle.plan_kinds.specs.Rows.{rowOf, lineOf}
 use Rattle.plan_kinds.specs.Records.{handleOk, handlesOk, countOf, moreOf}

@@ -8,7 +8,7 @@ use native.Mathlib.Omega.{arith}
 use lib.Dec.{eqb}
 use lib.ListN.{length, length-append}
 use borrow.Author.Tests.{leb-true}
-use Rattle.lists.proofs.RangeLaws.{and-left, and-right}
+use Rattle.laws.proofs.Bools.{and-left, and-right}
 use Rattle.plan_kinds.specs.declared.Record.{Record}
 use Rattle.plan_kinds.specs.Rows.{rowOf}
 use Rattle.plan.specs.declared.Plan.{Plan}

@@ -10,7 +10,7 @@ use native.Mathlib.Decide.{ℕ-discrete}
 use lib.Dec.{eqb}
 use lib.ListN.{drop}
 use borrow.Author.Tests.{eqb-true, eq-eqb, ne-eqb}
-use Rattle.lists.proofs.RangeLaws.{and-left, and-right}
+use Rattle.laws.proofs.Bools.{and-left, and-right}
 use Rattle.plan_kinds.specs.declared.Record.{Record}
 use Rattle.plan_kinds.specs.declared.Row.{Row}
 use Rattle.plan_kinds.specs.Rows.{Line, kinds, rowOf, lineOf}

@@ -5,10 +5,12 @@ use mathlib.Core.Bool.{true, _&&_}
 use mathlib.Core.Logic.{⊎-elim}
 use native.Mathlib.Omega.{arith}
 use native.Mathlib.Numerals.{add-one}
-use native.Mathlib.Nat.{le-trans}
+use native.Mathlib.Nat.{le-trans, not-le-of-lt}
 use lib.Dec.{leb}
 use borrow.Author.Tests.{leb-true, le-leb, lt-ltb, le-ltb, eq-eqb, ne-eqb}
-use Rattle.lists.proofs.RangeLaws.{below-or-not, and-left, and-right, and-both, all-of}
+use Rattle.laws.proofs.Bools.{and-left, and-right, and-both}
+use Rattle.laws.proofs.Numbers.{eq-of-le-lt-add-one}
+use Rattle.lists.proofs.RangeLaws.{below-or-not, all-of}
 use Rattle.plan_kinds.specs.declared.Record.{Record}
 use Rattle.plan_kinds.specs.declared.Row.{Row}
 use Rattle.plan_kinds.specs.Rows.{rowOf}
@@ -178,9 +180,9 @@ pub record Right (x : Record) (nc ne np : ℕ) : Type 0 where
   pub bits : bitsOk (rowOf (x .kind)) x ≡ true
   pub handles : handlesOk (rowOf (x .kind)) x nc ne np ≡ true
 
-pub zero-bits : (r : Row) (x : Record) → r .bits ≡ 0 → x .bits ≡ 0 → bitsOk r x ≡ true
+pub bits-ok-zero : (r : Row) (x : Record) → r .bits ≡ 0 → x .bits ≡ 0 → bitsOk r x ≡ true
 unfolding bitsOk
-zero-bits r x e f = rw (e, f)
+bits-ok-zero r x e f = rw (e, f)
 
 expr-right : (x : Record) (nc ne np : ℕ) → rowOf (x .kind) .sort ≡ 2 → Right x nc ne np → recordOk 2 (exprPart x) nc ne np ≡ true
 unfolding recordOk bitsOk
@@ -193,7 +195,7 @@ operator-right : (x : Record) (nc ne np : ℕ) → rowOf (x .kind) .sort ≡ 3 �
 unfolding recordOk
 operator-right x nc ne np s r =
     and-both _ _ (eq-eqb (rowOf (x .kind) .sort) 3 s)
-    (and-both _ _ (r .code) (and-both _ _ (zero-bits (rowOf (x .kind)) (operatorPart x) (no-bits (x .kind) (λ e. omega arith)) refl) (r .handles)))
+    (and-both _ _ (r .code) (and-both _ _ (bits-ok-zero (rowOf (x .kind)) (operatorPart x) (no-bits (x .kind) (λ e. omega arith)) refl) (r .handles)))
 
 column-right : (x : Record) → rowOf (x .kind) .sort ≡ 1 → codeOk (rowOf (x .kind)) x ≡ true → (1 ≤ x .code) × (x .code ≤ 5)
 column-right x s c =
@@ -203,12 +205,6 @@ column-right x s c =
     (omega (arith, l .0), omega (arith, l .1))
 
 -- ---- the four ways
-only-new : (n i : ℕ) → n ≤ i → i < n + 1 → n ≡ i
-only-new n i a b = omega arith
-
-none-new : (n i : ℕ) → n ≤ i → i < n → ⊥
-none-new n i a b = omega arith
-
 -- the list of a new record, as the table has it
 pub expr-open :
     (p : Plan) (x : Record) → Sized p → p .expressions .count < 1024 → rowOf (x .kind) .sort ≡ 2
@@ -245,7 +241,7 @@ module _ (p : Plan) (x : Record) (r : RulesTo p (p .expressions .count) (p .oper
       (rules-grow p (withColumn p x) _ _ (column-longer p x) (column-longer-sized p x (r .sized))
       (record { columns = omega arith; exprs = v .exprs; operators = v .operators; items = v .items })
       (λ i a b.
-      subst (λ (n : ℕ). columnOk (withColumn p x) n ≡ true) (only-new _ _ a b)
+      subst (λ (n : ℕ). columnOk (withColumn p x) n ≡ true) (eq-of-le-lt-add-one _ _ a b)
       (subst (λ (y : Record). (leb 1 (y .code) && leb (y .code) 5) ≡ true) (sym (new-column p x (r .sized) h))
       (and-both _ _ (le-leb 1 (x .code) (k .0)) (le-leb (x .code) 5 (k .1)))))
       r)
@@ -259,7 +255,7 @@ module _ (p : Plan) (x : Record) (r : RulesTo p (p .expressions .count) (p .oper
       open-expr (p .expressions .count) (add-one _)
       (rules-grow p q _ _ (expr-longer p x (p .items .count)) (expr-longer-sized p x (p .items .count) (r .sized))
       (record { columns = v .columns; exprs = omega arith; operators = v .operators; items = v .items })
-      (λ i a b. absurd (none-new _ _ a b)) r)
+      (λ i a b. absurd (not-le-of-lt b a)) r)
       (record {
         record-ok = subst (λ (y : Record). recordOk 2 y (p .columns .count) (p .expressions .count) (p .operators .count) ≡ true)
             (sym (new-expr p x (p .items .count) (r .sized) h)) (expr-right x _ _ _ s g);
@@ -276,7 +272,7 @@ module _ (p : Plan) (x : Record) (r : RulesTo p (p .expressions .count) (p .oper
       open-operator (p .operators .count) (add-one _)
       (rules-grow p q _ _ (operator-longer p x (p .items .count)) (operator-longer-sized p x (p .items .count) (r .sized))
       (record { columns = v .columns; exprs = v .exprs; operators = omega arith; items = v .items })
-      (λ i a b. absurd (none-new _ _ a b)) r)
+      (λ i a b. absurd (not-le-of-lt b a)) r)
       (record {
         record-ok = subst (λ (y : Record). recordOk 3 y (p .columns .count) (p .expressions .count) (p .operators .count) ≡ true)
             (sym (new-operator p x (p .items .count) (r .sized) h)) (operator-right x _ _ _ s g);
@@ -311,7 +307,7 @@ module _ (w : Wanted) (p : Plan) (x : Record) (s : Sized p) (room : p .items .co
       let v = r .within in
       rules-grow p (withItem p x) e o (item-longer p x) (item-longer-sized p x s)
       (record { columns = v .columns; exprs = v .exprs; operators = v .operators; items = omega arith })
-      (λ i a b. absurd (none-new _ _ a b)) r
+      (λ i a b. absurd (not-le-of-lt b a)) r
 
   pub phase-item :
       rowOf (x .kind) .sort ≡ 4 → x .kind ≡ kindWanted w → handlesOk (rowOf (x .kind)) x (p .columns .count) (p .expressions .count) (p .operators .count)

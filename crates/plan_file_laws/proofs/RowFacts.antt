@@ -9,22 +9,18 @@ use lib.Dec.{eqb}
 use lib.ListN.{getD, drop}
 use lib.Seq.{getD-drop}
 use borrow.Author.Tests.{eqb-true, eqb-false, eq-eqb, ne-eqb, lt-ltb, not-true}
+use Rattle.laws.proofs.Bools.{and-left, and-right, and-both, or-neg-resolve-left}
 use Rattle.plan_kinds.specs.declared.Record.{Record}
 use Rattle.plan_kinds.specs.declared.Row.{Row}
 use Rattle.plan_kinds.specs.Rows.{rowOf}
 use Rattle.plan_kinds.specs.Records.{bitsOk, handleOk, handlesOk}
 use Rattle.plan_kinds.proofs.Table.{holds, every-row}
-use Rattle.lists.proofs.RangeLaws.{and-left, and-right, and-both}
 use Rattle.plan_file.specs.Bytes.{bitsFrom, recordFrom}
 use Rattle.plan_file_laws.specs.ByteStrings.{Bytes}
 
-or-holds : (t b : Bool) → t ≡ true → (not t || b) ≡ true → b ≡ true
-or-holds true b e h = h
-or-holds false b e h = absurd (let z : _≡_ {A = ℕ} 0 1 = cc in omega arith)
-
 -- of a row that is of the sort n, what a test says
 said : (n : ℕ) (f : Row → Bool) (k : ℕ) → (not (eqb (rowOf k .sort) n) || f (rowOf k)) ≡ true → rowOf k .sort ≡ n → f (rowOf k) ≡ true
-said n f k t e = or-holds (eqb (rowOf k .sort) n) (f (rowOf k)) (eq-eqb _ _ e) t
+said n f k t e = or-neg-resolve-left (eqb (rowOf k .sort) n) (f (rowOf k)) (eq-eqb _ _ e) t
 
 -- ---- items: two numbers at most, none of them an operator
 itemTest : Row → Bool
@@ -147,8 +143,8 @@ handles-part r x y nc ne np mp i ea eb ec ed e =
 pub bytes-drop : (n : ℕ) (s : List ℕ) → Bytes s → Bytes (drop n s)
 bytes-drop n s b i = rw (getD-drop n s i 0) (b (n + i))
 
-word4-fits : (a b c d : ℕ) → a < 256 → b < 256 → c < 256 → d < 256 → (a * 256 + b) * 65536 + (c * 256 + d) < 4294967296
-word4-fits a b c d p q r t = omega arith
+bytes4-fit : (a b c d : ℕ) → a < 256 → b < 256 → c < 256 → d < 256 → (a * 256 + b) * 65536 + (c * 256 + d) < 4294967296
+bytes4-fit a b c d p q r t = omega arith
 
 pub bits-fit : (s : List ℕ) (r : Row) → Bytes s → bitsOk r (recordFrom s r) ≡ true
 unfolding bitsOk recordFrom bitsFrom
@@ -157,7 +153,7 @@ bits-fit s r b =
       | yes e ↦ rw (eq-eqb (r .bits) 8 e)
       | no n ↦ elim (ℕ-discrete (r .bits) 4) [
         | yes f ↦ rw (ne-eqb (r .bits) 8 n, eq-eqb (r .bits) 4 f)
-            (lt-ltb _ _ (word4-fits (getD s 1 0) (getD s 2 0) (getD s 3 0) (getD s 4 0) (b 1) (b 2) (b 3) (b 4)))
+            (lt-ltb _ _ (bytes4-fit (getD s 1 0) (getD s 2 0) (getD s 3 0) (getD s 4 0) (b 1) (b 2) (b 3) (b 4)))
         | no m ↦ rw (ne-eqb (r .bits) 8 n, ne-eqb (r .bits) 4 m)
       ]
     ]

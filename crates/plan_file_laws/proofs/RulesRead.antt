@@ -5,10 +5,12 @@ use mathlib.Core.Bool.{Bool, true, false, cond, _&&_, not}
 use mathlib.Core.List.{List}
 use native.Mathlib.Omega.{arith}
 use lib.Dec.{eqb}
-use lib.ListN.{getD, length, drop, replicate, length-replicate, List·getD-eq-default}
+use lib.ListN.{getD, length, drop, replicate, length-replicate}
 use borrow.Author.Tests.{eqb-true, eqb-false, le-leb, eq-eqb, ne-eqb, not-true}
+use Rattle.laws.proofs.Bools.{and-left, and-right}
+use Rattle.laws.proofs.Lists.{getD-replicate-self}
 use Rattle.lists.specs.Ranges.{anyFrom, countFrom}
-use Rattle.lists.proofs.RangeLaws.{and-left, and-right, count-none}
+use Rattle.lists.proofs.RangeLaws.{count-none}
 use Rattle.plan_kinds.specs.declared.Record.{Record}
 use Rattle.plan_kinds.specs.declared.Row.{Row}
 use Rattle.plan_kinds.specs.Rows.{rowOf}
@@ -94,35 +96,30 @@ kept-takes q x t k u =
     record { wants = wants-way q x t (k .wants) (u .way); phase = v .0; marks = v .1 }
 
 -- ---- the start
-zeros : (n : ℕ) → length {A = ℕ} (replicate n 0) ≡ n
-zeros n = length-replicate {A = ℕ} n 0
-
-pub no-mark : (n c : ℕ) → getD {A = ℕ} (replicate n 0) c 0 ≡ 0
-no-mark zero c = List·getD-eq-default {A = ℕ} (replicate 0 0) 0 {n = c} (omega arith)
-no-mark (suc n) zero = refl
-no-mark (suc n) (suc c) = no-mark n c
+zeros-long : (n : ℕ) → length {A = ℕ} (replicate n 0) ≡ n
+zeros-long n = length-replicate {A = ℕ} n 0
 
 pub empty-sized : Sized emptyPlan
 unfolding emptyPlan
 empty-sized =
     record {
-      column-name = zeros 64;
-      column-kind = zeros 64;
-      expr-kind = zeros 1024;
-      expr-code = zeros 1024;
-      expr-a = zeros 1024;
-      expr-b = zeros 1024;
-      expr-bits = zeros 1024;
-      expr-start = zeros 1024;
-      operator-kind = zeros 128;
-      operator-code = zeros 128;
-      operator-a = zeros 128;
-      operator-b = zeros 128;
-      operator-c = zeros 128;
-      operator-d = zeros 128;
-      operator-start = zeros 128;
-      item-a = zeros 2048;
-      item-b = zeros 2048;
+      column-name = zeros-long 64;
+      column-kind = zeros-long 64;
+      expr-kind = zeros-long 1024;
+      expr-code = zeros-long 1024;
+      expr-a = zeros-long 1024;
+      expr-b = zeros-long 1024;
+      expr-bits = zeros-long 1024;
+      expr-start = zeros-long 1024;
+      operator-kind = zeros-long 128;
+      operator-code = zeros-long 128;
+      operator-a = zeros-long 128;
+      operator-b = zeros-long 128;
+      operator-c = zeros-long 128;
+      operator-d = zeros-long 128;
+      operator-start = zeros-long 128;
+      item-a = zeros-long 2048;
+      item-b = zeros-long 2048;
     }
 
 pub empty-rules : RulesTo emptyPlan (emptyPlan .expressions .count) (emptyPlan .operators .count)
@@ -145,9 +142,9 @@ kept-start =
       wants = λ h. absurd (omega arith);
       phase = closed refl empty-rules;
       marks = record {
-        size = zeros 64;
+        size = zeros-long 64;
         complete = λ i c h. absurd (omega (arith, h .there));
-        sound = λ i c e. absurd (let z : _≡_ {A = ℕ} 0 (suc i) = sym (no-mark 64 c) ∙ e in omega arith);
+        sound = λ i c e. absurd (let z : _≡_ {A = ℕ} 0 (suc i) = sym (getD-replicate-self 64 c 0) ∙ e in omega arith);
       };
     }
 
@@ -247,8 +244,8 @@ rules-read s b = go (isWhole (readOf s .reading)) refl
 abbrev pub Another : Plan → ℕ → Type 0
 Another p c = (i : ℕ) × ScanHas p i c × (suc i ≡ p .operators .count → ⊥)
 
-pub not-zero : (m : ℕ) → (m ≡ 0 → ⊥) → m ≡ suc (m - 1)
-not-zero m n = omega (arith, n)
+pub suc-of-ne-zero : (m : ℕ) → (m ≡ 0 → ⊥) → m ≡ suc (m - 1)
+suc-of-ne-zero m n = omega (arith, n)
 
 module _ (s : List ℕ) (b : Bytes s) (k : ℕ) (r : Row) (x : Record) where
   abbrev state : State
@@ -266,7 +263,7 @@ module _ (s : List ℕ) (b : Bytes s) (k : ℕ) (r : Row) (x : Record) where
       let some = eqb-false mark 0 (not-true _ (and-right (eqb (r .sort) 4 && state .wanted .scan) (not (eqb mark 0)) abc)) in
       let other = eqb-false mark (state .plan .operators .count)
       (not-true _ (and-right ((eqb (r .sort) 4 && state .wanted .scan) && not (eqb mark 0)) (not (eqb mark (state .plan .operators .count))) e)) in
-      let n : mark ≡ suc (mark - 1) = not-zero mark some in (
+      let n : mark ≡ suc (mark - 1) = suc-of-ne-zero mark some in (
         eqb-true _ _ (and-left _ _ ab),
         and-right (eqb (r .sort) 4) _ ab,
         (mark - 1, kept-steps s b k .marks .sound (mark - 1) (x .a) n, λ q. other (n ∙ q)),

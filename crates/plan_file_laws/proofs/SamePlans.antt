@@ -6,6 +6,7 @@ use mathlib.Core.Logic.{⊎-elim}
 use native.Mathlib.Omega.{arith}
 use lib.ListN.{getD, set, length, replicate}
 use lib.Seq.{getD-set-other, ext-getD}
+use Rattle.laws.proofs.Lists.{getD-replicate-self}
 use Rattle.lists.proofs.RangeLaws.{below-or-not}
 use Rattle.plan_kinds.specs.declared.Record.{Record}
 use Rattle.plan.specs.declared.Columns.{Columns}
@@ -24,7 +25,7 @@ use Rattle.plan_file.specs.Steps.{kindWanted, startState}
 use Rattle.plan_file.proofs.StepCases.{Way, a-column, an-expr, an-operator, an-item}
 use Rattle.plan_file_laws.proofs.OpenLists.{Open, some-left}
 use Rattle.plan_file_laws.proofs.Phases.{Phase, closed, open-expr, open-operator}
-use Rattle.plan_file_laws.proofs.RulesRead.{Kept, no-mark}
+use Rattle.plan_file_laws.proofs.RulesRead.{Kept}
 use Rattle.plan_file_laws.proofs.Sequences.{Reads, begin, next, kept-reads}
 use Rattle.plan_file_laws.proofs.Copies.{totalOf}
 
@@ -98,7 +99,7 @@ items-zero t x z = record { a = zero-set (t .a) _ _ (z .a); b = zero-set (t .b) 
 zeros-empty : Zeros emptyPlan
 unfolding emptyPlan
 zeros-empty =
-    let z : (n : ℕ) → Zero (replicate n 0) 0 = λ n i h. no-mark n i in
+    let z : (n : ℕ) → Zero (replicate n 0) 0 = λ n i h. getD-replicate-self n i 0 in
     record {
       columns = record { name = z 64; kind = z 64 };
       exprs = record { kind = z 1024; code = z 1024; a = z 1024; b = z 1024; start = z 1024; bits = z 1024 };

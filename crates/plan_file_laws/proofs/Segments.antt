@@ -140,8 +140,8 @@ module _ (t : List ℕ) where
       let n : at + 8 ≡ at + 4 + 4 = omega arith in
       ((λ i. f .0 i * 4294967296 + g .0 i) ∙ div-add-mod' v 4294967296, ap (λ (k : ℕ). drop k t) n ∙ g .1)
 
-  stays : (n : ℕ) (u : List ℕ) → drop n t ≡ u → drop (n + 0) t ≡ u
-  stays n u e = ap (λ (k : ℕ). drop k t) (add-zero n) ∙ e
+  drop-stays : (n : ℕ) (u : List ℕ) → drop n t ≡ u → drop (n + 0) t ≡ u
+  drop-stays n u e = ap (λ (k : ℕ). drop k t) (add-zero n) ∙ e
 
   pub got-word :
       (at p sort v : ℕ) (u : List ℕ) → (sort ≡ 0) ⊎ (p ≡ at) → (sort ≡ 0 → v ≡ 0) → drop at t ≡ putWord sort v u
@@ -149,7 +149,7 @@ module _ (t : List ℕ) where
   unfolding putWord wordFrom
   got-word at p sort v u place none e =
       elim (ℕ-discrete sort 0) [
-        | yes z ↦ rw (eq-eqb sort 0 z) (sym (none z), stays at u (rw (eq-eqb sort 0 z) at e))
+        | yes z ↦ rw (eq-eqb sort 0 z) (sym (none z), drop-stays at u (rw (eq-eqb sort 0 z) at e))
         | no n ↦ (let g = got2 at v u (rw (ne-eqb sort 0 n) at e) in
             rw (ne-eqb sort 0 n) (ap (word2 t) (⊎-elim (λ z. absurd (n z)) (λ z. z) place) ∙ g .0, g .1))
       ]
@@ -167,7 +167,7 @@ module _ (t : List ℕ) where
 
   got-none : (n m v : ℕ) (u : List ℕ) → m ≡ 0 → v ≡ 0 → drop n t ≡ putBits m v u → GotBits n m v u
   unfolding putBits bitsFrom
-  got-none n m v u z y e = rw z (sym y, stays n u (rw z at e))
+  got-none n m v u z y e = rw z (sym y, drop-stays n u (rw z at e))
 
   pub got-bits : (n m v : ℕ) (u : List ℕ) → (m ≡ 0) ⊎ (((m ≡ 4) ⊎ (m ≡ 8)) × (n ≡ 1)) → (m ≡ 0 → v ≡ 0) → drop n t ≡ putBits m v u → GotBits n m v u
   got-bits n m v u place none e =
@@ -181,5 +181,5 @@ module _ (t : List ℕ) where
       elim (ℕ-discrete c k) [
         | yes y ↦ (let g = first-of n v u (rw (eq-eqb c k y) at e) in
             rw (eq-eqb c k y, ne-eqb c 0 (λ o. z (sym y ∙ o))) (λ o. ap (λ (m : ℕ). getD t m 0) (y ∙ sym (place y)) ∙ g .0, g .1))
-        | no y ↦ rw (ne-eqb c k y) (λ o. absurd (y o), stays n u (rw (ne-eqb c k y) at e))
+        | no y ↦ rw (ne-eqb c k y) (λ o. absurd (y o), drop-stays n u (rw (ne-eqb c k y) at e))
       ]

@@ -9,6 +9,7 @@ use lib.Dec.{eqb}
 use lib.ListN.{getD, length, drop, length-append, length-drop}
 use lib.Seq.{drop-drop, drop-length}
 use borrow.Author.Tests.{le-leb, lt-leb, eq-eqb, ne-eqb}
+use Rattle.laws.proofs.Bools.{ne-false-of-true}
 use Rattle.plan_kinds.specs.declared.Record.{Record}
 use Rattle.plan_kinds.specs.declared.Row.{Row}
 use Rattle.plan_kinds.specs.Rows.{rowOf}
@@ -22,7 +23,7 @@ use Rattle.plan_file.specs.Steps.{kindWanted, kindOk, scannedTwice, faultOf, ap
 use Rattle.plan_file.specs.Steps.{rowStep, recordStep, isDone, stepOf, stepsOf, startState, answerOf, readOf}
 use Rattle.plan_file.proofs.StepsTaken.{read-early}
 use Rattle.plan_file.proofs.StepCases.{Way, a-column, an-expr, an-operator, an-item, Taking, steps-keep}
-use Rattle.plan_file.proofs.Finish.{accepted, lastOf, taken-at, true-false}
+use Rattle.plan_file.proofs.Finish.{accepted, lastOf, taken-at}
 use Rattle.plan_file_laws.specs.ByteStrings.{Bytes}
 use Rattle.plan_file_laws.specs.Writing.{putRecord, putRecords, recordsOf, Fits}
 use Rattle.plan_file_laws.proofs.RowFacts.{bytes-drop}
@@ -129,7 +130,7 @@ going-start s w = record { records = []; reads = begin; bytes = refl; fit = none
 
 pub read-to : (s : List ℕ) → Bytes s → (i : ℕ) → isWhole (stepsOf s i .reading) ≡ true → ReadTo s (stepsOf s i)
 read-to s b =
-    steps-keep (Going s) s (going-start s) (λ q k g r w. absurd (true-false (isWhole k) w (r .refuses))) (λ q x t g u. going-taken s b q x t g u)
+    steps-keep (Going s) s (going-start s) (λ q k g r w. absurd (ne-false-of-true (isWhole k) w (r .refuses))) (λ q x t g u. going-taken s b q x t g u)
 
 -- ---- an accepted file
 pub record FileOf (s : List ℕ) (xs : List Record) (q : State) : Type 0 where

@@ -20,8 +20,8 @@ use Rattle.plan_file_laws.proofs.Segments.{one-byte, split-word, split-
 last-code : (r : Row) → Layout r → r .code ≡ 3 → place5 r ≡ 3
 last-code r l e = ⊎-elim (λ z. absurd (omega arith)) (λ z. ⊎-elim (λ y. absurd (omega arith)) (λ y. y .1) z) (l .code)
 
-not-zero : (n : ℕ) → 0 < n → n ≡ 0 → ⊥
-not-zero n h e = omega arith
+ne-zero-of-pos : (n : ℕ) → 0 < n → n ≡ 0 → ⊥
+ne-zero-of-pos n h e = omega arith
 
 -- Bytes that are long enough begin with a record, whose bytes they are, and then the rest. Assumes nothing.
 pub split-record : (t : List ℕ) → Bytes t → rowOf (getD t 0 0) .length ≤ length t → t ≡ putRecord (recordFrom t (rowOf (getD t 0 0)))
@@ -33,7 +33,7 @@ split-record t b h =
     let n = l .total in
     one-byte t 0 (omega arith)
     ∙ ap (λ (u : List ℕ). getD t 0 0 ∷ u)
-    (split-code t 1 1 (r .code) (not-zero 1 (omega arith)) (λ e. refl) (omega arith)
+    (split-code t 1 1 (r .code) (ne-zero-of-pos 1 (omega arith)) (λ e. refl) (omega arith)
     ∙ ap (putCode (eqb (r .code) 1) (codeFrom t (r .code)))
     (split-word t b (place1 r) (r .from) (r .a) (inr (l .a)) (omega arith)
     ∙ ap (putWord (r .a) _)
@@ -43,7 +43,7 @@ split-record t b h =
     ∙ ap (putWord (r .c) _)
     (split-word t b (place4 r) (r .from + 6) (r .d) (l .d) (omega arith)
     ∙ ap (putWord (r .d) _)
-    (split-code t (place5 r) 3 (r .code) (not-zero 3 (omega arith)) (last-code r l) (omega arith)
+    (split-code t (place5 r) 3 (r .code) (ne-zero-of-pos 3 (omega arith)) (last-code r l) (omega arith)
     ∙ ap (putCode (eqb (r .code) 3) (codeFrom t (r .code)))
     (split-bits t b (place6 r) (r .bits) (l .bits) (omega arith)
     ∙ ap (λ (k : ℕ). putBits (r .bits) (bitsFrom t (r .bits)) (drop k t)) (sym n))))))))
@@ -64,12 +64,12 @@ read-back x u f =
     let t = putRecord x u in
     let r = rowOf (x .kind) in
     let l = layout (x .kind) in
-    let g1 = got-code t 1 1 (r .code) (x .code) _ (not-zero 1 (omega arith)) (λ e. refl) refl in
+    let g1 = got-code t 1 1 (r .code) (x .code) _ (ne-zero-of-pos 1 (omega arith)) (λ e. refl) refl in
     let g2 = got-word t (place1 r) (r .from) (r .a) (x .a) _ (inr (l .a)) (f .no-a) (g1 .1) in
     let g3 = got-word t (place2 r) (r .from + 2) (r .b) (x .b) _ (l .b) (f .no-b) (g2 .1) in
     let g4 = got-word t (place3 r) (r .from + 4) (r .c) (x .c) _ (l .c) (f .no-c) (g3 .1) in
     let g5 = got-word t (place4 r) (r .from + 6) (r .d) (x .d) _ (l .d) (f .no-d) (g4 .1) in
-    let g6 = got-code t (place5 r) 3 (r .code) (x .code) _ (not-zero 3 (omega arith)) (last-code r l) (g5 .1) in
+    let g6 = got-code t (place5 r) 3 (r .code) (x .code) _ (ne-zero-of-pos 3 (omega arith)) (last-code r l) (g5 .1) in
     let g7 = got-bits t (place6 r) (r .bits) (x .bits) u (l .bits) (f .no-bits) (g6 .1) in
     let c : codeFrom (putRecord x u) (rowOf (x .kind) .code) ≡ x .code =
     ⊎-elim (λ z. code-none t (r .code) z ∙ sym (f .no-code z)) (λ z. ⊎-elim (λ y. g1 .0 y) (λ y. g6 .0 (y .0)) z) (l .code) in

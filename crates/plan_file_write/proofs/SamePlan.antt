@@ -1,13 +1,13 @@
 -- A plan that keeps the rules is written as the plan file's own definition has it. Assumes nothing.
-use Prim.Native.Nat.{ℕ, zero, suc, _+_, _%_, _<_, _≤_}
-use mathlib.Core.Bool.{Bool, true, false, cond}
+use Prim.Native.Nat.{ℕ, zero, suc, _+_, _<_, _≤_}
+use mathlib.Core.Bool.{true, cond}
 use mathlib.Core.List.{List, [], _∷_, _++_}
 use mathlib.Core.Path.{_≡_, refl, sym, ap, subst, _∙_}
 use native.Mathlib.Omega.{arith}
-use borrow.Author.Tests.{ltb-true, eqb-true}
+use borrow.Author.Tests.{ltb-true}
 use lib.Dec.{eqb, ltb}
 use lib.ListN.{getD}
-use Rattle.lists.proofs.RangeLaws.{and-left, and-right}
+use Rattle.laws.proofs.Bools.{and-left, and-right}
 use Rattle.plan_kinds.specs.declared.Record.{Record}
 use Rattle.plan_kinds.specs.Rows.{rowOf, expressions}
 use Rattle.plan_kinds.specs.Records.{codeOk, bitsOk}
@@ -22,24 +22,18 @@ use Rattle.plan_file_laws.proofs.Sequences.{put-snoc}
 use Rattle.plan_file_laws.proofs.Cuts.{put-rest}
 use Rattle.plan_file_laws.proofs.Written.{put-append}
 use Rattle.writing.specs.Text.{lines}
-use Rattle.plan_file_write.specs.Written.{clippedBits, recordBytes, itemIn, itemsBytes, listedBytes, columnIn, columnsBytes, exprBytes}
+use Rattle.plan_file_write.specs.Written.{recordBytes, itemIn, itemsBytes, listedBytes, columnIn, columnsBytes, exprBytes}
 use Rattle.plan_file_write.specs.Written.{operatorBytes, writtenOf}
+use Rattle.plan_file_write.proofs.WriteLaws.{same-bits}
 
 -- a literal that its four bytes hold
 Small : Record → Type 0
 Small x = rowOf (x .kind) .bits ≡ 4 → x .bits < 4294967296
 
-small-bits : (n v : ℕ) → (n ≡ 4 → v < 4294967296) → clippedBits n v ≡ v
-small-bits n v f = go (eqb n 4) refl
-  where
-    go : (b : Bool) → eqb n 4 ≡ b → cond b (v % 4294967296) v ≡ v
-    go true e = let h = f (eqb-true n 4 e) in omega (arith, h)
-    go false e = refl
-
 same-bytes : (x : Record) → Small x → recordBytes x ≡ putRecord x []
 unfolding recordBytes Small
 same-bytes x f = λ i. putRecord
-    (record { kind = x .kind; code = x .code; a = x .a; b = x .b; c = x .c; d = x .d; bits = small-bits (rowOf (x .kind) .bits) (x .bits) f i }) []
+    (record { kind = x .kind; code = x .code; a = x .a; b = x .b; c = x .c; d = x .d; bits = same-bits (rowOf (x .kind) .bits) (x .bits) f i }) []
 
 record-rest : (x : Record) (u : List ℕ) → putRecord x u ≡ putRecord x [] ++ u
 unfolding putRecords

@@ -56,7 +56,7 @@ kind-second x k n r e f l =
     sym (ap (λ (b : Bool). cond b (rowOf (x .kind) .item) 0x40) (le-ltb k (firstOf x) (subst (λ (m : ℕ). m ≤ k) (f ∙ ap (λ (q : Row). countOf q x) e) l)))
 
 -- ---- a plan whose literals fit their bytes is written as the plan file has it
-same-bits : (n v : ℕ) → (n ≡ 4 → v < 4294967296) → clippedBits n v ≡ v
+pub same-bits : (n v : ℕ) → (n ≡ 4 → v < 4294967296) → clippedBits n v ≡ v
 same-bits n v f = go (eqb n 4) refl
   where
     go : (b : Bool) → eqb n 4 ≡ b → cond b (v % 4294967296) v ≡ v

@@ -16,7 +16,7 @@ use Rattle.plan_identities.specs.declared.ValueId.the-variants.{Base, De
 use Rattle.plan_identities.specs.Places.{firstFrom}
 use Rattle.plan_identities.specs.Identities.{tableIn, tableOf, before, sizeOf, columnsOf, baseOf, derivedOf, numberBy, valueBy, numberOf}
 use Rattle.plan_identities.specs.Identities.{valueIdOf, identitiesOf, numberIn, valueIn, smaller, ofPlan}
-use Rattle.plan_identities.proofs.PlaceLaws.{by-test, first-only, first-none, first-passes, first-same, filled-at}
+use Rattle.plan_identities.proofs.PlaceLaws.{by-test, first-only, first-none, first-passes, first-same, filled-table-at}
 use Rattle.plan_identities.proofs.OrderLaws.{columns-ordered}
 use Rattle.plan_identities.proofs.RankLaws.{rank-order, rank-differs, rank-small, rank-onto, count-two}
 
@@ -144,7 +144,7 @@ module _ (p : Plan) where
   -- the Base number of each column of the plan
   pub held : (c : ℕ) → c < columnsOf p → getD (identitiesOf p .base) c 0 ≡ baseOf p c
   unfolding identitiesOf
-  held c h = filled-at (baseOf p) (columnsOf p) c (omega arith) h
+  held c h = filled-table-at (baseOf p) (columnsOf p) c (omega arith) h
 
   held-size : sizeOf (identitiesOf p .columns) ≡ columnsOf p
   unfolding identitiesOf

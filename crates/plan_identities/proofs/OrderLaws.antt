@@ -1,14 +1,14 @@
 -- The order of columns by table, then name, then column number is a strict total order. Assumes nothing.
 use Prim.Native.Nat.{ℕ, _<_}
 use mathlib.Core.Path.{_≡_, refl, sym, _∙_}
-use mathlib.Core.Bool.{Bool, true, false}
+use mathlib.Core.Bool.{Bool, true, false, false≢true}
 use mathlib.Core.Logic.{_⊎_, inl, inr, ⊎-elim}
 use native.Mathlib.Omega.{arith}
 use lib.Dec.{ltb, eqb}
 use borrow.Author.Tests.{ltb-true, ltb-false, lt-ltb, le-ltb, eqb-true, eq-eqb}
 use Rattle.plan.specs.declared.Plan.{Plan}
 use Rattle.plan_identities.specs.Identities.{tableOf, nameOf, byKey, before}
-use Rattle.plan_identities.proofs.PlaceLaws.{by-test, no-pass}
+use Rattle.plan_identities.proofs.PlaceLaws.{by-test}
 
 -- a test of two numbers that is a strict total order: none comes before itself, what comes before what comes before c comes before c, and of two
 -- different ones one comes before the other
@@ -34,7 +34,7 @@ module _ (key : ℕ → ℕ) (rest : ℕ → ℕ → Bool) where
   unfolding byKey
   key-says a b e =
       by-test (ltb (key a) (key b)) (λ l. inl (ltb-true (key a) (key b) l))
-      (λ l. by-test (eqb (key a) (key b)) (λ q. inr (eqb-true (key a) (key b) q, rw (l, q) at e)) (λ q. absurd (no-pass (rw (l, q) at e))))
+      (λ l. by-test (eqb (key a) (key b)) (λ q. inr (eqb-true (key a) (key b) q, rw (l, q) at e)) (λ q. absurd (false≢true (rw (l, q) at e))))
 
   pub key-less : (a b : ℕ) → key a < key b → byKey key rest a b ≡ true
   unfolding byKey

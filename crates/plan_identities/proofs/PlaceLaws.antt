@@ -2,14 +2,15 @@
 -- Assumes nothing.
 use Prim.Native.Nat.{ℕ, zero, suc, _+_, _-_, _<_, _≤_}
 use mathlib.Core.Path.{_≡_, refl, ap, subst, _∙_}
-use mathlib.Core.Bool.{Bool, true, false, cond}
+use mathlib.Core.Bool.{Bool, true, false, cond, false≢true}
 use mathlib.Core.List.{List}
 use mathlib.Core.Logic.{_⊎_, ⊎-elim}
-use native.Mathlib.Nat.{eq-or-lt-of-le}
+use native.Mathlib.Nat.{eq-or-lt-of-le, sub-eq-zero-of-le}
 use native.Mathlib.Omega.{arith}
 use native.Mathlib.Numerals.{add-one}
 use lib.ListN.{length, getD, set, length-set}
 use lib.Seq.{getD-set-same, getD-set-other}
+use Rattle.laws.proofs.Numbers.{sub-suc-of-lt}
 use Rattle.lists.specs.Ranges.{anyFrom}
 use Rattle.plan_identities.specs.Places.{firstFrom, filled}
 
@@ -18,22 +19,13 @@ pub by-test : {P : Type 0} (t : Bool) → (t ≡ true → P) → (t ≡ false �
 by-test true yes-way no-way = yes-way refl
 by-test false yes-way no-way = no-way refl
 
-pub no-pass : false ≡ true → ⊥
-no-pass e = let z : _≡_ {A = ℕ} 0 1 = cc in omega arith
-
 last-or-less : (c n : ℕ) → c < suc n → (c ≡ n) ⊎ (c < n)
 last-or-less c n lt = eq-or-lt-of-le (omega arith)
-
-left-one : (i e : ℕ) → i < e → e - i ≡ suc (e - (i + 1))
-left-one i e lt = omega arith
-
-left-none : (i e : ℕ) → e ≤ i → e - i ≡ 0
-left-none i e le = omega arith
 
 module _ (f : ℕ → Bool) (g : ℕ → ℕ) (d : ℕ) where
   pub first-step : (i e : ℕ) → i < e → firstFrom f g d i (e - i) ≡ cond (f i) (g i) (firstFrom f g d (i + 1) (e - (i + 1)))
   unfolding firstFrom
-  first-step i e lt = rw (left-one i e lt, add-one)
+  first-step i e lt = rw (sub-suc-of-lt i e lt, add-one)
 
   -- t is what the code's test said
   pub first-found : (i e : ℕ) (t : Bool) → i < e → t ≡ f i → t ≡ true → firstFrom f g d i (e - i) ≡ g i
@@ -45,7 +37,7 @@ module _ (f : ℕ → Bool) (g : ℕ → ℕ) (d : ℕ) where
 
   pub first-done : (i e : ℕ) → e ≤ i → firstFrom f g d i (e - i) ≡ d
   unfolding firstFrom
-  first-done i e le = rw (left-none i e le)
+  first-done i e le = rw (sub-eq-zero-of-le le)
 
   -- where the test passes at one place alone, that is the first
   pub first-only :
@@ -79,23 +71,23 @@ pub record Found (f : ℕ → Bool) (i n k : ℕ) : Type 0 where
 
 pub first-passes : (f : ℕ → Bool) (d n i : ℕ) → anyFrom f i n ≡ true → Found f i n (firstFrom f (λ (c : ℕ). c) d i n)
 unfolding firstFrom anyFrom
-first-passes f d zero i e = absurd (no-pass e)
+first-passes f d zero i e = absurd (false≢true e)
 first-passes f d (suc n) i e =
     by-test (f i) (λ q. rw q (record { passes = q; from = omega arith; within = omega arith }))
     (λ q. rw q (let r = first-passes f d n (suc i) (rw q at e) in record { passes = r .passes; from = omega arith; within = omega arith }))
 
 -- a table filled from its start: its length, what stands there, and that it depends on nothing else
-pub filled-length : (f : ℕ → ℕ) (n : ℕ) → length (filled f n) ≡ 64
+pub filled-table-length : (f : ℕ → ℕ) (n : ℕ) → length (filled f n) ≡ 64
 unfolding filled
-filled-length f zero = refl
-filled-length f (suc n) = simp length-set (filled-length f n)
+filled-table-length f zero = refl
+filled-table-length f (suc n) = simp length-set (filled-table-length f n)
 
-pub filled-at : (f : ℕ → ℕ) (n c : ℕ) → n ≤ 64 → c < n → getD (filled f n) c 0 ≡ f c
+pub filled-table-at : (f : ℕ → ℕ) (n c : ℕ) → n ≤ 64 → c < n → getD (filled f n) c 0 ≡ f c
 unfolding filled
-filled-at f zero c le lt = absurd (omega arith)
-filled-at f (suc n) c le lt =
-    ⊎-elim (λ (z : c ≡ n). rw z (getD-set-same (filled f n) n (f n) 0 (omega (arith, filled-length f n))))
-    (λ l. getD-set-other (filled f n) n c (f n) 0 (λ z. omega arith) ∙ filled-at f n c (omega arith) l) (last-or-less c n lt)
+filled-table-at f zero c le lt = absurd (omega arith)
+filled-table-at f (suc n) c le lt =
+    ⊎-elim (λ (z : c ≡ n). rw z (getD-set-same (filled f n) n (f n) 0 (omega (arith, filled-table-length f n))))
+    (λ l. getD-set-other (filled f n) n c (f n) 0 (λ z. omega arith) ∙ filled-table-at f n c (omega arith) l) (last-or-less c n lt)
 
 pub filled-same : (f g : ℕ → ℕ) (n : ℕ) → ((c : ℕ) → c < n → f c ≡ g c) → filled f n ≡ filled g n
 unfolding filled

@@ -17,7 +17,7 @@ use Rattle.plan_identities.specs.declared.Identities.{Identities}
 use Rattle.plan_identities.specs.Places.{firstFrom, filled}
 use Rattle.plan_identities.specs.Identities.{tableOf, nameOf, byKey, before, sizeOf, columnsOf, baseOf, numberBy, valueBy, identitiesOf}
 use Rattle.plan_identities.specs.Identities.{numberIn, valueIn, rankIn}
-use Rattle.plan_identities.proofs.PlaceLaws.{filled-at, filled-same}
+use Rattle.plan_identities.proofs.PlaceLaws.{filled-table-at, filled-same}
 
 module _ (ids : Identities) where
   module _ (v : ValueId) (c : Column) where
@@ -61,7 +61,7 @@ rank-base p n ts s e c h =
     ∙ ap (λ (m : ℕ). countFrom (λ (b : ℕ). before p b c) 0 m) s
   where
     at : (j : ℕ) → j < n → getD ts j 0 ≡ tableOf p j
-    at j l = rw e (filled-at (tableOf p) n j (omega arith) l)
+    at j l = rw e (filled-table-at (tableOf p) n j (omega arith) l)
 
 pub all-numbered :
     (p : Plan) (n : ℕ) (ts bs : List ℕ) → n ≡ columnsOf p → ts ≡ filled (tableOf p) n → bs ≡ filled (rankIn ts (p .columns .name) n) n

@@ -2,7 +2,7 @@
 -- Assumes nothing.
 use Prim.Native.Nat.{ℕ, zero, suc, _+_, _-_, _<_, _≤_}
 use mathlib.Core.Path.{_≡_, refl, sym, subst, _∙_}
-use mathlib.Core.Bool.{Bool, true, false, cond}
+use mathlib.Core.Bool.{Bool, true, false, cond, false≢true}
 use mathlib.Core.Logic.{_⊎_, inl, inr, ⊎-elim}
 use native.Mathlib.Nat.{eq-or-lt-of-le, le-refl}
 use native.Mathlib.Omega.{arith}
@@ -10,7 +10,7 @@ use lib.Dec.{ltb, eqb}
 use borrow.Author.Tests.{lt-ltb, le-ltb, eqb-true, eqb-false, eq-eqb, ne-eqb}
 use Rattle.lists.specs.Ranges.{anyFrom, countFrom}
 use Rattle.lists.proofs.RangeLaws.{count-none, below-or-not}
-use Rattle.plan_identities.proofs.PlaceLaws.{by-test, no-pass}
+use Rattle.plan_identities.proofs.PlaceLaws.{by-test}
 use Rattle.plan_identities.proofs.OrderLaws.{Strict}
 
 same-or-not : (a b : ℕ) → (a ≡ b) ⊎ (a ≡ b → ⊥)
@@ -61,7 +61,7 @@ count-one f (suc n) i h =
 -- one at least passes where one is known to
 count-some : (f : ℕ → Bool) (n i k : ℕ) → i ≤ k → k < i + n → f k ≡ true → 1 ≤ countFrom f i n
 count-some f n i k lo hi e =
-    omega (arith, count-less (λ (j : ℕ). false) f n i k (λ j a b q. absurd (no-pass q)) lo hi refl e)
+    omega (arith, count-less (λ (j : ℕ). false) f n i k (λ j a b q. absurd (false≢true q)) lo hi refl e)
 
 -- two that pass are the same, where at most one passes
 pub count-two : (f : ℕ → Bool) (n j k : ℕ) → j < n → k < n → countFrom f 0 n ≤ 1 → f j ≡ true → f k ≡ true → j ≡ k

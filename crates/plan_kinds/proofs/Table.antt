@@ -6,20 +6,13 @@ use mathlib.Core.List.{List, [], _∷_}
 use native.Mathlib.Omega.{arith}
 use lib.Dec.{ltb, leb, eqb}
 use borrow.Author.Tests.{eqb-true, leb-true, eq-eqb, ne-eqb}
+use Rattle.laws.proofs.Bools.{and-left, and-right, or-neg-resolve-left}
 use Rattle.plan_kinds.specs.declared.Row.{Row}
 use Rattle.plan_kinds.specs.Rows.{Line, kinds, unlisted, lineOf, rowOf}
 
 unfoldable pub holds : (Row → Bool) → List Line → Bool
 holds f [] = true
 holds f (l ∷ ls) = f (l .row) && holds f ls
-
-pub and-left : (a b : Bool) → (a && b) ≡ true → a ≡ true
-and-left true b e = refl
-and-left false b e = e
-
-pub and-right : (a b : Bool) → (a && b) ≡ true → b ≡ true
-and-right true b e = e
-and-right false b e = absurd (let z : _≡_ {A = ℕ} 0 1 = cc in omega arith)
 
 either : (f : Row → Bool) (t : Bool) (r s : Row) → f r ≡ true → f s ≡ true → f (cond t r s) ≡ true
 either f true r s a b = a
@@ -39,14 +32,10 @@ every-row f u e k = every f k kinds u e
 columnCodes : Row → Bool
 columnCodes r = not (eqb (r .sort) 1) || (eqb (r .low) 1 && eqb (r .high) 5)
 
-or-holds : (t b : Bool) → t ≡ true → (not t || b) ≡ true → b ≡ true
-or-holds true b e h = h
-or-holds false b e h = absurd (let z : _≡_ {A = ℕ} 0 1 = cc in omega arith)
-
 pub column-codes : (k : ℕ) → rowOf k .sort ≡ 1 → (rowOf k .low ≡ 1) × (rowOf k .high ≡ 5)
 unfolding columnCodes holds
 column-codes k e =
-    let h = or-holds (eqb (rowOf k .sort) 1) _ (eq-eqb _ _ e) (every-row columnCodes refl refl k) in
+    let h = or-neg-resolve-left (eqb (rowOf k .sort) 1) _ (eq-eqb _ _ e) (every-row columnCodes refl refl k) in
     (eqb-true _ _ (and-left _ _ h), eqb-true _ _ (and-right (eqb (rowOf k .low) 1) _ h))
 
 -- a listed record takes two bytes at least
@@ -74,4 +63,4 @@ twoWords r = not (eqb (r .sort) 2) || (eqb (r .c) 0 && eqb (r .d) 0)
 
 pub two-words : (k : ℕ) → rowOf k .sort ≡ 2 → rowOf k .c ≡ 0
 unfolding twoWords holds
-two-words k e = eqb-true _ _ (and-left _ _ (or-holds (eqb (rowOf k .sort) 2) _ (eq-eqb _ _ e) (every-row twoWords refl refl k)))
+two-words k e = eqb-true _ _ (and-left _ _ (or-neg-resolve-left (eqb (rowOf k .sort) 2) _ (eq-eqb _ _ e) (every-row twoWords refl refl k)))

@@ -9,8 +9,11 @@ use native.Mathlib.Omega.{arith}
 use lib.Dec.{ltb, leb, eqb}
 use lib.ListN.{getD}
 use borrow.Author.Tests.{leb-true, ltb-true, le-leb, eqb-true, ne-eqb}
+use native.Mathlib.Nat.{not-le-of-lt}
+use Rattle.laws.proofs.Bools.{and-left, and-right, and-both}
+use Rattle.laws.proofs.Numbers.{eq-of-le-lt-add-one}
 use Rattle.lists.specs.Ranges.{allFrom, anyFrom, countFrom}
-use Rattle.lists.proofs.RangeLaws.{below-or-not, and-left, and-right, and-both, all-at, any-same, any-none, count-same, count-none}
+use Rattle.lists.proofs.RangeLaws.{below-or-not, all-at, any-same, any-none, count-same, count-none}
 use Rattle.plan_kinds.specs.declared.Record.{Record}
 use Rattle.plan_kinds.specs.Rows.{rowOf, lineOf}
 use Rattle.plan_kinds.specs.Records.{handleOk, handlesOk, countOf, moreOf}
@@ -109,9 +112,9 @@ module _ (p q : Plan) (e : Extends p q) (r : Rules p) where
           ∙ count-same (scans q c) (scans p c) (p .operators .count) 0 (λ i lo hi. scans-kept c i (omega arith))
 
 -- ---- the counts
-within : (nc ne np used : ℕ) → nc ≤ 64 → ne ≤ 1024 → np ≤ 128 → used ≤ 2048 → countsWithin nc ne np used ≡ true
+pub counts-fit : (nc ne np used : ℕ) → nc ≤ 64 → ne ≤ 1024 → np ≤ 128 → used ≤ 2048 → countsWithin nc ne np used ≡ true
 unfolding countsWithin
-within nc ne np used a b c d =
+counts-fit nc ne np used a b c d =
     and-both _ _ (le-leb nc 64 a) (and-both _ _ (le-leb ne 1024 b) (and-both _ _ (le-leb np 128 c) (le-leb used 2048 d)))
 
 -- the counts of a plan that keeps the rules are within the sizes
@@ -135,34 +138,27 @@ counts-within p r =
     }
 
 -- ---- appending
--- none is new where the count stays
-none-new : (n i : ℕ) → n ≤ i → i < n → ⊥
-none-new n i a b = omega arith
-
-only-new : (n i : ℕ) → n ≤ i → i < n + 1 → n ≡ i
-only-new n i a b = omega arith
-
 pub column-keeps : (p : Plan) (x : Record) → Sized p → Rules p → p .columns .count < 64 → 1 ≤ x .code → x .code ≤ 5 → Rules (withColumn p x)
 column-keeps p x s r room low high =
     let w = counts-within p r in
     let e = column-longer p x in
-    grown p (withColumn p x) e r (within _ _ _ _ (omega arith) (w .exprs) (w .operators) (w .items))
+    grown p (withColumn p x) e r (counts-fit _ _ _ _ (omega arith) (w .exprs) (w .operators) (w .items))
     (λ i a b.
-    subst (λ (n : ℕ). columnOk (withColumn p x) n ≡ true) (only-new _ _ a b)
+    subst (λ (n : ℕ). columnOk (withColumn p x) n ≡ true) (eq-of-le-lt-add-one _ _ a b)
     (subst (λ (y : Record). (leb 1 (y .code) && leb (y .code) 5) ≡ true) (sym (new-column p x s room))
     (and-both _ _ (le-leb 1 (x .code) low) (le-leb (x .code) 5 high))))
-    (λ i a b. absurd (none-new _ _ a b))
-    (λ i a b. absurd (none-new _ _ a b))
+    (λ i a b. absurd (not-le-of-lt b a))
+    (λ i a b. absurd (not-le-of-lt b a))
     (λ c h. once-kept p (withColumn p x) e r refl c)
 
 pub item-keeps : (p : Plan) (x : Record) → Rules p → p .items .count < 2048 → Rules (withItem p x)
 item-keeps p x r room =
     let w = counts-within p r in
     let e = item-longer p x in
-    grown p (withItem p x) e r (within _ _ _ _ (w .columns) (w .exprs) (w .operators) (omega arith))
-    (λ i a b. absurd (none-new _ _ a b))
-    (λ i a b. absurd (none-new _ _ a b))
-    (λ i a b. absurd (none-new _ _ a b))
+    grown p (withItem p x) e r (counts-fit _ _ _ _ (w .columns) (w .exprs) (w .operators) (omega arith))
+    (λ i a b. absurd (not-le-of-lt b a))
+    (λ i a b. absurd (not-le-of-lt b a))
+    (λ i a b. absurd (not-le-of-lt b a))
     (λ c h. once-kept p (withItem p x) e r refl c)
 
 pub expr-keeps :
@@ -171,10 +167,10 @@ pub expr-keeps :
 expr-keeps p x st r room ok =
     let w = counts-within p r in
     let e = expr-longer p x st in
-    grown p (withExpr p x st) e r (within _ _ _ _ (w .columns) (omega arith) (w .operators) (w .items))
-    (λ i a b. absurd (none-new _ _ a b))
-    (λ i a b. subst (λ (n : ℕ). exprOk (withExpr p x st) n ≡ true) (only-new _ _ a b) ok)
-    (λ i a b. absurd (none-new _ _ a b))
+    grown p (withExpr p x st) e r (counts-fit _ _ _ _ (w .columns) (omega arith) (w .operators) (w .items))
+    (λ i a b. absurd (not-le-of-lt b a))
+    (λ i a b. subst (λ (n : ℕ). exprOk (withExpr p x st) n ≡ true) (eq-of-le-lt-add-one _ _ a b) ok)
+    (λ i a b. absurd (not-le-of-lt b a))
     (λ c h. once-kept p (withExpr p x st) e r refl c)
 
 pub operator-keeps :
@@ -183,8 +179,8 @@ pub operator-keeps :
 operator-keeps p x st r room ok once =
     let w = counts-within p r in
     let e = operator-longer p x st in
-    grown p (withOperator p x st) e r (within _ _ _ _ (w .columns) (w .exprs) (omega arith) (w .items))
-    (λ i a b. absurd (none-new _ _ a b))
-    (λ i a b. absurd (none-new _ _ a b))
-    (λ i a b. subst (λ (n : ℕ). operatorOk (withOperator p x st) n ≡ true) (only-new _ _ a b) ok)
+    grown p (withOperator p x st) e r (counts-fit _ _ _ _ (w .columns) (w .exprs) (omega arith) (w .items))
+    (λ i a b. absurd (not-le-of-lt b a))
+    (λ i a b. absurd (not-le-of-lt b a))
+    (λ i a b. subst (λ (n : ℕ). operatorOk (withOperator p x st) n ≡ true) (eq-of-le-lt-add-one _ _ a b) ok)
     once

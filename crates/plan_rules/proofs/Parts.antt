@@ -4,8 +4,8 @@ use mathlib.Core.Path.{_≡_, refl, sym}
 use mathlib.Core.Bool.{Bool, true, false, _&&_}
 use lib.Dec.{leb}
 use borrow.Author.Tests.{leb-true}
+use Rattle.laws.proofs.Bools.{and-left, and-right}
 use Rattle.lists.specs.Ranges.{allFrom}
-use Rattle.lists.proofs.RangeLaws.{and-left, and-right}
 use Rattle.plan.specs.declared.Plan.{Plan}
 use Rattle.plan_rules.specs.Rules.{columnOk, exprOk, operatorOk, scannedOnce, countsWithin, countsOk, planOk}
 

@@ -9,8 +9,9 @@ use native.Mathlib.Omega.{arith}
 use lib.Dec.{ltb, leb, eqb}
 use lib.ListN.{getD}
 use borrow.Author.Tests.{leb-true, ltb-true, le-leb, lt-ltb}
+use Rattle.laws.proofs.Bools.{and-left, and-right, and-both}
 use Rattle.lists.specs.Ranges.{allFrom, anyFrom, countFrom}
-use Rattle.lists.proofs.RangeLaws.{below-or-not, and-left, and-right, and-both, all-at, all-of, all-mono, any-same, count-same}
+use Rattle.lists.proofs.RangeLaws.{below-or-not, all-of, all-mono, any-same, count-same, table}
 use Rattle.plan_kinds.specs.declared.Record.{Record}
 use Rattle.plan_kinds.specs.declared.Row.{Row}
 use Rattle.plan_kinds.specs.Rows.{rowOf}
@@ -29,9 +30,6 @@ pub record Rules (p : Plan) : Type 0 where
   pub operator : (i : ℕ) → i < p .operators .count → operatorOk p i ≡ true
   pub once : (c : ℕ) → c < p .columns .count → scannedOnce p c ≡ true
 
-at-each : (f : ℕ → Bool) (n : ℕ) → allFrom f 0 n ≡ true → (i : ℕ) → i < n → f i ≡ true
-at-each f n e i h = all-at f n 0 e i (omega arith) (omega arith)
-
 of-each : (f : ℕ → Bool) (n : ℕ) → ((i : ℕ) → i < n → f i ≡ true) → allFrom f 0 n ≡ true
 of-each f n h = all-of f n 0 (λ j lo hi. h j (omega arith))
 
@@ -43,10 +41,10 @@ rules p e =
     let e4 = and-right (allFrom (exprOk p) 0 (p .expressions .count)) _ e3 in
     record {
       counts = and-left _ _ e;
-      column = at-each (columnOk p) _ (and-left _ _ e2);
-      expr = at-each (exprOk p) _ (and-left _ _ e3);
-      operator = at-each (operatorOk p) _ (and-left _ _ e4);
-      once = at-each (scannedOnce p) _ (and-right (allFrom (operatorOk p) 0 (p .operators .count)) _ e4);
+      column = table (columnOk p) _ (and-left _ _ e2);
+      expr = table (exprOk p) _ (and-left _ _ e3);
+      operator = table (operatorOk p) _ (and-left _ _ e4);
+      once = table (scannedOnce p) _ (and-right (allFrom (operatorOk p) 0 (p .operators .count)) _ e4);
     }
 
 pub rules-of : (p : Plan) → Rules p → planOk p ≡ true

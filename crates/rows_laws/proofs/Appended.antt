@@ -4,10 +4,9 @@ use mathlib.Core.Path.{_≡_, refl, sym, ap, ap₂, fun-ext, _∙_}
 use mathlib.Core.Bool.{Bool, _&&_}
 use mathlib.Core.List.{List, [], _∷_, _++_}
 use mathlib.Core.Logic.{⊎-elim}
-use Prim.Native.Nat.{ℕ, zero, suc, _+_, _<_, _≤_}
+use Prim.Native.Nat.{ℕ, zero, suc, _<_}
 use native.Mathlib.Omega.{arith}
-use lib.ListN.{length, getD, take, drop}
-use lib.Seq.{drop-cons}
+use Rattle.laws.proofs.Lists.{take-drop-same}
 use Rattle.lists.proofs.RangeLaws.{below-or-not}
 use Rattle.truth.specs.Truth.{every, some}
 use Rattle.scalar.specs.Kinds.{kindOfCode, sameKind}
@@ -122,17 +121,6 @@ module _ (node other : ℕ → ExprData) (items more : List ℕ) (n : ℕ)
         more (node k) (runs k (omega arith))
         ∙ ap (nodeTyped (flagged (inOrder (typingNext columns node items) k)) (booleanAt wider other) (operandsOf more)) (sym (nodes k (omega arith))))))
 
--- a part of two lists whose entries there are the same
-part-same : (l m : List ℕ) (n s : ℕ) → s + n ≤ length l → s + n ≤ length m → ((j : ℕ) → s ≤ j → j < s + n → getD m j 0 ≡ getD l j 0)
-    → take n (drop s m) ≡ take n (drop s l)
-part-same l m zero s a b h = refl
-part-same l m (suc n) s a b h =
-    let p : s < length l = omega arith in
-    let q : s < length m = omega arith in
-    rw (drop-cons l s 0 p, drop-cons m s 0 q)
-    (ap₂ (λ (x : ℕ) (xs : List ℕ). x ∷ xs) (h s (omega arith) (omega arith))
-    (part-same l m n (suc s) (omega arith) (omega arith) (λ j lo hi. h j (omega arith) (omega arith))))
-
 module _ (p q : Plan) (r : Rules p) (e : Extends p q) (sp : Sized p) (sq : Sized q) where
   -- the expressions that p had are the same nodes in q
   pub node-kept : (h : ℕ) → h < p .expressions .count → nodeAt q h ≡ nodeAt p h
@@ -147,7 +135,7 @@ module _ (p q : Plan) (r : Rules p) (e : Extends p q) (sp : Sized p) (sq : Sized
       go (Unary op x) k = tt
       go (Binary op x y) k = tt
       go (Nary op es) k =
-          part-same (p .items .a) (q .items .a) (es .count) (es .start)
+          take-drop-same (p .items .a) (q .items .a) (es .count) (es .start)
           (omega (arith, k .0, counts-within p r .items, sp .item-a)) (omega (arith, k .0, counts-within p r .items, sq .item-a))
           (λ j lo hi. ap (λ (x : Record). x .a) (e .item j (omega (arith, k .0))))
 

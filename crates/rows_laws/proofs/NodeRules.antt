@@ -8,8 +8,9 @@ use native.Mathlib.Omega.{arith}
 use lib.Dec.{leb, eqb}
 use lib.ListN.{getD}
 use borrow.Author.Tests.{eqb-true, ltb-true, leb-true}
+use Rattle.laws.proofs.Bools.{and-left, and-right}
 use Rattle.lists.specs.Ranges.{allFrom}
-use Rattle.lists.proofs.RangeLaws.{and-left, and-right, all-at}
+use Rattle.lists.proofs.RangeLaws.{all-at}
 use Rattle.plan_kinds.specs.declared.Record.{Record}
 use Rattle.plan_kinds.specs.Rows.{rowOf, lineOf}
 use Rattle.plan_kinds.specs.Records.{codeOk, bitsOk, handleOk, handlesOk, countOf, moreOf}

@@ -1,11 +1,12 @@
 -- The value of an expression goes by the columns that it refers to, and no others. Assumes nothing.
 use mathlib.Core.Path.{_≡_, refl, sym, ap, ap₂, _∙_}
-use mathlib.Core.Bool.{Bool, true, false, _||_}
+use mathlib.Core.Bool.{Bool, true, false}
 use mathlib.Core.List.{List, [], _∷_}
 use mathlib.Core.Logic.{⊎-elim}
 use Prim.Native.Nat.{ℕ, zero, suc, _<_}
 use native.Mathlib.Omega.{arith}
 use borrow.Author.Tests.{eq-eqb}
+use Rattle.laws.proofs.Bools.{or-inl, or-inr}
 use Rattle.lists.proofs.RangeLaws.{below-or-not}
 use Rattle.truth.specs.Truth.{some}
 use Rattle.scalar.specs.declared.ScalarValue.{ScalarValue}
@@ -24,13 +25,6 @@ use Rattle.rows_spec.proofs.InOrderLaws.{in-order-at}
 use Rattle.rows_spec.proofs.ValueLaws.{value-step, value-past, value-in}
 use Rattle.rows_laws.specs.References.{nodeRefers, refersNext, references, refersTo, exprRefersTo}
 
-or-left : (a b : Bool) → a ≡ true → (a || b) ≡ true
-or-left a b e = rw e
-
-or-right : (a b : Bool) → b ≡ true → (a || b) ≡ true
-or-right true b e = refl
-or-right false b e = e
-
 -- operands that have the same values have the same truths; `agrees` says which operands have
 module _ (v w : ℕ → ScalarValue) (refers : ℕ → ℕ → Bool) (Same : ℕ → Type 0)
     (operand : (e : ℕ) → ((c : ℕ) → refers c e ≡ true → Same c) → v e ≡ w e) where
@@ -38,8 +32,8 @@ module _ (v w : ℕ → ScalarValue) (refers : ℕ → ℕ → Bool) (Same : ℕ
   unfolding truths some
   truths-same [] h = refl
   truths-same (e ∷ l) h =
-      ap₂ (λ (x : ℕ) (xs : List ℕ). x ∷ xs) (ap truthOf (operand e (λ c r. h c (or-left (refers c e) (some (refers c) l) r))))
-      (truths-same l (λ c r. h c (or-right (refers c e) (some (refers c) l) r)))
+      ap₂ (λ (x : ℕ) (xs : List ℕ). x ∷ xs) (ap truthOf (operand e (λ c r. h c (or-inl (refers c e) (some (refers c) l) r))))
+      (truths-same l (λ c r. h c (or-inr (refers c e) (some (refers c) l) r)))
 
 -- a node goes by the columns that it refers to
 node-same :
@@ -51,8 +45,8 @@ node-same cell other v w refers run operand (ColumnRef k) h = h (k .0) (eq-eqb (
 node-same cell other v w refers run operand (Unary op e) h = ap (unaryOf op) (operand (e .0) h)
 node-same cell other v w refers run operand (Binary op l r) h =
     ap ofTruth
-    (ap₂ (compareOf op) (operand (l .0) (λ c q. h c (or-left (refers c (l .0)) (refers c (r .0)) q)))
-    (operand (r .0) (λ c q. h c (or-right (refers c (l .0)) (refers c (r .0)) q))))
+    (ap₂ (compareOf op) (operand (l .0) (λ c q. h c (or-inl (refers c (l .0)) (refers c (r .0)) q)))
+    (operand (r .0) (λ c q. h c (or-inr (refers c (l .0)) (refers c (r .0)) q))))
 node-same cell other v w refers run operand (Nary op es) h =
     ap (λ (l : List ℕ). ofTruth (naryOf op l)) (truths-same v w refers (λ (c : ℕ). cell c ≡ other c) operand (run es) h)
 

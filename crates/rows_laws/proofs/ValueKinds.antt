@@ -7,7 +7,8 @@ use native.Mathlib.Omega.{arith}
 use lib.Dec.{ltb}
 use lib.ListN.{getD}
 use borrow.Author.Tests.{ltb-true}
-use Rattle.lists.proofs.RangeLaws.{and-left, and-right, all-at}
+use Rattle.laws.proofs.Bools.{and-left, and-right, or-inr}
+use Rattle.lists.proofs.RangeLaws.{all-at}
 use Rattle.truth.specs.Truth.{isFalse, isTrue, notT}
 use Rattle.scalar.specs.Kinds.{kindOf, isNull, sameKind}
 use Rattle.scalar.specs.declared.Kind.{Kind}
@@ -38,10 +39,6 @@ use Rattle.rows_laws.proofs.NodeRules.{NodeOk, node-ok}
 abbrev pub ofKind : Kind → ScalarValue → Bool
 ofKind k v = isNull v || sameKind (kindOf v) k
 
-or-second : (a b : Bool) → b ≡ true → (a || b) ≡ true
-or-second true b e = refl
-or-second false b e = e
-
 truth-boolean : (t : ℕ) → ofKind K.Boolean (ofTruth t) ≡ true
 truth-boolean t = go (isFalse t) (isTrue t)
   where
@@ -53,7 +50,7 @@ truth-boolean t = go (isFalse t) (isTrue t)
 -- a node's value is NULL or of its kind, where a column's is
 node-kind : (columns : List ℕ) (cell value : ℕ → ScalarValue) (run : Run → List ℕ) (nc : ℕ) → ((c : ℕ) → c < nc → fitsKind (getD columns c 0) (cell c) ≡ true)
     → (items : List ℕ) (used h : ℕ) (x : ExprData) → NodeOk nc items used h x → ofKind (kindOfNode columns x) (nodeValue cell value run x) ≡ true
-node-kind columns cell value run nc fits items used h (Literal v) ok = or-second (isNull v) (sameKind (kindOf v) (kindOf v)) (kind-self (kindOf v))
+node-kind columns cell value run nc fits items used h (Literal v) ok = or-inr (isNull v) (sameKind (kindOf v) (kindOf v)) (kind-self (kindOf v))
 node-kind columns cell value run nc fits items used h (ColumnRef c) ok = fits (c .0) ok
 node-kind columns cell value run nc fits items used h (Unary Not e) ok = truth-boolean (notT (truthOf (value (e .0))))
 node-kind columns cell value run nc fits items used h (Unary IsNull e) ok = refl

@@ -3,8 +3,8 @@ use mathlib.Core.Path.{_≡_}
 use mathlib.Core.Bool.{true, false, _&&_}
 use Prim.Native.Nat.{_<_, _≤_}
 use borrow.Author.Tests.{lt-ltb, le-ltb}
+use Rattle.laws.proofs.Bools.{and-left}
 use Rattle.lists.specs.Ranges.{allFrom}
-use Rattle.lists.proofs.RangeLaws.{and-left}
 use Rattle.plan.specs.declared.Plan.{Plan}
 use Rattle.plan.specs.declared.Expr.{Expr}
 use Rattle.plan_rules.specs.Rules.{columnOk, exprOk, operatorOk, scannedOnce, countsOk, planOk}

@@ -1,4 +1,3 @@
-pub mod Tables
 pub mod PartLaws
 pub mod InOrderLaws
 pub mod ValueLaws

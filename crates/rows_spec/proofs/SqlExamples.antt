@@ -50,9 +50,9 @@ unfolding compareOf
 fives-distinct = refl
 
 -- FALSE is below TRUE, -1 below 0
-pub false-below : compareOf Lt (S.Boolean false) (S.Boolean true) ≡ 2
+pub false-less-true : compareOf Lt (S.Boolean false) (S.Boolean true) ≡ 2
 unfolding compareOf
-false-below = refl
+false-less-true = refl
 
 pub negative-below : compareOf GtEq (S.Int64 (negsuc 0)) (S.Int64 (pos 0)) ≡ 0
 unfolding compareOf
@@ -187,6 +187,6 @@ unfolding typings inOrder exprData every
 is-typed = refl
 
 -- with an Int32 b it is not
-pub not-typed : typedAt (2 ∷ 2 ∷ []) predicate (2 ∷ 4 ∷ []) 5 ≡ false
+pub predicate-not-typed : typedAt (2 ∷ 2 ∷ []) predicate (2 ∷ 4 ∷ []) 5 ≡ false
 unfolding typings inOrder exprData every
-not-typed = refl
+predicate-not-typed = refl

@@ -2,21 +2,17 @@
 use mathlib.Core.Path.{_≡_, refl, sym, ap, fun-ext, _∙_}
 use mathlib.Core.Bool.{Bool, true, false}
 use mathlib.Core.List.{List}
-use Prim.Native.Nat.{ℕ, zero, suc, _+_, _<_, _≤_}
+use Prim.Native.Nat.{ℕ, suc, _+_, _<_, _≤_}
 use native.Mathlib.Omega.{arith}
 use lib.Dec.{ltb, eqb}
 use lib.ListN.{length, getD, set, replicate, length-set}
 use lib.Seq.{getD-set-same, getD-set-other}
 use borrow.Author.Tests.{eqb-true, eqb-false, ltb-true, ltb-false}
+use Rattle.laws.proofs.Lists.{getD-replicate-self}
 use Rattle.plan_data.specs.Nodes.{operandsOf}
 use Rattle.plan_data.specs.declared.ExprData.{ExprData}
 use Rattle.rows_spec.specs.Typing.{booleanAt, nodeTyped, flagged, typingNext, typings, typedAt}
 use Rattle.rows_spec.proofs.InOrderLaws.{in-order-at, in-order-past}
-
-never : (n e : ℕ) → getD (replicate n false) e false ≡ false
-never zero e = refl
-never (suc n) zero = refl
-never (suc n) (suc e) = never n e
 
 module _ (columns : List ℕ) (node : ℕ → ExprData) (items : List ℕ) where
   -- h is typed in a list of flags where its node is, by the flags before it
@@ -39,7 +35,7 @@ module _ (columns : List ℕ) (node : ℕ → ExprData) (items : List ℕ) where
     pub each : (e : ℕ) → getD flags e false ≡ flagged (typings columns node items i) e
 
   pub flags-none : Flags (replicate 1024 false) 0
-  flags-none = record { size = refl; each = λ e. never 1024 e ∙ sym (typing-past 0 e (omega arith)) }
+  flags-none = record { size = refl; each = λ e. getD-replicate-self 1024 e false ∙ sym (typing-past 0 e (omega arith)) }
 
   pub flags-more : (flags : List Bool) (i : ℕ) → i < 1024 → Flags flags i
       → (t : Bool) → t ≡ nodeTyped (flagged flags) (booleanAt columns node) (operandsOf items) (node i) → Flags (set flags i t) (i + 1)

@@ -5,7 +5,7 @@ use Prim.Native.Nat.{ℕ, suc, _+_, _-_, _<_, _≤_}
 use native.Mathlib.Omega.{arith}
 use lib.ListN.{length, getD, take, drop}
 use Rattle.truth.specs.Truth.{allOf, anyOf}
-use Rattle.truth.proofs.TruthLaws.{and-unit, or-unit, and-comm, or-comm, and-assoc, or-assoc, and-code, or-code, all-code, any-code}
+use Rattle.truth.proofs.TruthLaws.{and-unit, or-unit, andT-comm, orT-comm, andT-assoc, orT-assoc, and-code, or-code, all-code, any-code}
 use Rattle.scalar.specs.declared.Kind.the-variants as K
 use Rattle.scalar.specs.declared.ScalarValue.{ScalarValue}
 use Rattle.scalar.specs.declared.ScalarValue.the-variants as S
@@ -34,9 +34,9 @@ module _ (cell : ℕ → ScalarValue) (node : ℕ → ExprData) (items : List �
   value-in n h lt = value-step n h lt ∙ sym (value-step (suc h) h (omega arith))
 
   -- the code at a node: what it read there is e, and what it answers is the value of e over the values before
-  pub node-way : (n h : ℕ) → h < n → (x e : ExprData) (r : ScalarValue) → x ≡ node h → x ≡ e
+  pub node-value-way : (n h : ℕ) → h < n → (x e : ExprData) (r : ScalarValue) → x ≡ node h → x ≡ e
       → r ≡ nodeValue cell (valueIn (values cell node items h)) (operandsOf items) e → r ≡ valueIn (values cell node items n) h
-  node-way n h lt x e r p q s =
+  node-value-way n h lt x e r p q s =
       s ∙ ap (nodeValue cell (valueIn (values cell node items h)) (operandsOf items)) (sym q ∙ p) ∙ sym (value-step n h lt)
 
 -- And and Or go through their operands one by one, and the truth of none changes nothing
@@ -45,8 +45,8 @@ nary-unit And l = and-unit (allOf l) (all-code l)
 nary-unit Or l = or-unit (anyOf l) (any-code l)
 
 join-none : (op : NaryOp) (t : ℕ) → t < 3 → joinOf op t (noneOf op) ≡ t
-join-none And t lt = and-comm t 2 ∙ and-unit t lt
-join-none Or t lt = or-comm t 0 ∙ or-unit t lt
+join-none And t lt = andT-comm t 2 ∙ and-unit t lt
+join-none Or t lt = orT-comm t 0 ∙ or-unit t lt
 
 nary-none : (op : NaryOp) → naryOf op [] ≡ noneOf op
 unfolding allOf anyOf
@@ -55,8 +55,8 @@ nary-none Or = refl
 
 nary-more : (op : NaryOp) (t x : ℕ) (l : List ℕ) → joinOf op t (naryOf op (x ∷ l)) ≡ joinOf op (joinOf op t x) (naryOf op l)
 unfolding allOf anyOf
-nary-more And t x l = sym (and-assoc t x (allOf l))
-nary-more Or t x l = sym (or-assoc t x (anyOf l))
+nary-more And t x l = sym (andT-assoc t x (allOf l))
+nary-more Or t x l = sym (orT-assoc t x (anyOf l))
 
 join-code : (op : NaryOp) (x y : ℕ) → joinOf op x y < 3
 join-code And x y = and-code x y

@@ -32,14 +32,14 @@ pub infinity : scalarToF64 (S.Float64 (ofBits binary64 0x7ff0_0000_0000_0000)) �
 unfolding ofBits
 infinity = refl
 
-pub no-number : scalarToF64 (S.Float64 (ofBits binary64 0x7ff8_0000_0000_0000)) ≡ Nothing
+pub nan-no-number : scalarToF64 (S.Float64 (ofBits binary64 0x7ff8_0000_0000_0000)) ≡ Nothing
 unfolding ofBits
-no-number = refl
+nan-no-number = refl
 
 -- 0.0 equals -0.0, whose bits stay; the NaN differs from itself
-pub zeros : sameScalar (scalarOf 0x14 0 0) (scalarOf 0x14 0 0x8000_0000_0000_0000) ≡ true
+pub zeros-same : sameScalar (scalarOf 0x14 0 0) (scalarOf 0x14 0 0x8000_0000_0000_0000) ≡ true
 unfolding ofBits eq
-zeros = refl
+zeros-same = refl
 
 pub minus-zero : bitsOf (scalarOf 0x14 0 0x8000_0000_0000_0000) ≡ 0x8000_0000_0000_0000
 unfolding ofBits toBits
@@ -70,5 +70,5 @@ pub false-below : lessScalar (S.Boolean false) (S.Boolean true) ≡ true
 false-below = refl
 
 -- bits 2 ^ 32 - 1 are the Int32 -1
-pub minus-one : scalarOf 0x12 0 0xffff_ffff ≡ S.Int32 (negsuc 0)
-minus-one = refl
+pub all-ones-minus-one : scalarOf 0x12 0 0xffff_ffff ≡ S.Int32 (negsuc 0)
+all-ones-minus-one = refl

@@ -77,8 +77,8 @@ fits-down f s (suc m) e t =
     leb→le (down e) (2 ^ low f) (and-r (eqb (suc m % 2) 1 && ltb (suc m) (2 ^ prec f)) (leb (down e) (2 ^ low f))
     (and-l (eqb (suc m % 2) 1 && ltb (suc m) (2 ^ prec f) && leb (down e) (2 ^ low f)) (ltb (suc m * up e) (2 ^ suc (emax f) * down e)) t))
 
-within : (k l : ℕ) → 2 ^ suc k ≤ 2 ^ l → suc k ≤ l
-within k l h = go (leb (suc k) l) (leb→le (suc k) l) (nleb→lt (suc k) l)
+exponent-le : (k l : ℕ) → 2 ^ suc k ≤ 2 ^ l → suc k ≤ l
+exponent-le k l h = go (leb (suc k) l) (leb→le (suc k) l) (nleb→lt (suc k) l)
   where
     go : (b : Bool) → (T b → suc k ≤ l) → (T (not b) → l < suc k) → suc k ≤ l
     go true y n = y tt
@@ -99,7 +99,7 @@ units-val : (l m : ℕ) (e : ℤ) → down e ≤ 2 ^ l → unitsAt l m e * down 
 units-val l m (pos k) h = mul-one (m * 2 ^ (k + l)) ∙ ap (λ (x : ℕ). m * x) (pow-add 2 k l) ∙ sym (mul-assoc m (2 ^ k) (2 ^ l))
 units-val l m (negsuc k) h =
     mul-assoc m (2 ^ (l - suc k)) (2 ^ suc k)
-    ∙ ap (λ (x : ℕ). m * x) (sym (pow-add 2 (l - suc k) (suc k)) ∙ ap (λ (x : ℕ). 2 ^ x) (back l (suc k) (within k l h)))
+    ∙ ap (λ (x : ℕ). m * x) (sym (pow-add 2 (l - suc k) (suc k)) ∙ ap (λ (x : ℕ). 2 ^ x) (back l (suc k) (exponent-le k l h)))
     ∙ ap (λ (x : ℕ). x * 2 ^ l) (sym (mul-one m))
 
 -- ---- `<` and `==` on finite floats

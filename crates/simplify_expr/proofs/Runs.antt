@@ -1,13 +1,14 @@
 -- The ways of `simplify_expr` and `simplify_run`, one by one, over their definitions: the code's passage through the operands leaves what the
 -- definition says. Assumes nothing.
 use mathlib.Core.Path.{_≡_, refl, sym, ap, ap₂, _∙_}
-use mathlib.Core.Bool.{Bool, true, false, not, cond, _&&_, _||_}
+use mathlib.Core.Bool.{Bool, true, false, not, cond, _&&_, or-assoc, or-false}
 use mathlib.Core.List.{List, [], _∷_}
 use Prim.Native.Nat.{ℕ, suc, _+_, _-_, _<_, _≤_}
 use native.Mathlib.Omega.{arith}
 use lib.Dec.{eqb, ltb}
 use lib.ListN.{length, getD}
 use borrow.Author.Tests.{ne-eqb, lt-ltb, le-ltb}
+use Rattle.laws.proofs.Bools.{cond-same}
 use Rattle.comparison.specs.declared.BinaryOp.{BinaryOp}
 use Rattle.plan.specs.declared.Items.{Items}
 use Rattle.plan.specs.declared.Expr.{Expr}
@@ -26,21 +27,9 @@ use Rattle.simplify_expr.specs.declared.Tally.{Tally}
 use Rattle.simplify_expr.specs.Passage.{Out, plainOut, noTally, nextTally, lastOf, tallied, reserved, rebuiltOut, bottomOf, backItems, withPut}
 use Rattle.simplify_expr.specs.Passage.{written, placed}
 
-or-assoc : (a b c : Bool) → (a || b) || c ≡ a || (b || c)
-or-assoc true b c = refl
-or-assoc false b c = refl
-
-or-none : (a : Bool) → a || false ≡ a
-or-none true = refl
-or-none false = refl
-
-same-either : {A : Type 0} (t : Bool) (x : A) → cond t x x ≡ x
-same-either true x = refl
-same-either false x = refl
-
 written-none : (o : Out) (k : ℕ) → written o k [] ≡ o
 unfolding itemsPut
-written-none o k = ap (withPut o) (same-either (o .list) (o .res .st .items))
+written-none o k = ap (withPut o) (cond-same (o .list) (o .res .st .items))
 
 tally-one : (t : Tally) (e v : ℕ) (neutral deciding : Bool) (q : Operands) → tallied (nextTally t e v neutral deciding) q ≡ tallied t
     (joinedBy neutral deciding e v q)
@@ -103,7 +92,7 @@ module _ (all : Bool) (h : ℕ) (ok : Bool) (st : Tables) (p m : ℕ) (t : Tally
   run-none e o eo =
       let n : t .kept + 0 ≡ t .kept = omega arith in
       let same : tallied t (noOperands ok st) ≡ t =
-      (λ i. record { kept = n i; last = t .last; dirty = or-none (t .dirty) i; absorbed = or-none (t .absorbed) i }) in
+      (λ i. record { kept = n i; last = t .last; dirty = or-false (t .dirty) i; absorbed = or-false (t .absorbed) i }) in
       eo
       ∙ sym (ap (λ (x : Tally). bottomOf all h ok st x) same)
       ∙ sym (written-none (bottomOf all h ok st (tallied t (noOperands ok st))) (t .kept))

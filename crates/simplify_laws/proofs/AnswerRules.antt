@@ -1,14 +1,15 @@
 -- The plan that the simplifier hands back keeps the rules. Assumes nothing.
 use mathlib.Core.Path.{_≡_, refl, sym, ap, ap₂, subst, _∙_}
-use mathlib.Core.Bool.{true, cond, _&&_}
+use mathlib.Core.Bool.{true, cond, _&&_, true≢false}
 use Prim.Native.Nat.{ℕ, zero, suc, _+_, _-_, _<_, _≤_}
 use native.Mathlib.Omega.{arith}
 use native.Mathlib.Nat.{le-refl}
 use lib.Dec.{ltb, leb, eqb}
 use lib.ListN.{length, getD}
-use borrow.Author.Tests.{lt-ltb, le-ltb, le-leb, eqb-true, ltb-true, leb-true}
+use borrow.Author.Tests.{lt-ltb, le-ltb, eqb-true, ltb-true, leb-true}
+use Rattle.laws.proofs.Bools.{and-left, and-right, cond-elim}
 use Rattle.lists.specs.Ranges.{allFrom}
-use Rattle.lists.proofs.RangeLaws.{and-left, and-right, and-both, all-at}
+use Rattle.lists.proofs.RangeLaws.{all-at}
 use Rattle.plan_kinds.specs.declared.Record.{Record}
 use Rattle.plan_kinds.specs.Rows.{rowOf, lineOf}
 use Rattle.plan_kinds.specs.Records.{codeOk, bitsOk, handleOk, handlesOk, countOf, moreOf}
@@ -18,11 +19,11 @@ use Rattle.plan.specs.declared.Items.{Items}
 use Rattle.plan.specs.declared.Operator.{Operator}
 use Rattle.plan.specs.Records.{operatorRecord, operatorStart}
 use Rattle.plan.specs.Extends.{Sized}
-use Rattle.plan_rules.specs.Rules.{recordOk, itemOk, listsOk, operatorOkOf, countsWithin, planOk}
+use Rattle.plan_rules.specs.Rules.{recordOk, itemOk, listsOk, operatorOkOf, planOk}
 use Rattle.plan_rules.proofs.RuleLaws.{Rules, rules, rules-of, grown}
-use Rattle.plan_rules.proofs.AppendRules.{counts-within, once-kept}
+use Rattle.plan_rules.proofs.AppendRules.{counts-within, once-kept, counts-fit}
 use Rattle.plan_data.specs.Codes.{joinTypeOf}
-use Rattle.plan_data.specs.Nodes.{operatorData, recordOfOperator}
+use Rattle.plan_data.specs.Nodes.{operatorData, recordOfOperator, operatorAt}
 use Rattle.plan_data.specs.declared.JoinType.{JoinType}
 use Rattle.plan_data.specs.declared.JoinType.the-variants.{Inner, LeftSemi, LeftAnti, LeftOuter, Single, RightOuter, FullOuter, LeftMark}
 use Rattle.plan_data.specs.declared.OperatorData.{OperatorData}
@@ -30,17 +31,15 @@ use Rattle.plan_data.specs.declared.OperatorData.the-variants.{Scan, ConstScan,
 use Rattle.plan_data.specs.declared.OperatorData.the-variants.{Limit, Output, CrossProduct, Join}
 use Rattle.simplify_spec.specs.Shapes.{isLiteral}
 use Rattle.simplify_spec.specs.OneExpression.{handle, shapeIn, withItems}
-use Rattle.simplify_spec.specs.OneOperator.{operatorAt, heldOf, heldCount, heldAt, eachTo, eachOf, startOf, addOperator, inputOr, rewriteOf}
+use Rattle.simplify_spec.specs.OneOperator.{heldOf, heldCount, heldAt, eachTo, eachOf, startOf, addOperator, inputOr, rewriteOf}
 use Rattle.simplify_spec.specs.OneOperator.{simplifyOf, itemCount, itemFirst, itemSecond, withList, rebuiltOf, planWith, planAdded}
 use Rattle.simplify_spec.specs.Meaning.{Good}
 use Rattle.simplify_spec.specs.declared.Tables.{Tables}
 use Rattle.simplify_spec.specs.declared.Each.{Each}
 use Rattle.simplify_spec.specs.declared.Rewritten.{Rewritten}
-use Rattle.simplify_spec.proofs.HeldLaws.{choose}
-use Rattle.simplify_spec.proofs.Keeping.{told}
 use Rattle.simplify_spec.proofs.OperatorTheorems.{list-extends, all-kept, is-rewrite}
 use Rattle.simplify_laws.specs.Wholes.{RightOperator}
-use Rattle.simplify_laws.proofs.NewOperators.{new-rules, selection-right, Marked, join-right, map-right, sort-right, aggregation-right}
+use Rattle.simplify_laws.proofs.NewOperators.{new-rules, selection-right, Marked, join-operator-right, map-right, sort-right, aggregation-right}
 use Rattle.simplify_laws.proofs.NewOperators.{write-length, write-at}
 
 -- the old record x, its lists from start0 on in the items t0; new tables with ne expressions and items t, and what became of the expressions
@@ -145,12 +144,12 @@ module _ (x : Record) (start0 nc ne0 np used : ℕ) (t0 : Items) (ok : recordOk 
   code-marked : (m : Items) (u c : ℕ) (le : u ≤ m .count) → Marked m nc ne n u le (joinTypeOf c)
   code-marked m u c le =
       let P : JoinType → Type 0 = λ j. Marked m nc ne n u le j in
-      choose P (eqb c 0) _ _ (λ e. tt)
-      (λ e. choose P (eqb c 1) _ _ (λ e. tt)
-      (λ e. choose P (eqb c 2) _ _ (λ e. tt)
-      (λ e. choose P (eqb c 3) _ _ (λ e. tt)
-      (λ e. choose P (eqb c 4) _ _ (λ e. tt)
-      (λ e. choose P (eqb c 5) _ _ (λ e. tt) (λ e. tt))))))
+      cond-elim P (eqb c 0) _ _ (λ e. tt)
+      (λ e. cond-elim P (eqb c 1) _ _ (λ e. tt)
+      (λ e. cond-elim P (eqb c 2) _ _ (λ e. tt)
+      (λ e. cond-elim P (eqb c 3) _ _ (λ e. tt)
+      (λ e. cond-elim P (eqb c 4) _ _ (λ e. tt)
+      (λ e. cond-elim P (eqb c 5) _ _ (λ e. tt) (λ e. tt))))))
 
   -- the entries of the new lists
   module _ (f h : ℕ → ℕ) (m : ℕ) (room : t .count + m ≤ 2048) where
@@ -176,7 +175,7 @@ module _ (x : Record) (start0 nc ne0 np used : ℕ) (t0 : Items) (ok : recordOk 
   join-fine e one ats room =
       record {
         right =
-            join-right (withList t 0 (λ (k : ℕ). 0) (λ (k : ℕ). 0)) nc ne n (t .count) (omega arith) (joinTypeOf (x .code)) (handle (at 0))
+            join-operator-right (withList t 0 (λ (k : ℕ). 0) (λ (k : ℕ). 0)) nc ne n (t .count) (omega arith) (joinTypeOf (x .code)) (handle (at 0))
             (record { 0 = x .b }) (record { 0 = x .c }) (ats 0 (omega arith))
             (as-operator (rowOf (x .kind) .b) (x .b) (row-b 0x3C 4 refl e) hB) (as-operator (rowOf (x .kind) .c) (x .c) (row-c 0x3C 4 refl e) hC)
             (code-marked (withList t 0 (λ (k : ℕ). 0) (λ (k : ℕ). 0)) (t .count) (x .code) (omega arith));
@@ -189,7 +188,7 @@ module _ (x : Record) (start0 nc ne0 np used : ℕ) (t0 : Items) (ok : recordOk 
   mark-fine e one ats room =
       record {
         right =
-            join-right (withList t 0 (λ (k : ℕ). 0) (λ (k : ℕ). 0)) nc ne n (t .count) (omega arith) (LeftMark (record { 0 = x .d })) (handle (at 0))
+            join-operator-right (withList t 0 (λ (k : ℕ). 0) (λ (k : ℕ). 0)) nc ne n (t .count) (omega arith) (LeftMark (record { 0 = x .d })) (handle (at 0))
             (record { 0 = x .b }) (record { 0 = x .c }) (ats 0 (omega arith))
             (as-operator (rowOf (x .kind) .b) (x .b) (row-b 0x3D 4 refl e) hB) (as-operator (rowOf (x .kind) .c) (x .c) (row-c 0x3D 4 refl e) hC)
             (as-column (rowOf (x .kind) .d) (x .d) (row-d 0x3D 2 refl e) hD);
@@ -273,27 +272,22 @@ module _ (x : Record) (start0 nc ne0 np used : ℕ) (t0 : Items) (ok : recordOk 
   all-fine =
       let k = x .kind in
       let P : OperatorData → Type 0 = λ d. FineIf d in
-      choose P (eqb k 0x30) _ _ (λ e. nothing _ refl)
-      (λ e. choose P (eqb k 0x31) _ _ (λ e. nothing _ refl)
-      (λ e. choose P (eqb k 0x32) _ _ (λ e. nothing _ refl)
-      (λ e. choose P (eqb k 0x33) _ _ (λ e. selection-fine (eqb-true k 0x33 e))
-      (λ e. choose P (eqb k 0x34) _ _ (λ e. nothing _ refl)
-      (λ e. choose P (eqb k 0x35) _ _ (λ e. nothing _ refl)
-      (λ e. choose P (eqb k 0x36) _ _ (λ e. map-fine (eqb-true k 0x36 e))
-      (λ e. choose P (eqb k 0x37) _ _ (λ e. aggregation-fine (eqb-true k 0x37 e))
-      (λ e. choose P (eqb k 0x38) _ _ (λ e. sort-fine (eqb-true k 0x38 e))
-      (λ e. choose P (eqb k 0x39) _ _ (λ e. nothing _ refl)
-      (λ e. choose P (eqb k 0x3A) _ _ (λ e. nothing _ refl)
-      (λ e. choose P (eqb k 0x3B) _ _ (λ e. nothing _ refl)
-      (λ e. choose P (eqb k 0x3C) _ _ (λ e. join-fine (eqb-true k 0x3C e))
-      (λ e. choose P (eqb k 0x3D) _ _ (λ e. mark-fine (eqb-true k 0x3D e)) (λ e. nothing _ refl))))))))))))))
+      cond-elim P (eqb k 0x30) _ _ (λ e. nothing _ refl)
+      (λ e. cond-elim P (eqb k 0x31) _ _ (λ e. nothing _ refl)
+      (λ e. cond-elim P (eqb k 0x32) _ _ (λ e. nothing _ refl)
+      (λ e. cond-elim P (eqb k 0x33) _ _ (λ e. selection-fine (eqb-true k 0x33 e))
+      (λ e. cond-elim P (eqb k 0x34) _ _ (λ e. nothing _ refl)
+      (λ e. cond-elim P (eqb k 0x35) _ _ (λ e. nothing _ refl)
+      (λ e. cond-elim P (eqb k 0x36) _ _ (λ e. map-fine (eqb-true k 0x36 e))
+      (λ e. cond-elim P (eqb k 0x37) _ _ (λ e. aggregation-fine (eqb-true k 0x37 e))
+      (λ e. cond-elim P (eqb k 0x38) _ _ (λ e. sort-fine (eqb-true k 0x38 e))
+      (λ e. cond-elim P (eqb k 0x39) _ _ (λ e. nothing _ refl)
+      (λ e. cond-elim P (eqb k 0x3A) _ _ (λ e. nothing _ refl)
+      (λ e. cond-elim P (eqb k 0x3B) _ _ (λ e. nothing _ refl)
+      (λ e. cond-elim P (eqb k 0x3C) _ _ (λ e. join-fine (eqb-true k 0x3C e))
+      (λ e. cond-elim P (eqb k 0x3D) _ _ (λ e. mark-fine (eqb-true k 0x3D e)) (λ e. nothing _ refl))))))))))))))
 
 -- ---- the plan handed back
-counts-right : (nc ne np used : ℕ) → nc ≤ 64 → ne ≤ 1024 → np ≤ 128 → used ≤ 2048 → countsWithin nc ne np used ≡ true
-unfolding countsWithin
-counts-right nc ne np used a b c d =
-    and-both _ _ (le-leb nc 64 a) (and-both _ _ (le-leb ne 1024 b) (and-both _ _ (le-leb np 128 c) (le-leb used 2048 d)))
-
 -- the items of the new operator
 module _ (p : Plan) (st : Tables) (g : Good p st) (m : ℕ) (f h : ℕ → ℕ) (room : st .items .count + m ≤ 2048) where
   abbrev pub listedWith : Tables
@@ -303,7 +297,7 @@ module _ (p : Plan) (st : Tables) (g : Good p st) (m : ℕ) (f h : ℕ → ℕ) 
   listed-rules =
       let w = counts-within (planWith p st) (g .rules) in
       let e = list-extends p st m f h in
-      grown (planWith p st) (planWith p listedWith) e (g .rules) (counts-right _ _ _ _ (w .columns) (w .exprs) (w .operators) room)
+      grown (planWith p st) (planWith p listedWith) e (g .rules) (counts-fit _ _ _ _ (w .columns) (w .exprs) (w .operators) room)
       (λ i a b. absurd (omega arith))
       (λ i a b. absurd (omega arith))
       (λ i a b. absurd (omega arith))
@@ -333,7 +327,7 @@ module _ (p : Plan) (s : Sized p) (ok : planOk p ≡ true) (o : Operator) (lt : 
     where
       go : (n : ℕ) → heldCount (heldOf (operatorAt p (o .0))) ≡ n → 1 ≤ n
       go zero e =
-          absurd (told
+          absurd (true≢false
           (sym (ap (λ (k : ℕ). eachTo (p .expressions .count) (heldAt (p .items) (heldOf (operatorAt p (o .0)))) (startOf p) k .st .changed) (sym e) ∙ c)))
       go (suc n) e = omega arith
 
@@ -383,7 +377,7 @@ module _ (p : Plan) (s : Sized p) (ok : planOk p ≡ true) (o : Operator) (lt : 
         (λ (k : ℕ). getD (eachOf p (operatorAt p (o .0)) .ats) k 0) .plan) ≡ true
     add-right =
         let test = leb (eachOf p (operatorAt p (o .0)) .st .items .count + itemCount (heldOf (operatorAt p (o .0)))) 2048 in
-        choose (λ (w : Rewritten). planOk (w .plan) ≡ true)
+        cond-elim (λ (w : Rewritten). planOk (w .plan) ≡ true)
         (ltb (p .operators .count) 128 && leb (eachOf p (operatorAt p (o .0)) .st .items .count + itemCount (heldOf (operatorAt p (o .0)))) 2048) _ _
         (λ t.
         added-right (ltb-true (p .operators .count) 128 (and-left (ltb (p .operators .count) 128) _ t))
@@ -398,7 +392,7 @@ module _ (p : Plan) (s : Sized p) (ok : planOk p ≡ true) (o : Operator) (lt : 
     input-right (ConstScan a) = add-right
     input-right (TableFunction a) = add-right
     input-right (Selection a b) =
-        choose (λ (w : Rewritten). planOk (w .plan) ≡ true)
+        cond-elim (λ (w : Rewritten). planOk (w .plan) ≡ true)
         (isLiteral true (shapeIn (eachOf p (operatorAt p (o .0)) .st) (getD (eachOf p (operatorAt p (o .0)) .ats) 0 0))) _ _
         (λ t. rules-of (planWith p (eachOf p (operatorAt p (o .0)) .st)) (good .rules)) (λ t. add-right)
     input-right (Projection a b) = add-right
@@ -416,7 +410,7 @@ module _ (p : Plan) (s : Sized p) (ok : planOk p ≡ true) (o : Operator) (lt : 
   unfolding rewriteOf
   answer-right =
       subst (λ (w : Rewritten). planOk (w .plan) ≡ true) (sym (is-rewrite p s ok o lt))
-      (choose (λ (w : Rewritten). planOk (w .plan) ≡ true) (eachOf p (operatorAt p (o .0)) .ok) _ _
-      (λ q. choose (λ (w : Rewritten). planOk (w .plan) ≡ true) (eachOf p (operatorAt p (o .0)) .st .changed) _ _ (λ c. input-right q c (operatorAt p (o .0)))
-      (λ c. ok))
+      (cond-elim (λ (w : Rewritten). planOk (w .plan) ≡ true) (eachOf p (operatorAt p (o .0)) .ok) _ _
+      (λ q. cond-elim (λ (w : Rewritten). planOk (w .plan) ≡ true) (eachOf p (operatorAt p (o .0)) .st .changed) _ _
+      (λ c. input-right q c (operatorAt p (o .0))) (λ c. ok))
       (λ q. ok))

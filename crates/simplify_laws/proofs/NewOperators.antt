@@ -1,6 +1,6 @@
 -- An operator that is no Scan and right where it comes to stand keeps the rules; and so is the simplifier's, kind by kind. Assumes nothing.
 use mathlib.Core.Path.{_≡_, refl, sym, ap, _∙_}
-use mathlib.Core.Bool.{Bool, true, false, cond, _&&_}
+use mathlib.Core.Bool.{Bool, true, false, _&&_}
 use mathlib.Core.List.{List}
 use Prim.Native.Nat.{ℕ, zero, suc, _+_, _-_, _<_, _≤_, _%_}
 use native.Mathlib.Omega.{arith}
@@ -10,8 +10,9 @@ use lib.Dec.{leb, eqb}
 use lib.ListN.{length, getD, set, length-set}
 use lib.Seq.{getD-set-same, getD-set-other}
 use borrow.Author.Tests.{lt-ltb, le-leb, eq-eqb, ne-eqb, eqb-true, eqb-false}
+use Rattle.laws.proofs.Bools.{and-both}
 use Rattle.lists.specs.Ranges.{allFrom, countFrom}
-use Rattle.lists.proofs.RangeLaws.{and-both, all-of, count-same}
+use Rattle.lists.proofs.RangeLaws.{all-of, count-same, count-last}
 use Rattle.plan_kinds.specs.declared.Record.{Record}
 use Rattle.plan_kinds.specs.Rows.{rowOf, lineOf}
 use Rattle.plan_kinds.specs.Records.{bitsOk, handleOk, countOf, moreOf}
@@ -33,15 +34,8 @@ use Rattle.plan_data.specs.declared.OperatorData.the-variants.{Join}
 use Rattle.simplify_spec.specs.OneOperator.{writeAll}
 use Rattle.simplify_laws.specs.Wholes.{RightOperator}
 
-count-last : (f : ℕ → Bool) (n i : ℕ) → f (i + n) ≡ false → countFrom f i (suc n) ≡ countFrom f i n
-unfolding countFrom
-count-last f zero i e =
-    let z : i + 0 ≡ i = omega arith in
-    let q : f i ≡ false = ap f (sym z) ∙ e in
-    rw q
-count-last f (suc n) i e =
-    let z : suc i + n ≡ i + suc n = omega arith in
-    ap (λ (m : ℕ). cond (f i) 1 0 + m) (count-last f n (suc i) (ap f z ∙ e))
+count-last-missed : (f : ℕ → Bool) (n i : ℕ) → f (i + n) ≡ false → countFrom f i (suc n) ≡ countFrom f i n
+count-last-missed f n i e = rw (count-last f n i, e) (omega arith)
 
 module _ (q : Plan) (x : Record) (start : ℕ) (r : Rules q) (s : Sized q) (free : q .operators .count < 128) (other : x .kind ≡ 0x30 → ⊥) (none : x .bits ≡ 0)
     (right : RightOperator (q .items) (q .columns .count) (q .expressions .count) (q .operators .count) start x) where
@@ -80,7 +74,7 @@ module _ (q : Plan) (x : Record) (start : ℕ) (r : Rules q) (s : Sized q) (free
   once c lt =
       ap (λ (m : ℕ). leb m 1)
       (ap (countFrom (scans (withOperator q x start) c) 0) (add-one (q .operators .count))
-      ∙ count-last (scans (withOperator q x start) c) (q .operators .count) 0 (no-scan c)
+      ∙ count-last-missed (scans (withOperator q x start) c) (q .operators .count) 0 (no-scan c)
       ∙ count-same (scans (withOperator q x start) c) (scans q c) (q .operators .count) 0
       (λ i lo hi. scans-kept q (withOperator q x start) (operator-longer q x start) r c i (omega arith)))
       ∙ r .once c lt
@@ -90,12 +84,12 @@ module _ (q : Plan) (x : Record) (start : ℕ) (r : Rules q) (s : Sized q) (free
 
 -- ---- kinds without items
 module _ (t : Items) (nc ne n start : ℕ) (le : start ≤ t .count) where
-  none-listed : leb (start + 0) (t .count) ≡ true
-  none-listed = le-leb (start + 0) (t .count) (omega arith)
+  nothing-listed : leb (start + 0) (t .count) ≡ true
+  nothing-listed = le-leb (start + 0) (t .count) (omega arith)
 
   pub selection-right : (e i : ℕ) → e < ne → i < n → RightOperator t nc ne n start (numbersOf 0x33 0 e i 0 0)
   unfolding recordOk listsOk rowOf lineOf bitsOk handleOk countOf moreOf allFrom
-  selection-right e i el il = rw (lt-ltb e ne el, lt-ltb i n il, none-listed)
+  selection-right e i el il = rw (lt-ltb e ne el, lt-ltb i n il, nothing-listed)
 
   -- the marker of a LeftMark join is a column
   abbrev pub Marked : JoinType → Type 0
@@ -108,17 +102,17 @@ module _ (t : Items) (nc ne n start : ℕ) (le : start ≤ t .count) where
   Marked FullOuter = Unit {0}
   Marked (LeftMark c) = c .0 < nc
 
-  pub join-right : (j : JoinType) (e : Expr) (l i : Operator) → e .0 < ne → l .0 < n → i .0 < n → Marked j → RightOperator t nc ne n start
+  pub join-operator-right : (j : JoinType) (e : Expr) (l i : Operator) → e .0 < ne → l .0 < n → i .0 < n → Marked j → RightOperator t nc ne n start
       (recordOfOperator (Join j e l i))
   unfolding recordOk listsOk rowOf lineOf bitsOk handleOk countOf moreOf allFrom
-  join-right Inner e l i el ll il m = rw (lt-ltb (e .0) ne el, lt-ltb (l .0) n ll, lt-ltb (i .0) n il, none-listed)
-  join-right LeftSemi e l i el ll il m = rw (lt-ltb (e .0) ne el, lt-ltb (l .0) n ll, lt-ltb (i .0) n il, none-listed)
-  join-right LeftAnti e l i el ll il m = rw (lt-ltb (e .0) ne el, lt-ltb (l .0) n ll, lt-ltb (i .0) n il, none-listed)
-  join-right LeftOuter e l i el ll il m = rw (lt-ltb (e .0) ne el, lt-ltb (l .0) n ll, lt-ltb (i .0) n il, none-listed)
-  join-right Single e l i el ll il m = rw (lt-ltb (e .0) ne el, lt-ltb (l .0) n ll, lt-ltb (i .0) n il, none-listed)
-  join-right RightOuter e l i el ll il m = rw (lt-ltb (e .0) ne el, lt-ltb (l .0) n ll, lt-ltb (i .0) n il, none-listed)
-  join-right FullOuter e l i el ll il m = rw (lt-ltb (e .0) ne el, lt-ltb (l .0) n ll, lt-ltb (i .0) n il, none-listed)
-  join-right (LeftMark c) e l i el ll il m = rw (lt-ltb (e .0) ne el, lt-ltb (l .0) n ll, lt-ltb (i .0) n il, lt-ltb (c .0) nc m, none-listed)
+  join-operator-right Inner e l i el ll il m = rw (lt-ltb (e .0) ne el, lt-ltb (l .0) n ll, lt-ltb (i .0) n il, nothing-listed)
+  join-operator-right LeftSemi e l i el ll il m = rw (lt-ltb (e .0) ne el, lt-ltb (l .0) n ll, lt-ltb (i .0) n il, nothing-listed)
+  join-operator-right LeftAnti e l i el ll il m = rw (lt-ltb (e .0) ne el, lt-ltb (l .0) n ll, lt-ltb (i .0) n il, nothing-listed)
+  join-operator-right LeftOuter e l i el ll il m = rw (lt-ltb (e .0) ne el, lt-ltb (l .0) n ll, lt-ltb (i .0) n il, nothing-listed)
+  join-operator-right Single e l i el ll il m = rw (lt-ltb (e .0) ne el, lt-ltb (l .0) n ll, lt-ltb (i .0) n il, nothing-listed)
+  join-operator-right RightOuter e l i el ll il m = rw (lt-ltb (e .0) ne el, lt-ltb (l .0) n ll, lt-ltb (i .0) n il, nothing-listed)
+  join-operator-right FullOuter e l i el ll il m = rw (lt-ltb (e .0) ne el, lt-ltb (l .0) n ll, lt-ltb (i .0) n il, nothing-listed)
+  join-operator-right (LeftMark c) e l i el ll il m = rw (lt-ltb (e .0) ne el, lt-ltb (l .0) n ll, lt-ltb (i .0) n il, lt-ltb (c .0) nc m, nothing-listed)
 
 -- ---- kinds with items
 module _ (t : Items) (nc ne n start : ℕ) where

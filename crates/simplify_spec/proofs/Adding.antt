@@ -10,8 +10,9 @@ use lib.Dec.{leb, eqb}
 use lib.ListN.{length, getD, take, drop, set, length-set}
 use lib.Seq.{drop-cons, getD-set-same, getD-set-other, drop-set-lt}
 use borrow.Author.Tests.{lt-ltb, le-leb, eq-eqb, eqb-true, eqb-false}
+use Rattle.laws.proofs.Bools.{and-both}
 use Rattle.lists.specs.Ranges.{allFrom}
-use Rattle.lists.proofs.RangeLaws.{and-both, all-of}
+use Rattle.lists.proofs.RangeLaws.{all-of}
 use Rattle.comparison.specs.declared.BinaryOp.{BinaryOp}
 use Rattle.comparison.specs.declared.BinaryOp.the-variants.{Eq, NotEq, Lt, LtEq, Gt, GtEq, IsNotDistinctFrom}
 use Rattle.plan_kinds.specs.Rows.{rowOf, lineOf}
@@ -24,9 +25,9 @@ use Rattle.plan.specs.Append.{withExpr}
 use Rattle.plan.specs.Records.{exprRecord, exprStart}
 use Rattle.plan.specs.Extends.{Extends, Sized}
 use Rattle.plan.proofs.AppendLaws.{items-sized, expr-longer, expr-longer-sized, new-expr, new-expr-start}
-use Rattle.plan_rules.specs.Rules.{recordOk, itemOk, listsOk, exprOkOf, exprOk, countsWithin}
+use Rattle.plan_rules.specs.Rules.{recordOk, itemOk, listsOk, exprOkOf, exprOk}
 use Rattle.plan_rules.proofs.RuleLaws.{Rules, grown}
-use Rattle.plan_rules.proofs.AppendRules.{counts-within, once-kept, expr-keeps}
+use Rattle.plan_rules.proofs.AppendRules.{counts-within, once-kept, expr-keeps, counts-fit}
 use Rattle.plan_data.specs.Nodes.{runOf, exprData, recordOfExpr}
 use Rattle.plan_data.specs.declared.UnaryOp.the-variants as U
 use Rattle.plan_data.specs.declared.ExprData.{ExprData}
@@ -203,11 +204,6 @@ put-first t (x ∷ l) at h le u j lo hi = go (eqb j at) refl (λ m. put-first t 
         let v : getD (set (itemsPut t (at + 1) l .a) at x) j 0 ≡ getD (itemsPut t (at + 1) l .a) j 0 = getD-set-other (itemsPut t (at + 1) l .a) at j x 0 q in
         rw v (rest (omega arith))
 
-within : (nc ne np used : ℕ) → nc ≤ 64 → ne ≤ 1024 → np ≤ 128 → used ≤ 2048 → countsWithin nc ne np used ≡ true
-unfolding countsWithin
-within nc ne np used a b c d =
-    and-both _ _ (le-leb nc 64 a) (and-both _ _ (le-leb ne 1024 b) (and-both _ _ (le-leb np 128 c) (le-leb used 2048 d)))
-
 module _ (p : Plan) (st : Tables) (l : List ℕ) (g : Good p st) (fits : st .items .count + length l ≤ 2048) where
   abbrev put : Items
   put = itemsPut (st .items) (st .items .count) l
@@ -246,7 +242,7 @@ module _ (p : Plan) (st : Tables) (l : List ℕ) (g : Good p st) (fits : st .ite
   list-rules : Rules (planWith p listed)
   list-rules =
       let w = counts-within (planWith p st) (g .rules) in
-      grown (planWith p st) (planWith p listed) list-extends (g .rules) (within _ _ _ _ (w .columns) (w .exprs) (w .operators) fits)
+      grown (planWith p st) (planWith p listed) list-extends (g .rules) (counts-fit _ _ _ _ (w .columns) (w .exprs) (w .operators) fits)
       (λ i a b. absurd (omega arith))
       (λ i a b. absurd (omega arith))
       (λ i a b. absurd (omega arith))

@@ -3,10 +3,9 @@
 use mathlib.Core.Path.{_≡_, refl, sym, ap, ap₂, _∙_}
 use mathlib.Core.Bool.{Bool, true, false, not, cond, _&&_, _||_, false≢true}
 use mathlib.Core.List.{List, [], _∷_}
-use Prim.Native.Nat.{ℕ, zero, suc, _<_}
-use native.Mathlib.Omega.{arith}
+use Prim.Native.Nat.{ℕ, _<_}
 use Rattle.truth.specs.Truth.{isFalse, isTrue, andT, orT, allOf, anyOf}
-use Rattle.truth.proofs.TruthLaws.{and-unit, or-unit, and-comm, or-comm, all-code, any-code}
+use Rattle.truth.proofs.TruthLaws.{and-unit, or-unit, andT-comm, orT-comm, all-code, any-code}
 use Rattle.comparison.specs.Operators.{ordinary}
 use Rattle.comparison.specs.declared.BinaryOp.{BinaryOp}
 use Rattle.scalar.specs.Kinds.{kindOf, isNull, sameKind}
@@ -89,21 +88,6 @@ boolean-bare (S.Int64 n) e = absurd (false≢true e)
 boolean-bare (S.Float64 x) e = absurd (false≢true e)
 boolean-bare (S.Date32 n) e = absurd (false≢true e)
 
-pub truth-code : (v : ScalarValue) → truthOf v < 3
-truth-code (S.Null k) = omega arith
-truth-code (S.Boolean true) = omega arith
-truth-code (S.Boolean false) = omega arith
-truth-code (S.Int32 n) = omega arith
-truth-code (S.Int64 n) = omega arith
-truth-code (S.Float64 x) = omega arith
-truth-code (S.Date32 n) = omega arith
-
-pub truth-back : (t : ℕ) → t < 3 → truthOf (ofTruth t) ≡ t
-truth-back zero lt = refl
-truth-back (suc zero) lt = refl
-truth-back (suc (suc zero)) lt = refl
-truth-back (suc (suc (suc t))) lt = absurd (omega arith)
-
 -- ---- And (all) and Or of the operands' truths
 abbrev pub truthAll : Bool → (ℕ → ScalarValue) → List ℕ → ℕ
 truthAll all value l = values.naryOf (naryOpFor all) (truths value l)
@@ -131,16 +115,16 @@ join-unit true y lt = and-unit y lt
 join-unit false y lt = or-unit y lt
 
 pub join-one : (all : Bool) (y : ℕ) → y < 3 → joinT all y (known all) ≡ y
-join-one true y lt = and-comm y 2 ∙ and-unit y lt
-join-one false y lt = or-comm y 0 ∙ or-unit y lt
+join-one true y lt = andT-comm y 2 ∙ and-unit y lt
+join-one false y lt = orT-comm y 0 ∙ or-unit y lt
 
 pub join-left : (all : Bool) (y : ℕ) → joinT all (known (not all)) y ≡ known (not all)
 join-left true y = refl
 join-left false y = refl
 
 pub join-right : (all : Bool) (y : ℕ) → joinT all y (known (not all)) ≡ known (not all)
-join-right true y = and-comm y 0
-join-right false y = or-comm y 2
+join-right true y = andT-comm y 0
+join-right false y = orT-comm y 2
 
 pub of-known : (b : Bool) → ofTruth (known b) ≡ S.Boolean b
 of-known true = refl

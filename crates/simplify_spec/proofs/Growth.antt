@@ -7,6 +7,7 @@ use native.Mathlib.Omega.{arith}
 use native.Mathlib.Numerals.{add-one}
 use lib.ListN.{length, getD, take, drop}
 use lib.Seq.{drop-cons}
+use Rattle.laws.proofs.Lists.{take-drop-same}
 use Rattle.comparison.specs.declared.BinaryOp.{BinaryOp}
 use Rattle.plan_kinds.specs.declared.Record.{Record}
 use Rattle.scalar.specs.declared.ScalarValue.{ScalarValue}
@@ -56,14 +57,6 @@ part-below h l (suc n) s le f =
     subst (AllBelow h) (sym (part-first l s n (omega arith)))
     (f s (omega arith) (omega arith), part-below h l n (s + 1) (omega arith) (λ j lo hi. f j (omega arith) (omega arith)))
 
-pub part-same : (l m : List ℕ) (n s : ℕ) → s + n ≤ length l → s + n ≤ length m → ((j : ℕ) → j < s + n → getD m j 0 ≡ getD l j 0)
-    → take n (drop s m) ≡ take n (drop s l)
-part-same l m zero s a b f = refl
-part-same l m (suc n) s a b f =
-    part-first m s n (omega arith)
-    ∙ ap₂ (λ (x : ℕ) (t : List ℕ). x ∷ t) (f s (omega arith)) (part-same l m n (s + 1) (omega arith) (omega arith) (λ j lt. f j (omega arith)))
-    ∙ sym (part-first l s n (omega arith))
-
 -- ---- growing
 module _ (p : Plan) where
   pub grown-self : (st : Tables) → Good p st → Grown p st st
@@ -86,18 +79,18 @@ module _ (p : Plan) where
     -- a part within the old items
     pub old-part : (s n : ℕ) → s + n ≤ a .items .count → take n (drop s (b .items .a)) ≡ take n (drop s (a .items .a))
     old-part s n le =
-        part-same (a .items .a) (b .items .a) n s
+        take-drop-same (a .items .a) (b .items .a) n s
         (omega (arith, counts-within (planWith p a) (g .rules) .items, g .sized .item-a))
         (omega (arith, counts-within (planWith p a) (g .rules) .items, w .good .sized .item-a))
-        (λ j lt. ap (λ (x : Record). x .a) (w .extends .item j (omega arith)))
+        (λ j lo hi. ap (λ (x : Record). x .a) (w .extends .item j (omega arith)))
 
   -- ---- what a node is made of
   module _ (st : Tables) (g : Good p st) (h : ℕ) (lt : h < st .exprs .count) where
     ok-at : (d : ExprData) → nodeIn st h ≡ d → NodeOk (p .columns .count) (st .items .a) (st .items .count) h d
     ok-at d e = subst (NodeOk (p .columns .count) (st .items .a) (st .items .count) h) e (node-ok (planWith p st) (g .rules) h lt)
 
-    pub not-below : (op : UnaryOp) (e : Expr) → nodeIn st h ≡ Unary op e → e .0 < h
-    not-below op e q = ok-at (Unary op e) q
+    pub unary-below : (op : UnaryOp) (e : Expr) → nodeIn st h ≡ Unary op e → e .0 < h
+    unary-below op e q = ok-at (Unary op e) q
 
     pub compare-below : (op : BinaryOp) (l r : Expr) → nodeIn st h ≡ Binary op l r → (l .0 < h) × (r .0 < h)
     compare-below op l r q = ok-at (Binary op l r) q
@@ -138,7 +131,7 @@ module _ (p : Plan) where
     pub value-not : (e : Expr) → nodeIn st h ≡ Unary U.Not e → valueIn p st row h ≡ ofTruth (notT (truthOf (valueIn p st row (e .0))))
     value-not e q =
         at-node (Unary U.Not e) q
-        ∙ ap (λ (v : ScalarValue). ofTruth (notT (truthOf v))) (is-before (e .0) (not-below st g h lt U.Not e q))
+        ∙ ap (λ (v : ScalarValue). ofTruth (notT (truthOf v))) (is-before (e .0) (unary-below st g h lt U.Not e q))
 
     pub value-compare : (op : BinaryOp) (l r : Expr) → nodeIn st h ≡ Binary op l r → valueIn p st row h ≡ ofTruth
         (compareOf op (valueIn p st row (l .0)) (valueIn p st row (r .0)))

@@ -1,13 +1,14 @@
 -- The expressions of an operator of a plan that keeps the rules are of the plan, and no more than it has items. Assumes nothing.
 use mathlib.Core.Path.{_≡_, refl, ap, subst, _∙_}
-use mathlib.Core.Bool.{Bool, true, false, cond}
+use mathlib.Core.Bool.{true}
 use Prim.Native.Nat.{ℕ, _+_, _<_, _≤_}
 use native.Mathlib.Omega.{arith}
 use lib.Dec.{leb, eqb}
 use lib.ListN.{getD}
 use borrow.Author.Tests.{eqb-true, ltb-true, leb-true}
+use Rattle.laws.proofs.Bools.{and-left, and-right, cond-elim}
 use Rattle.lists.specs.Ranges.{allFrom}
-use Rattle.lists.proofs.RangeLaws.{and-left, and-right, all-at}
+use Rattle.lists.proofs.RangeLaws.{all-at}
 use Rattle.plan_kinds.specs.declared.Record.{Record}
 use Rattle.plan_kinds.specs.Rows.{rowOf, lineOf}
 use Rattle.plan_kinds.specs.Records.{codeOk, bitsOk, handleOk, handlesOk, countOf, moreOf}
@@ -17,13 +18,9 @@ use Rattle.plan.specs.Records.{operatorRecord, operatorStart}
 use Rattle.plan_rules.specs.Rules.{recordOk, itemOk, listsOk, operatorOkOf}
 use Rattle.plan_rules.proofs.RuleLaws.{Rules}
 use Rattle.plan_rules.proofs.AppendRules.{counts-within}
-use Rattle.plan_data.specs.Nodes.{operatorData}
+use Rattle.plan_data.specs.Nodes.{operatorData, operatorAt}
 use Rattle.plan_data.specs.declared.OperatorData.{OperatorData}
-use Rattle.simplify_spec.specs.OneOperator.{operatorAt, heldOf, heldCount, heldAt}
-
-pub choose : {A : Type 0} (P : A → Type 0) (b : Bool) (x y : A) → (b ≡ true → P x) → (b ≡ false → P y) → P (cond b x y)
-choose P true x y f g = f refl
-choose P false x y f g = g refl
+use Rattle.simplify_spec.specs.OneOperator.{heldOf, heldCount, heldAt}
 
 module _ (x : Record) (start nc ne np used : ℕ) (t : Items) (ok : recordOk 3 x nc ne np ≡ true) (lists : listsOk (t .a) (t .b) used x start nc ne np ≡ true)
   where
@@ -85,22 +82,23 @@ module _ (x : Record) (start nc ne np used : ℕ) (t : Items) (ok : recordOk 3 x
     held-record =
         let k = x .kind in
         let P : OperatorData → Type 0 = λ d. HeldIn d in
-        choose P (eqb k 0x30) _ _ (λ e. nothing _ refl)
-        (λ e. choose P (eqb k 0x31) _ _ (λ e. nothing _ refl)
-        (λ e. choose P (eqb k 0x32) _ _ (λ e. nothing _ refl)
-        (λ e. choose P (eqb k 0x33) _ _ (λ e. record { each = λ j lt. one-in 0x33 refl (eqb-true k 0x33 e); few = λ u. omega arith })
-        (λ e. choose P (eqb k 0x34) _ _ (λ e. nothing _ refl)
-        (λ e. choose P (eqb k 0x35) _ _ (λ e. nothing _ refl)
-        (λ e. choose P (eqb k 0x36) _ _ (λ e. record { each = second-in (eqb-true k 0x36 e); few = λ u. omega (arith, counted 0x36 refl (eqb-true k 0x36 e)) })
-        (λ e. choose P (eqb k 0x37) _ _
+        cond-elim P (eqb k 0x30) _ _ (λ e. nothing _ refl)
+        (λ e. cond-elim P (eqb k 0x31) _ _ (λ e. nothing _ refl)
+        (λ e. cond-elim P (eqb k 0x32) _ _ (λ e. nothing _ refl)
+        (λ e. cond-elim P (eqb k 0x33) _ _ (λ e. record { each = λ j lt. one-in 0x33 refl (eqb-true k 0x33 e); few = λ u. omega arith })
+        (λ e. cond-elim P (eqb k 0x34) _ _ (λ e. nothing _ refl)
+        (λ e. cond-elim P (eqb k 0x35) _ _ (λ e. nothing _ refl)
+        (λ e. cond-elim P (eqb k 0x36) _ _
+        (λ e. record { each = second-in (eqb-true k 0x36 e); few = λ u. omega (arith, counted 0x36 refl (eqb-true k 0x36 e)) })
+        (λ e. cond-elim P (eqb k 0x37) _ _
         (λ e. record { each = first-in 0x37 refl refl (eqb-true k 0x37 e); few = λ u. omega (arith, counted 0x37 refl (eqb-true k 0x37 e)) })
-        (λ e. choose P (eqb k 0x38) _ _
+        (λ e. cond-elim P (eqb k 0x38) _ _
         (λ e. record { each = first-in 0x38 refl refl (eqb-true k 0x38 e); few = λ u. omega (arith, counted 0x38 refl (eqb-true k 0x38 e)) })
-        (λ e. choose P (eqb k 0x39) _ _ (λ e. nothing _ refl)
-        (λ e. choose P (eqb k 0x3A) _ _ (λ e. nothing _ refl)
-        (λ e. choose P (eqb k 0x3B) _ _ (λ e. nothing _ refl)
-        (λ e. choose P (eqb k 0x3C) _ _ (λ e. record { each = λ j lt. one-in 0x3C refl (eqb-true k 0x3C e); few = λ u. omega arith })
-        (λ e. choose P (eqb k 0x3D) _ _ (λ e. record { each = λ j lt. one-in 0x3D refl (eqb-true k 0x3D e); few = λ u. omega arith })
+        (λ e. cond-elim P (eqb k 0x39) _ _ (λ e. nothing _ refl)
+        (λ e. cond-elim P (eqb k 0x3A) _ _ (λ e. nothing _ refl)
+        (λ e. cond-elim P (eqb k 0x3B) _ _ (λ e. nothing _ refl)
+        (λ e. cond-elim P (eqb k 0x3C) _ _ (λ e. record { each = λ j lt. one-in 0x3C refl (eqb-true k 0x3C e); few = λ u. omega arith })
+        (λ e. cond-elim P (eqb k 0x3D) _ _ (λ e. record { each = λ j lt. one-in 0x3D refl (eqb-true k 0x3D e); few = λ u. omega arith })
         (λ e. nothing _ refl))))))))))))))
 
 module _ (p : Plan) (r : Rules p) (o : ℕ) (lt : o < p .operators .count) where

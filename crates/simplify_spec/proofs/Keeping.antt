@@ -1,7 +1,7 @@
 -- What simplifying keeps, at a literal, a Not and a comparison: the rules of the plan, the old nodes, the kind and the value of a typed expression on
 -- every row; and that nothing is left to simplify. Assumes nothing.
 use mathlib.Core.Path.{_≡_, refl, sym, ap, ap₂, subst, _∙_}
-use mathlib.Core.Bool.{Bool, true, false, not, cond, _&&_}
+use mathlib.Core.Bool.{Bool, true, false, not, cond, _&&_, true≢false}
 use mathlib.Core.List.{List, [], _∷_}
 use mathlib.Core.Logic.{⊎-elim}
 use Prim.Native.Nat.{ℕ, _+_, _<_, _≤_}
@@ -10,9 +10,10 @@ use native.Mathlib.Nat.{le-refl}
 use lib.Dec.{ltb, eqb}
 use lib.ListN.{length, take, drop}
 use borrow.Author.Tests.{ltb-true, eqb-true, eq-eqb}
-use Rattle.lists.proofs.RangeLaws.{below-or-not, and-left, and-right, and-both}
+use Rattle.laws.proofs.Bools.{and-left, and-right, and-both}
+use Rattle.lists.proofs.RangeLaws.{below-or-not}
 use Rattle.truth.specs.Truth.{every, notT}
-use Rattle.truth.proofs.TruthLaws.{not-not, not-code}
+use Rattle.truth.proofs.TruthLaws.{notT-notT, not-code}
 use Rattle.comparison.specs.declared.BinaryOp.{BinaryOp}
 use Rattle.scalar.specs.Kinds.{sameKind}
 use Rattle.scalar.specs.declared.Kind.{Kind}
@@ -33,6 +34,7 @@ use Rattle.rows_spec.specs.Compare.{known, truthOf, ofTruth}
 use Rattle.rows_spec.specs.Typing.{kindOfNode, booleanAt, wanted, nodeTyped}
 use Rattle.rows_spec.specs.Cells.{rowOk}
 use Rattle.rows_spec.specs.declared.Row.{Row}
+use Rattle.rows_spec.proofs.CompareLaws.{truth-code, truth-back}
 use Rattle.rows_laws.proofs.NodeRules.{NodeOk, node-ok}
 use Rattle.rows_laws.proofs.ValueKinds.{ofKind, value-kind}
 use Rattle.simplify_spec.specs.Shapes.{shapeOf}
@@ -45,15 +47,11 @@ use Rattle.simplify_spec.specs.declared.Simplified.{Simplified}
 use Rattle.simplify_spec.specs.declared.Shape.{Shape}
 use Rattle.simplify_spec.specs.declared.Shape.the-variants.{Boolean, Not, Compare, And, Or, Other}
 use Rattle.simplify_spec.proofs.StepLaws.{enter-in, simplify-at}
-use Rattle.simplify_spec.proofs.ShapeLaws.{shape-boolean, shape-not}
-use Rattle.simplify_spec.proofs.Alikes.{same-truth, same-compare, bare-truth, boolean-bare, truth-code, truth-back}
-use Rattle.simplify_spec.proofs.Growth.{AllBelow, part-below, grown-self, grown-on, grown-told, old-node, old-value, old-part, not-below}
+use Rattle.simplify_spec.proofs.ShapeLaws.{boolean-of-shape, not-of-shape}
+use Rattle.simplify_spec.proofs.Alikes.{same-truth, same-compare, bare-truth, boolean-bare}
+use Rattle.simplify_spec.proofs.Growth.{AllBelow, part-below, grown-self, grown-on, grown-told, old-node, old-value, old-part, unary-below}
 use Rattle.simplify_spec.proofs.Growth.{compare-below, value-literal, value-not, value-compare}
 use Rattle.simplify_spec.proofs.Adding.{RightAt, literal-right, not-right, compare-right, new-node, node-grows}
-
--- true is not false
-pub told : true ≡ false → ⊥
-told e = let z : _≡_ {A = ℕ} 0 1 = cc in omega arith
 
 module _ (p : Plan) where
   -- what is under a Not that is left alone
@@ -205,7 +203,7 @@ module _ (p : Plan) where
                   kind = ap (kindOfNode (p .columns .kind)) is-new ∙ m .kind;
                   value = λ row ok. m .value row ok s′ v (s .exprs .count) (omega arith) is-new;
                 };
-            still = λ e. absurd (told e);
+            still = λ e. absurd (true≢false e);
           }
         where
           g : Good p s
@@ -239,7 +237,7 @@ module _ (p : Plan) where
               → (cond t (kept (withNode s (recordOfExpr d) start) (s .exprs .count)) (failed s)) .ok ≡ true
               → Kept S st h (cond t (kept (withNode s (recordOfExpr d) start) (s .exprs .count)) (failed s))
           go true e q = kept-add (ltb-true (s .exprs .count) 1024 e)
-          go false e q = absurd (told (sym q))
+          go false e q = absurd (true≢false (sym q))
 
     -- a literal that is appended
     pub fine-literal : (s : Tables) → Grown p st s → (b : Bool)
@@ -272,12 +270,12 @@ module _ (p : Plan) where
           within = dl;
           fixed = λ t u. f t (grown-on p s s′ t v u);
           inner = λ e q.
-              let lt : e .0 < d = not-below p s (w .good) d dl U.Not e (shape-not (nodeIn s d) e q) in
+              let lt : e .0 < d = unary-below p s (w .good) d dl U.Not e (not-of-shape (nodeIn s d) e q) in
               inner-on s s′ (e .0) (w .good) v (omega arith) (i e q);
           typed = λ ty sh.
               let n = m ty sh in
               record { rules = n .rules; member = n .member; kind = n .kind; value = n .value };
-          still = λ e. absurd (told e);
+          still = λ e. absurd (true≢false e);
         }
 
     -- ---- Not
@@ -312,7 +310,7 @@ module _ (p : Plan) where
             λ row ok.
                 turn b ∙ sym (bare-truth (notT (known b)))
                 ∙ ap (λ (v : ScalarValue). bare (ofTruth (notT (truthOf v))))
-                (sym (value-literal p s (N .grows .good) row i (N .within) (Scalar.Boolean b) (shape-boolean (nodeIn s i) b e)))
+                (sym (value-literal p s (N .grows .good) row i (N .within) (Scalar.Boolean b) (boolean-of-shape (nodeIn s i) b e)))
                 ∙ ap bare (value-old row ok ty sh),
           ))
         where
@@ -325,10 +323,10 @@ module _ (p : Plan) where
           kept-took s (N .grows) (e .0) es (N .inner e q .fixed) (λ d r. absurd (N .inner e q .other d r)) meant
         where
           node-i : nodeIn s i ≡ Unary U.Not e
-          node-i = shape-not (nodeIn s i) e q
+          node-i = not-of-shape (nodeIn s i) e q
 
           below : e .0 < i
-          below = not-below p s (N .grows .good) i (N .within) U.Not e node-i
+          below = unary-below p s (N .grows .good) i (N .within) U.Not e node-i
 
           es : e .0 < s .exprs .count
           es = omega (arith, below, N .within)
@@ -348,7 +346,7 @@ module _ (p : Plan) where
                     let v = valueIn p s row (e .0) in
                     sym (bool-val s (N .grows .good) row ok (e .0) es k)
                     ∙ ap ofTruth
-                    (sym (not-not (truthOf (valueIn p s row (e .0))) (truth-code (valueIn p s row (e .0))))
+                    (sym (notT-notT (truthOf (valueIn p s row (e .0))) (truth-code (valueIn p s row (e .0))))
                     ∙ ap notT (sym (truth-back (notT (truthOf (valueIn p s row (e .0)))) (not-code (truthOf (valueIn p s row (e .0))))))
                     ∙ ap (λ (x : ScalarValue). notT (truthOf x)) (sym (value-not p s (N .grows .good) row i (N .within) e node-i)))
                     ∙ sym (bare-truth (notT (truthOf (valueIn p s row i))))
@@ -386,7 +384,7 @@ module _ (p : Plan) where
               fixed = λ t w.
                   stays t w h (old-shape s t (N .grows .good) w h hs ∙ old-shape st s g (N .grows) h hl ∙ ap shapeOf is ∙ ap (λ (k : ℕ). Not (handle k))
                   (sym e))
-                  (omega (arith, not-below p st g h hl U.Not a is));
+                  (omega (arith, unary-below p st g h hl U.Not a is));
               inner = λ d q.
                   let same : d .0 ≡ i = ap (λ (x : ℕ). x) (sym (given d q)) in
                   subst (Inner s) (sym same) (record { fixed = N .fixed; other = nn });

@@ -1,6 +1,6 @@
 -- What simplifying keeps, at And and Or and altogether. Assumes nothing.
 use mathlib.Core.Path.{_≡_, refl, sym, ap, subst, _∙_}
-use mathlib.Core.Bool.{Bool, true, false, not, cond}
+use mathlib.Core.Bool.{Bool, true, false, not, cond, true≢false}
 use mathlib.Core.List.{List, [], _∷_}
 use Prim.Native.Nat.{ℕ, zero, suc, _+_, _<_, _≤_}
 use native.Mathlib.Omega.{arith}
@@ -19,6 +19,7 @@ use Rattle.plan_data.specs.declared.ExprData.the-variants.{Unary, Binary, Nary}
 use Rattle.rows_spec.specs.Compare.{truthOf, ofTruth}
 use Rattle.rows_spec.specs.Typing.{kindOfNode, booleanAt, nodeTyped}
 use Rattle.rows_spec.specs.declared.Row.{Row}
+use Rattle.rows_spec.proofs.CompareLaws.{truth-code}
 use Rattle.simplify_spec.specs.Shapes.{shapeOf, naryOpFor}
 use Rattle.simplify_spec.specs.OneExpression.{nodeIn, shapeIn, handle, kept, failed, took, addRecord, addLiteral, addNary, notStep, notOf}
 use Rattle.simplify_spec.specs.OneExpression.{compareOf, enterOf, Operands, operandsFrom, itemsPut, counted, withItems, roomFor, rebuilt}
@@ -30,12 +31,12 @@ use Rattle.simplify_spec.specs.declared.Simplified.{Simplified}
 use Rattle.simplify_spec.specs.declared.Shape.{Shape}
 use Rattle.simplify_spec.specs.declared.Shape.the-variants.{Boolean, Not, Compare, And, Or, Other}
 use Rattle.simplify_spec.proofs.StepLaws.{enter-in, simplify-at}
-use Rattle.simplify_spec.proofs.ShapeLaws.{naryShapeOf, shape-not, shape-compare, shape-nary}
-use Rattle.simplify_spec.proofs.Alikes.{bare-truth, truth-code, truthAll, joinT, all-none, all-first, join-one, of-known}
-use Rattle.simplify_spec.proofs.Growth.{AllBelow, below-more, grown-on, old-node, old-value, old-part, all-same, not-below, compare-below}
+use Rattle.simplify_spec.proofs.ShapeLaws.{naryShapeOf, not-of-shape, compare-of-shape, nary-of-shape}
+use Rattle.simplify_spec.proofs.Alikes.{bare-truth, truthAll, joinT, all-none, all-first, join-one, of-known}
+use Rattle.simplify_spec.proofs.Growth.{AllBelow, below-more, grown-on, old-node, old-value, old-part, all-same, unary-below, compare-below}
 use Rattle.simplify_spec.proofs.Growth.{list-within, list-below, value-nary}
 use Rattle.simplify_spec.proofs.Adding.{list-grows, list-part, list-right}
-use Rattle.simplify_spec.proofs.Keeping.{told, Kept, more-exprs, old-shape, old-kind, bool-val, boolean-kind, typed-on, kept-leaf, fine-add}
+use Rattle.simplify_spec.proofs.Keeping.{Kept, more-exprs, old-shape, old-kind, bool-val, boolean-kind, typed-on, kept-leaf, fine-add}
 use Rattle.simplify_spec.proofs.Keeping.{fine-literal, kept-took, fine-not, fine-compare}
 use Rattle.simplify_spec.proofs.Operating.{AllPlain, Wanted, wanted-first, wanted-on, RunMeant, RunKept, all-plain-on, operands-fixed, run-kept}
 
@@ -216,7 +217,7 @@ module _ (p : Plan) where
 
           go : (t : Bool) → roomFor (q .st) (length (q .kept)) ≡ t → (cond t X (failed (q .st))) .ok ≡ true → Kept p S st h (cond t X (failed (q .st)))
           go true e o = nary-new (leb-true (q .st .items .count + length (q .kept)) 2048 e) o
-          go false e o = absurd (told (sym o))
+          go false e o = absurd (true≢false (sym o))
 
       nary-rebuilt : (l : List ℕ) → q .kept ≡ l → rebuilt all (q .st) l .ok ≡ true → Kept p S st h (rebuilt all (q .st) l)
       unfolding rebuilt
@@ -264,10 +265,10 @@ module _ (p : Plan) where
           (go (simplifyAt (a .0) st .ok) refl)
         where
           is : nodeIn st h ≡ Unary U.Not a
-          is = shape-not (nodeIn st h) a e
+          is = not-of-shape (nodeIn st h) a e
 
           al : a .0 < h
-          al = not-below p st g h hl U.Not a is
+          al = unary-below p st g h hl U.Not a is
 
           x : Simplified
           x = simplifyAt (a .0) st
@@ -283,7 +284,7 @@ module _ (p : Plan) where
               (subst (λ (b : Bool). Kept p S st (a .0) (record { st = simplifyAt (a .0) st .st; at = simplifyAt (a .0) st .at; ok = b })) o
               (ih (a .0) st al g (omega (arith, al)) fresh o))
               (shapeIn (simplifyAt (a .0) st .st) (simplifyAt (a .0) st .at)) refl r
-          go false o r = absurd (told (sym r))
+          go false o r = absurd (true≢false (sym r))
 
       at-compare : (op : BinaryOp) (l r : Expr) → shapeIn st h ≡ Compare op l r → simplifyAt h st .ok ≡ true → Kept p S st h (simplifyAt h st)
       unfolding compareOf
@@ -294,7 +295,7 @@ module _ (p : Plan) where
           (one (simplifyAt (l .0) st .ok) refl)
         where
           is : nodeIn st h ≡ Binary op l r
-          is = shape-compare (nodeIn st h) op l r e
+          is = compare-of-shape (nodeIn st h) op l r e
 
           ab : (l .0 < h) × (r .0 < h)
           ab = compare-below p st g h hl op l r is
@@ -318,8 +319,8 @@ module _ (p : Plan) where
               (fine-compare p S st h fresh g hl op l r is (simplifyAt (l .0) st .st) (simplifyAt (l .0) st .at) X (y .st) (y .at)
               (subst (λ (b : Bool). Kept p S (simplifyAt (l .0) st .st) (r .0) (record { st = y .st; at = y .at; ok = b })) yo Y)) q
           two xo y ey false yo q = absurd
-              (told (sym (ap (λ (b : Bool). compareOf h op (l .0) (r .0) (simplifyAt (l .0) st .at) (record { st = y .st; at = y .at; ok = b }) .ok) (sym yo)
-              ∙ q)))
+              (true≢false (sym (ap (λ (b : Bool). compareOf h op (l .0) (r .0) (simplifyAt (l .0) st .at) (record { st = y .st; at = y .at; ok = b }) .ok)
+              (sym yo) ∙ q)))
 
           one : (t : Bool) → simplifyAt (l .0) st .ok ≡ t
               → compareOf h op (l .0) (r .0) (simplifyAt (l .0) st .at) (enterOf simplifyAt h t (simplifyAt (l .0) st .st) (r .0)) .ok ≡ true
@@ -327,7 +328,7 @@ module _ (p : Plan) where
           one true o q =
               two o (enterOf simplifyAt h true (simplifyAt (l .0) st .st) (r .0)) (enter-in h (r .0) (simplifyAt (l .0) st .st) (ab .1))
               (enterOf simplifyAt h true (simplifyAt (l .0) st .st) (r .0) .ok) refl q
-          one false o q = absurd (told (sym q))
+          one false o q = absurd (true≢false (sym q))
 
       at-nary : (all : Bool) (a n : ℕ) → shapeIn st h ≡ naryShapeOf all a n → simplifyAt h st .ok ≡ true → Kept p S st h (simplifyAt h st)
       at-nary all a n e =
@@ -339,7 +340,7 @@ module _ (p : Plan) where
           (nary-ok all h (operandsFrom simplifyAt all h true st a n) o) o)
         where
           is : nodeIn st h ≡ Nary (naryOpFor all) (runOf a n)
-          is = shape-nary (nodeIn st h) all a n e
+          is = nary-of-shape (nodeIn st h) all a n e
 
       at-any : (x : Shape) → shapeIn st h ≡ x → simplifyAt h st .ok ≡ true → Kept p S st h (simplifyAt h st)
       at-any (Boolean b) e o =

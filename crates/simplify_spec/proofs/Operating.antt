@@ -1,13 +1,13 @@
 -- The operands of an And or Or, simplified one after the other: what they keep. Assumes nothing.
 use mathlib.Core.Path.{_≡_, refl, sym, ap, ap₂, subst, _∙_}
-use mathlib.Core.Bool.{Bool, true, false, not, cond, _&&_, _||_}
+use mathlib.Core.Bool.{Bool, true, false, not, cond, _&&_, _||_, true≢false}
 use mathlib.Core.List.{List, [], _∷_}
 use Prim.Native.Nat.{ℕ, zero, suc, _+_, _<_, _≤_}
 use native.Mathlib.Omega.{arith}
 use lib.Dec.{eqb}
 use lib.ListN.{length, getD, take, drop}
 use borrow.Author.Tests.{eqb-true, eq-eqb, not-false}
-use Rattle.lists.proofs.RangeLaws.{and-left, and-right, and-both}
+use Rattle.laws.proofs.Bools.{and-left, and-right, and-both, or-false-left, or-false-right}
 use Rattle.truth.specs.Truth.{every}
 use Rattle.scalar.specs.declared.Kind.the-variants as K
 use Rattle.scalar.specs.declared.ScalarValue.the-variants as Scalar
@@ -27,18 +27,11 @@ use Rattle.simplify_spec.specs.declared.Tables.{Tables}
 use Rattle.simplify_spec.specs.declared.Simplified.{Simplified}
 use Rattle.simplify_spec.specs.declared.Shape.the-variants.{Not}
 use Rattle.simplify_spec.proofs.StepLaws.{enter-in}
-use Rattle.simplify_spec.proofs.ShapeLaws.{shape-not, shape-literal}
+use Rattle.simplify_spec.proofs.ShapeLaws.{not-of-shape, literal-of-shape}
 use Rattle.simplify_spec.proofs.Alikes.{same-truth, truthAll, joinT, all-first, all-code3, join-unit, join-left, join-right}
-use Rattle.simplify_spec.proofs.Growth.{AllBelow, below-more, part-first, grown-self, grown-on, old-value, old-part, all-same, not-below, value-literal}
-use Rattle.simplify_spec.proofs.Keeping.{told, Inner, Meant, Kept, more-exprs, more-items, old-shape, old-kind, boolean-kind, kind-boolean, inner-on}
-
-or-left : (a b : Bool) → a || b ≡ false → a ≡ false
-or-left true b e = e
-or-left false b e = refl
-
-or-right : (a b : Bool) → a || b ≡ false → b ≡ false
-or-right true b e = absurd (told e)
-or-right false b e = e
+use Rattle.simplify_spec.proofs.Growth.{AllBelow, below-more, part-first, grown-self, grown-on, old-value, old-part, all-same, unary-below}
+use Rattle.simplify_spec.proofs.Growth.{value-literal}
+use Rattle.simplify_spec.proofs.Keeping.{Inner, Meant, Kept, more-exprs, more-items, old-shape, old-kind, boolean-kind, kind-boolean, inner-on}
 
 module _ (p : Plan) where
   -- an operand that is kept: nothing is left to simplify, and it is neither of the literals that are looked for
@@ -61,7 +54,7 @@ module _ (p : Plan) where
         deciding = ap (isLiteral (not all)) same ∙ q .deciding;
         inner = λ e n.
             let k : shapeIn s x ≡ Not e = sym same ∙ n in
-            inner-on p s t (e .0) g w (omega (arith, not-below p s g x l U.Not e (shape-not (nodeIn s x) e k))) (q .inner e k);
+            inner-on p s t (e .0) g w (omega (arith, unary-below p s g x l U.Not e (not-of-shape (nodeIn s x) e k))) (q .inner e k);
       }
 
   pub all-plain-on : (all : Bool) (s t : Tables) (l : List ℕ) → Good p s → Grown p s t → AllBelow (s .exprs .count) l → AllPlain all s l → AllPlain all t l
@@ -117,7 +110,7 @@ module _ (p : Plan) where
   -- a literal's truth
   pub lit-truth : (s : Tables) → Good p s → (row : Row) (b : Bool) (i : ℕ) → i < s .exprs .count → isLiteral b (shapeIn s i) ≡ true → truthOf
       (valueIn p s row i) ≡ known b
-  lit-truth s g row b i l e = ap truthOf (value-literal p s g row i l (Scalar.Boolean b) (shape-literal (nodeIn s i) b e))
+  lit-truth s g row b i l e = ap truthOf (value-literal p s g row i l (Scalar.Boolean b) (literal-of-shape (nodeIn s i) b e))
 
   module _ (S : ℕ → Bool) where
     -- every member is in the set and Boolean
@@ -166,7 +159,7 @@ module _ (p : Plan) where
             plain = λ z. tt;
             clean = λ z. refl;
             still = λ z. refl;
-            typed = λ ty b. record { rules = ty; bools = refl; value = λ row ok. refl; absorbs = λ f. absurd (told (sym f)) };
+            typed = λ ty b. record { rules = ty; bools = refl; value = λ row ok. refl; absorbs = λ f. absurd (true≢false (sym f)) };
           }
 
       -- one operand: what came of it, and what came of the rest
@@ -287,21 +280,22 @@ module _ (p : Plan) where
 
             plain-one : (c : Bool) → isLiteral all (shapeIn (x .st) (x .at)) ≡ c → a || q .absorbed ≡ false → AllPlain all (q .st)
                 (cond c (q .kept) (x .at ∷ q .kept))
-            plain-one true ec o = R .plain (or-right a (q .absorbed) o)
+            plain-one true ec o = R .plain (or-false-right a (q .absorbed) o)
             plain-one false ec o = (
               plain-on all (x .st) (q .st) (x .at) (N .grows .good) (R .grows) (N .within)
-                  (record { fixed = N .fixed; neutral = ec; deciding = ea ∙ or-left a (q .absorbed) o; inner = N .inner }),
-              R .plain (or-right a (q .absorbed) o),
+                  (record { fixed = N .fixed; neutral = ec; deciding = ea ∙ or-false-left a (q .absorbed) o; inner = N .inner }),
+              R .plain (or-false-right a (q .absorbed) o),
             )
 
             clean-one : (c : Bool) → (c || not (eqb (x .at) (getD (st .items .a) s 0))) || q .dirty ≡ false → cond c (q .kept) (x .at ∷ q .kept) ≡ take
                 (suc m) (drop s (st .items .a))
-            clean-one true o = absurd (told o)
+            clean-one true o = absurd (true≢false o)
             clean-one false o =
                 let same : x .at ≡ getD (st .items .a) s 0 =
                 eqb-true (x .at) (getD (st .items .a) s 0)
-                (not-false (eqb (x .at) (getD (st .items .a) s 0)) (or-left (not (eqb (x .at) (getD (st .items .a) s 0))) (q .dirty) o)) in
-                ap₂ (λ (y : ℕ) (l : List ℕ). y ∷ l) same (R .clean (or-right (not (eqb (x .at) (getD (st .items .a) s 0))) (q .dirty) o) ∙ part) ∙ sym cons
+                (not-false (eqb (x .at) (getD (st .items .a) s 0)) (or-false-left (not (eqb (x .at) (getD (st .items .a) s 0))) (q .dirty) o)) in
+                ap₂ (λ (y : ℕ) (l : List ℕ). y ∷ l) same (R .clean (or-false-right (not (eqb (x .at) (getD (st .items .a) s 0))) (q .dirty) o) ∙ part)
+                ∙ sym cons
 
       -- operands that ended well began well
       enter-ok : (h : ℕ) (ok : Bool) (st : Tables) (e : ℕ) → enterOf simplifyAt h ok st e .ok ≡ true → ok ≡ true

@@ -10,19 +10,20 @@ use lib.Dec.{ltb, leb, eqb}
 use lib.ListN.{length, getD, set, length-set}
 use lib.Seq.{getD-set-same, getD-set-other}
 use borrow.Author.Tests.{lt-ltb, eqb-true, eqb-false}
+use Rattle.laws.proofs.Bools.{cond-elim}
 use Rattle.plan.specs.declared.Plan.{Plan}
 use Rattle.plan.specs.declared.Operator.{Operator}
 use Rattle.plan.specs.Extends.{Extends, Sized}
 use Rattle.plan.proofs.AppendLaws.{extends-refl, extends-trans, operator-longer}
 use Rattle.plan_rules.specs.Rules.{planOk}
 use Rattle.plan_rules.proofs.RuleLaws.{rules}
-use Rattle.plan_data.specs.Nodes.{recordOfOperator}
+use Rattle.plan_data.specs.Nodes.{recordOfOperator, operatorAt}
 use Rattle.plan_data.specs.declared.OperatorData.{OperatorData}
 use Rattle.plan_data.specs.declared.OperatorData.the-variants.{Scan, ConstScan, TableFunction, Selection, Projection, Rename, Map, Aggregation, Sort}
 use Rattle.plan_data.specs.declared.OperatorData.the-variants.{Limit, Output, CrossProduct, Join}
 use Rattle.simplify_spec.specs.Shapes.{isLiteral}
 use Rattle.simplify_spec.specs.OneExpression.{shapeIn, kept, enterOf, withItems, simplifyAt}
-use Rattle.simplify_spec.specs.OneOperator.{operatorAt, heldOf, heldCount, heldAt, eachWith, eachTo, itemCount, itemFirst, itemSecond}
+use Rattle.simplify_spec.specs.OneOperator.{heldOf, heldCount, heldAt, eachWith, eachTo, itemCount, itemFirst, itemSecond}
 use Rattle.simplify_spec.specs.OneOperator.{writeAll, withList, rebuiltOf, planWith, planAdded, addOperator, inputOr, rewriteOf, startOf}
 use Rattle.simplify_spec.specs.OneOperator.{eachOf, simplifyOf}
 use Rattle.simplify_spec.specs.Meaning.{Good, Grown}
@@ -36,7 +37,7 @@ use Rattle.simplify_spec.proofs.Growth.{grown-self, grown-on}
 use Rattle.simplify_spec.proofs.Keeping.{Kept, more-exprs}
 use Rattle.simplify_spec.proofs.Keeps.{keeps}
 use Rattle.simplify_spec.proofs.Theorems.{plan-good}
-use Rattle.simplify_spec.proofs.HeldLaws.{choose, held-in, held-few}
+use Rattle.simplify_spec.proofs.HeldLaws.{held-in, held-few}
 
 -- ---- expressions one after the other
 pub record EachKept (p : Plan) (st : Tables) (r : Each) (k : ℕ) : Type 0 where
@@ -156,7 +157,7 @@ module _ (p : Plan) (s : Sized p) (ok : planOk p ≡ true) (o : Operator) (lt : 
 
   add-extends : (t : Tables) (held : Held) (at : ℕ → ℕ) (z : OperatorData) → Extends p (planWith p t) → Extends p (addOperator p t z held at .plan)
   add-extends t held at z e =
-      choose (λ (w : Rewritten). Extends p (w .plan)) (ltb (p .operators .count) 128 && leb (t .items .count + itemCount held) 2048) _ _
+      cond-elim (λ (w : Rewritten). Extends p (w .plan)) (ltb (p .operators .count) 128 && leb (t .items .count + itemCount held) 2048) _ _
       (λ q. added-extends p t z held at e) (λ q. extends-refl p)
 
   input-extends : (t : Tables) (held : Held) (at : ℕ → ℕ) (z y : OperatorData) → Extends p (planWith p t) → Extends p (inputOr p t z held at y .plan)
@@ -164,7 +165,7 @@ module _ (p : Plan) (s : Sized p) (ok : planOk p ≡ true) (o : Operator) (lt : 
   input-extends t held at z (ConstScan a) e = add-extends t held at z e
   input-extends t held at z (TableFunction a) e = add-extends t held at z e
   input-extends t held at z (Selection a b) e =
-      choose (λ (w : Rewritten). Extends p (w .plan)) (isLiteral true (shapeIn t (at 0))) _ _ (λ q. e) (λ q. add-extends t held at z e)
+      cond-elim (λ (w : Rewritten). Extends p (w .plan)) (isLiteral true (shapeIn t (at 0))) _ _ (λ q. e) (λ q. add-extends t held at z e)
   input-extends t held at z (Projection a b) e = add-extends t held at z e
   input-extends t held at z (Rename a b) e = add-extends t held at z e
   input-extends t held at z (Map a b) e = add-extends t held at z e
@@ -184,9 +185,9 @@ module _ (p : Plan) (s : Sized p) (ok : planOk p ≡ true) (o : Operator) (lt : 
   unfolding rewriteOf
   answer-extends =
       subst (λ (w : Rewritten). Extends p (w .plan)) (sym is-rewrite)
-      (choose (λ (w : Rewritten). Extends p (w .plan)) (eachOf p (operatorAt p (o .0)) .ok) _ _
+      (cond-elim (λ (w : Rewritten). Extends p (w .plan)) (eachOf p (operatorAt p (o .0)) .ok) _ _
       (λ q.
-      choose (λ (w : Rewritten). Extends p (w .plan)) (eachOf p (operatorAt p (o .0)) .st .changed) _ _
+      cond-elim (λ (w : Rewritten). Extends p (w .plan)) (eachOf p (operatorAt p (o .0)) .st .changed) _ _
       (λ c.
       input-extends (eachOf p (operatorAt p (o .0)) .st) (heldOf (operatorAt p (o .0))) (λ (k : ℕ). getD (eachOf p (operatorAt p (o .0)) .ats) k 0)
       (operatorAt p (o .0)) (operatorAt p (o .0)) (all-kept q .grows .extends))

@@ -7,7 +7,7 @@ use native.Mathlib.Omega.{arith}
 use lib.Dec.{ltb, leb}
 use lib.ListN.{getD, set, replicate}
 use borrow.Author.Tests.{ltb-true}
-use Rattle.lists.proofs.RangeLaws.{and-left, and-right}
+use Rattle.laws.proofs.Bools.{and-left, and-right, cond-elim}
 use Rattle.plan.specs.declared.Plan.{Plan}
 use Rattle.plan.specs.declared.Expr.{Expr}
 use Rattle.plan.specs.declared.Operator.{Operator}
@@ -15,7 +15,7 @@ use Rattle.plan.specs.Extends.{Sized}
 use Rattle.plan.proofs.AppendLaws.{new-operator, new-operator-start}
 use Rattle.plan_rules.specs.Rules.{planOk}
 use Rattle.plan_rules.proofs.RuleLaws.{rules}
-use Rattle.plan_data.specs.Nodes.{nodeAt, operatorData, recordOfOperator}
+use Rattle.plan_data.specs.Nodes.{nodeAt, operatorData, recordOfOperator, operatorAt}
 use Rattle.plan_data.specs.declared.JoinType.{JoinType}
 use Rattle.plan_data.specs.declared.OperatorData.{OperatorData}
 use Rattle.plan_data.specs.declared.OperatorData.the-variants.{Selection, Join}
@@ -27,7 +27,7 @@ use Rattle.rows_spec.specs.Evaluate.{valueOn, typed}
 use Rattle.rows_spec.specs.declared.Row.{Row}
 use Rattle.simplify_spec.specs.Shapes.{isLiteral}
 use Rattle.simplify_spec.specs.OneExpression.{shapeIn, handle, withItems, simplifyAt}
-use Rattle.simplify_spec.specs.OneOperator.{operatorAt, heldOf, heldCount, heldAt, eachTo, itemFirst, itemSecond, writeAll, withList}
+use Rattle.simplify_spec.specs.OneOperator.{heldOf, heldCount, heldAt, eachTo, itemFirst, itemSecond, writeAll, withList}
 use Rattle.simplify_spec.specs.OneOperator.{rebuiltOf, planWith, planAdded, operatorHandle, rewriteOf, startOf, eachOf, simplifyOf}
 use Rattle.simplify_spec.specs.Meaning.{Good, valueIn}
 use Rattle.simplify_spec.specs.declared.Tables.{Tables}
@@ -39,7 +39,7 @@ use Rattle.simplify_spec.specs.declared.Rewritten.{Rewritten}
 use Rattle.simplify_spec.proofs.StepLaws.{enter-in}
 use Rattle.simplify_spec.proofs.Operating.{lit-truth}
 use Rattle.simplify_spec.proofs.Theorems.{plan-good, grows, within, truth-kept}
-use Rattle.simplify_spec.proofs.HeldLaws.{choose, held-in}
+use Rattle.simplify_spec.proofs.HeldLaws.{held-in}
 use Rattle.simplify_spec.proofs.OperatorTheorems.{is-rewrite}
 
 -- on every row that is right for p, the expression of q is as true as that of p
@@ -190,11 +190,11 @@ module _ (p : Plan) (s : Sized p) (ok : planOk p ≡ true) (o : Operator) (lt : 
                 (simplifyAt (e .0) (startOf p) .at);
           }))
       parts =
-          choose P (simplifyAt (e .0) (startOf p) .ok) _ _
+          cond-elim P (simplifyAt (e .0) (startOf p) .ok) _ _
           (λ q.
-          choose P (simplifyAt (e .0) (startOf p) .st .changed) _ _
+          cond-elim P (simplifyAt (e .0) (startOf p) .st .changed) _ _
           (λ c.
-          choose P (isLiteral true (shapeIn (simplifyAt (e .0) (startOf p) .st) (simplifyAt (e .0) (startOf p) .at))) _ _
+          cond-elim P (isLiteral true (shapeIn (simplifyAt (e .0) (startOf p) .st) (simplifyAt (e .0) (startOf p) .at))) _ _
           (λ l r f.
           inl (
             sym (same-handle f),
@@ -205,7 +205,7 @@ module _ (p : Plan) (s : Sized p) (ok : planOk p ≡ true) (o : Operator) (lt : 
                 (within p (e .0) (startOf p) (plan-good p s ok) (there p s ok o lt e one) q) l,
           ))
           (λ l.
-          choose P (ltb (p .operators .count) 128 && leb (simplifyAt (e .0) (startOf p) .st .items .count + 0) 2048) _ _
+          cond-elim P (ltb (p .operators .count) 128 && leb (simplifyAt (e .0) (startOf p) .st .items .count + 0) 2048) _ _
           (λ t r f.
           inr (subst (Remade p _ (e .0) (λ (h : Expr). Selection h i)) (same-handle f)
           (remade p s ok o lt e one q ty (Selection e i) (λ (h : Expr). Selection h i) (One e)
@@ -249,11 +249,11 @@ module _ (p : Plan) (s : Sized p) (ok : planOk p ≡ true) (o : Operator) (lt : 
                 (simplifyAt (e .0) (startOf p) .at);
           }))
       parts =
-          choose P (simplifyAt (e .0) (startOf p) .ok) _ _
+          cond-elim P (simplifyAt (e .0) (startOf p) .ok) _ _
           (λ q.
-          choose P (simplifyAt (e .0) (startOf p) .st .changed) _ _
+          cond-elim P (simplifyAt (e .0) (startOf p) .st .changed) _ _
           (λ c.
-          choose P (ltb (p .operators .count) 128 && leb (simplifyAt (e .0) (startOf p) .st .items .count + 0) 2048) _ _
+          cond-elim P (ltb (p .operators .count) 128 && leb (simplifyAt (e .0) (startOf p) .st .items .count + 0) 2048) _ _
           (λ t r f.
           subst (Remade p _ (e .0) (λ (h : Expr). Join j h l i)) (same-handle f)
           (remade p s ok o lt e one q ty (Join j e l i) (λ (h : Expr). Join j h l i) (One e)

@@ -41,66 +41,66 @@ literal-tag (S.Int64 i) n e = omega arith
 literal-tag (S.Float64 x) n e = omega arith
 literal-tag (S.Date32 i) n e = omega arith
 
-pub shape-boolean : (d : ExprData) (b : Bool) → shapeOf d ≡ Boolean b → d ≡ Literal (S.Boolean b)
-shape-boolean (Literal v) b e = ap Literal (boolean-of v b e)
-shape-boolean (ColumnRef c) b e = absurd (omega (arith, ap tag e))
-shape-boolean (Unary U.Not x) b e = absurd (omega (arith, ap tag e))
-shape-boolean (Unary U.IsNull x) b e = absurd (omega (arith, ap tag e))
-shape-boolean (Unary U.IsNotNull x) b e = absurd (omega (arith, ap tag e))
-shape-boolean (Unary U.Negate x) b e = absurd (omega (arith, ap tag e))
-shape-boolean (Binary op l r) b e = absurd (omega (arith, ap tag e))
-shape-boolean (Nary N.And es) b e = absurd (omega (arith, ap tag e))
-shape-boolean (Nary N.Or es) b e = absurd (omega (arith, ap tag e))
+pub boolean-of-shape : (d : ExprData) (b : Bool) → shapeOf d ≡ Boolean b → d ≡ Literal (S.Boolean b)
+boolean-of-shape (Literal v) b e = ap Literal (boolean-of v b e)
+boolean-of-shape (ColumnRef c) b e = absurd (omega (arith, ap tag e))
+boolean-of-shape (Unary U.Not x) b e = absurd (omega (arith, ap tag e))
+boolean-of-shape (Unary U.IsNull x) b e = absurd (omega (arith, ap tag e))
+boolean-of-shape (Unary U.IsNotNull x) b e = absurd (omega (arith, ap tag e))
+boolean-of-shape (Unary U.Negate x) b e = absurd (omega (arith, ap tag e))
+boolean-of-shape (Binary op l r) b e = absurd (omega (arith, ap tag e))
+boolean-of-shape (Nary N.And es) b e = absurd (omega (arith, ap tag e))
+boolean-of-shape (Nary N.Or es) b e = absurd (omega (arith, ap tag e))
 
-pub shape-not : (d : ExprData) (a : Expr) → shapeOf d ≡ Not a → d ≡ Unary U.Not a
-shape-not (Literal v) a e = absurd (omega (arith, literal-tag v 0 (ap tag e)))
-shape-not (ColumnRef c) a e = absurd (omega (arith, ap tag e))
-shape-not (Unary U.Not x) a e = cc
-shape-not (Unary U.IsNull x) a e = absurd (omega (arith, ap tag e))
-shape-not (Unary U.IsNotNull x) a e = absurd (omega (arith, ap tag e))
-shape-not (Unary U.Negate x) a e = absurd (omega (arith, ap tag e))
-shape-not (Binary op l r) a e = absurd (omega (arith, ap tag e))
-shape-not (Nary N.And es) a e = absurd (omega (arith, ap tag e))
-shape-not (Nary N.Or es) a e = absurd (omega (arith, ap tag e))
+pub not-of-shape : (d : ExprData) (a : Expr) → shapeOf d ≡ Not a → d ≡ Unary U.Not a
+not-of-shape (Literal v) a e = absurd (omega (arith, literal-tag v 0 (ap tag e)))
+not-of-shape (ColumnRef c) a e = absurd (omega (arith, ap tag e))
+not-of-shape (Unary U.Not x) a e = cc
+not-of-shape (Unary U.IsNull x) a e = absurd (omega (arith, ap tag e))
+not-of-shape (Unary U.IsNotNull x) a e = absurd (omega (arith, ap tag e))
+not-of-shape (Unary U.Negate x) a e = absurd (omega (arith, ap tag e))
+not-of-shape (Binary op l r) a e = absurd (omega (arith, ap tag e))
+not-of-shape (Nary N.And es) a e = absurd (omega (arith, ap tag e))
+not-of-shape (Nary N.Or es) a e = absurd (omega (arith, ap tag e))
 
-pub shape-compare : (d : ExprData) (op : BinaryOp) (l r : Expr) → shapeOf d ≡ Compare op l r → d ≡ Binary op l r
-shape-compare (Literal v) op l r e = absurd (omega (arith, literal-tag v 1 (ap tag e)))
-shape-compare (ColumnRef c) op l r e = absurd (omega (arith, ap tag e))
-shape-compare (Unary U.Not x) op l r e = absurd (omega (arith, ap tag e))
-shape-compare (Unary U.IsNull x) op l r e = absurd (omega (arith, ap tag e))
-shape-compare (Unary U.IsNotNull x) op l r e = absurd (omega (arith, ap tag e))
-shape-compare (Unary U.Negate x) op l r e = absurd (omega (arith, ap tag e))
-shape-compare (Binary op2 l2 r2) op l r e = cc
-shape-compare (Nary N.And es) op l r e = absurd (omega (arith, ap tag e))
-shape-compare (Nary N.Or es) op l r e = absurd (omega (arith, ap tag e))
+pub compare-of-shape : (d : ExprData) (op : BinaryOp) (l r : Expr) → shapeOf d ≡ Compare op l r → d ≡ Binary op l r
+compare-of-shape (Literal v) op l r e = absurd (omega (arith, literal-tag v 1 (ap tag e)))
+compare-of-shape (ColumnRef c) op l r e = absurd (omega (arith, ap tag e))
+compare-of-shape (Unary U.Not x) op l r e = absurd (omega (arith, ap tag e))
+compare-of-shape (Unary U.IsNull x) op l r e = absurd (omega (arith, ap tag e))
+compare-of-shape (Unary U.IsNotNull x) op l r e = absurd (omega (arith, ap tag e))
+compare-of-shape (Unary U.Negate x) op l r e = absurd (omega (arith, ap tag e))
+compare-of-shape (Binary op2 l2 r2) op l r e = cc
+compare-of-shape (Nary N.And es) op l r e = absurd (omega (arith, ap tag e))
+compare-of-shape (Nary N.Or es) op l r e = absurd (omega (arith, ap tag e))
 
 -- And and Or alike
 abbrev pub naryShapeOf : Bool → ℕ → ℕ → Shape
 naryShapeOf true start count = And start count
 naryShapeOf false start count = Or start count
 
-pub shape-nary : (d : ExprData) (all : Bool) (start count : ℕ) → shapeOf d ≡ naryShapeOf all start count → d ≡ Nary (naryOpFor all) (runOf start count)
-shape-nary (Literal v) true start count e = absurd (omega (arith, literal-tag v 2 (ap tag e)))
-shape-nary (ColumnRef c) true start count e = absurd (omega (arith, ap tag e))
-shape-nary (Unary U.Not x) true start count e = absurd (omega (arith, ap tag e))
-shape-nary (Unary U.IsNull x) true start count e = absurd (omega (arith, ap tag e))
-shape-nary (Unary U.IsNotNull x) true start count e = absurd (omega (arith, ap tag e))
-shape-nary (Unary U.Negate x) true start count e = absurd (omega (arith, ap tag e))
-shape-nary (Binary op l r) true start count e = absurd (omega (arith, ap tag e))
-shape-nary (Nary N.And es) true start count e =
+pub nary-of-shape : (d : ExprData) (all : Bool) (start count : ℕ) → shapeOf d ≡ naryShapeOf all start count → d ≡ Nary (naryOpFor all) (runOf start count)
+nary-of-shape (Literal v) true start count e = absurd (omega (arith, literal-tag v 2 (ap tag e)))
+nary-of-shape (ColumnRef c) true start count e = absurd (omega (arith, ap tag e))
+nary-of-shape (Unary U.Not x) true start count e = absurd (omega (arith, ap tag e))
+nary-of-shape (Unary U.IsNull x) true start count e = absurd (omega (arith, ap tag e))
+nary-of-shape (Unary U.IsNotNull x) true start count e = absurd (omega (arith, ap tag e))
+nary-of-shape (Unary U.Negate x) true start count e = absurd (omega (arith, ap tag e))
+nary-of-shape (Binary op l r) true start count e = absurd (omega (arith, ap tag e))
+nary-of-shape (Nary N.And es) true start count e =
     let s : es .start ≡ start = cc in
     let n : es .count ≡ count = cc in
     λ i. Nary N.And (record { start = s i; count = n i })
-shape-nary (Nary N.Or es) true start count e = absurd (omega (arith, ap tag e))
-shape-nary (Literal v) false start count e = absurd (omega (arith, literal-tag v 3 (ap tag e)))
-shape-nary (ColumnRef c) false start count e = absurd (omega (arith, ap tag e))
-shape-nary (Unary U.Not x) false start count e = absurd (omega (arith, ap tag e))
-shape-nary (Unary U.IsNull x) false start count e = absurd (omega (arith, ap tag e))
-shape-nary (Unary U.IsNotNull x) false start count e = absurd (omega (arith, ap tag e))
-shape-nary (Unary U.Negate x) false start count e = absurd (omega (arith, ap tag e))
-shape-nary (Binary op l r) false start count e = absurd (omega (arith, ap tag e))
-shape-nary (Nary N.And es) false start count e = absurd (omega (arith, ap tag e))
-shape-nary (Nary N.Or es) false start count e =
+nary-of-shape (Nary N.Or es) true start count e = absurd (omega (arith, ap tag e))
+nary-of-shape (Literal v) false start count e = absurd (omega (arith, literal-tag v 3 (ap tag e)))
+nary-of-shape (ColumnRef c) false start count e = absurd (omega (arith, ap tag e))
+nary-of-shape (Unary U.Not x) false start count e = absurd (omega (arith, ap tag e))
+nary-of-shape (Unary U.IsNull x) false start count e = absurd (omega (arith, ap tag e))
+nary-of-shape (Unary U.IsNotNull x) false start count e = absurd (omega (arith, ap tag e))
+nary-of-shape (Unary U.Negate x) false start count e = absurd (omega (arith, ap tag e))
+nary-of-shape (Binary op l r) false start count e = absurd (omega (arith, ap tag e))
+nary-of-shape (Nary N.And es) false start count e = absurd (omega (arith, ap tag e))
+nary-of-shape (Nary N.Or es) false start count e =
     let s : es .start ≡ start = cc in
     let n : es .count ≡ count = cc in
     λ i. Nary N.Or (record { start = s i; count = n i })
@@ -116,5 +116,5 @@ literal-shape b (And start count) e = let z : _≡_ {A = ℕ} 0 1 = cc in absurd
 literal-shape b (Or start count) e = let z : _≡_ {A = ℕ} 0 1 = cc in absurd (omega arith)
 literal-shape b Other e = let z : _≡_ {A = ℕ} 0 1 = cc in absurd (omega arith)
 
-pub shape-literal : (d : ExprData) (b : Bool) → isLiteral b (shapeOf d) ≡ true → d ≡ Literal (S.Boolean b)
-shape-literal d b e = shape-boolean d b (literal-shape b (shapeOf d) e)
+pub literal-of-shape : (d : ExprData) (b : Bool) → isLiteral b (shapeOf d) ≡ true → d ≡ Literal (S.Boolean b)
+literal-of-shape d b e = boolean-of-shape d b (literal-shape b (shapeOf d) e)

@@ -7,7 +7,7 @@ use native.Mathlib.Omega.{arith}
 use lib.Dec.{ltb}
 use lib.ListN.{length, take, drop}
 use borrow.Author.Tests.{lt-ltb, le-ltb}
-use Rattle.lists.proofs.RangeLaws.{and-left, and-right, and-both}
+use Rattle.laws.proofs.Bools.{and-left, and-right, and-both}
 use Rattle.truth.specs.Truth.{every}
 use Rattle.scalar.specs.Kinds.{sameKind}
 use Rattle.scalar.specs.declared.Kind.{Kind}
@@ -161,12 +161,12 @@ module _ (p : Plan) where
       kind-kept = meant .kind
 
       -- its value on every row, but for the kind of a NULL
-      pub value-kept : (row : Row) → rowOk p row ≡ true → Alike (valueIn p (simplifyAt h st .st) row (simplifyAt h st .at)) (valueIn p st row h)
-      value-kept row right = meant .value row right
+      pub simplified-value : (row : Row) → rowOk p row ≡ true → Alike (valueIn p (simplifyAt h st .st) row (simplifyAt h st .at)) (valueIn p st row h)
+      simplified-value row right = meant .value row right
 
       -- and so its truth
       pub truth-kept : (row : Row) → rowOk p row ≡ true → truthOf (valueIn p (simplifyAt h st .st) row (simplifyAt h st .at)) ≡ truthOf (valueIn p st row h)
-      truth-kept row right = same-truth (valueIn p (simplifyAt h st .st) row (simplifyAt h st .at)) (valueIn p st row h) (value-kept row right)
+      truth-kept row right = same-truth (valueIn p (simplifyAt h st .st) row (simplifyAt h st .at)) (valueIn p st row h) (simplified-value row right)
 
       -- and is typed again
       pub typed-again : typedIn (simplifyAt h st .st) (simplifyAt h st .at) ≡ true

@@ -8,9 +8,9 @@ use Rattle.plan.specs.declared.Plan.{Plan}
 use Rattle.plan.specs.declared.Items.{Items}
 use Rattle.plan.specs.declared.Operator.{Operator}
 use Rattle.plan.specs.Plans.{operatorPushed}
-use Rattle.plan.specs.Records.{operatorRecord, operatorStart}
 use Rattle.plan_rules.specs.Rules.{planOk}
-use Rattle.plan_data.specs.Nodes.{runOf, operatorData, recordOfOperator}
+pub use Rattle.plan_data.specs.Nodes.{operatorAt}
+use Rattle.plan_data.specs.Nodes.{runOf, recordOfOperator}
 use Rattle.plan_data.specs.declared.OperatorData.{OperatorData}
 use Rattle.plan_data.specs.declared.OperatorData.the-variants.{Scan, ConstScan, TableFunction, Selection, Projection, Rename, Map, Aggregation, Sort}
 use Rattle.plan_data.specs.declared.OperatorData.the-variants.{Limit, Output, CrossProduct, Join}
@@ -23,10 +23,6 @@ use Rattle.simplify_spec.specs.declared.Held.the-variants.{Nothing, One,
 use Rattle.simplify_spec.specs.declared.Rewrite.{Rewrite}
 use Rattle.simplify_spec.specs.declared.Rewrite.the-variants.{Keep, Replace, Room, NoSuch}
 use Rattle.simplify_spec.specs.declared.Rewritten.{Rewritten}
-
--- what the operator o is
-abbrev pub operatorAt : Plan → ℕ → OperatorData
-operatorAt p o = operatorData (operatorRecord p o) (operatorStart p o)
 
 -- which expressions are simplified: a Selection's predicate, the `on` of every join, a Map's expressions, the keys of Aggregation and Sort
 abbrev pub heldOf : OperatorData → Held

@@ -14,8 +14,8 @@ use Rattle.truth.specs.Truth.{isFalse, isTrue, andT, orT, notT, allOf, a
 
 -- ---- two truth values
 -- no number is two
-apart : (x m n : ℕ) → eqb m n ≡ false → (eqb x m && eqb x n) ≡ false
-apart x m n d = go (eqb x m) refl
+eqb-apart : (x m n : ℕ) → eqb m n ≡ false → (eqb x m && eqb x n) ≡ false
+eqb-apart x m n d = go (eqb x m) refl
   where
     go : (b : Bool) → eqb x m ≡ b → (b && eqb x n) ≡ false
     go true e = ap (λ (k : ℕ). eqb k n) (eqb-true x m e) ∙ d
@@ -28,7 +28,7 @@ module _ (lose win : ℕ) (apart-codes : eqb lose win ≡ false) (lost : eqb los
   both x y = cond (eqb x lose || eqb y lose) lose (cond (eqb x win && eqb y win) win 1)
 
   both-win : (x y : ℕ) → eqb (both x y) win ≡ (eqb x win && eqb y win)
-  both-win x y = go (eqb x lose) (eqb y lose) (eqb x win) (eqb y win) (apart x lose win apart-codes) (apart y lose win apart-codes)
+  both-win x y = go (eqb x lose) (eqb y lose) (eqb x win) (eqb y win) (eqb-apart x lose win apart-codes) (eqb-apart y lose win apart-codes)
     where
       go : (a b c d : Bool) → (a && c) ≡ false → (b && d) ≡ false → eqb (cond (a || b) lose (cond (c && d) win 1)) win ≡ (c && d)
       go true b true d p q = absurd (true≢false p)
@@ -48,28 +48,28 @@ module _ (lose win : ℕ) (apart-codes : eqb lose win ≡ false) (lost : eqb los
       go false true = lost-win
       go false false = unknown-lose
 
-pub and-true : (x y : ℕ) → isTrue (andT x y) ≡ (isTrue x && isTrue y)
-and-true = both-win 0 2 refl refl refl refl refl refl
+pub andT-true : (x y : ℕ) → isTrue (andT x y) ≡ (isTrue x && isTrue y)
+andT-true = both-win 0 2 refl refl refl refl refl refl
 
-pub and-false : (x y : ℕ) → isFalse (andT x y) ≡ (isFalse x || isFalse y)
-and-false = both-lose 0 2 refl refl refl refl refl refl
+pub andT-false : (x y : ℕ) → isFalse (andT x y) ≡ (isFalse x || isFalse y)
+andT-false = both-lose 0 2 refl refl refl refl refl refl
 
-pub or-true : (x y : ℕ) → isTrue (orT x y) ≡ (isTrue x || isTrue y)
-or-true = both-lose 2 0 refl refl refl refl refl refl
+pub orT-true : (x y : ℕ) → isTrue (orT x y) ≡ (isTrue x || isTrue y)
+orT-true = both-lose 2 0 refl refl refl refl refl refl
 
-pub or-false : (x y : ℕ) → isFalse (orT x y) ≡ (isFalse x && isFalse y)
-or-false = both-win 2 0 refl refl refl refl refl refl
+pub orT-false : (x y : ℕ) → isFalse (orT x y) ≡ (isFalse x && isFalse y)
+orT-false = both-win 2 0 refl refl refl refl refl refl
 
-pub not-true : (x : ℕ) → isTrue (notT x) ≡ isFalse x
-not-true x = go (isFalse x) (isTrue x)
+pub notT-true : (x : ℕ) → isTrue (notT x) ≡ isFalse x
+notT-true x = go (isFalse x) (isTrue x)
   where
     go : (a b : Bool) → isTrue (cond a 2 (cond b 0 1)) ≡ a
     go true b = refl
     go false true = refl
     go false false = refl
 
-pub not-false : (x : ℕ) → isFalse (notT x) ≡ isTrue x
-not-false x = go (isFalse x) (isTrue x) (apart x 0 2 refl)
+pub notT-false : (x : ℕ) → isFalse (notT x) ≡ isTrue x
+notT-false x = go (isFalse x) (isTrue x) (eqb-apart x 0 2 refl)
   where
     go : (a b : Bool) → (a && b) ≡ false → isFalse (cond a 2 (cond b 0 1)) ≡ b
     go true true p = absurd (true≢false p)
@@ -82,23 +82,23 @@ not-false x = go (isFalse x) (isTrue x) (apart x 0 2 refl)
 pub all-true : (l : List ℕ) → isTrue (allOf l) ≡ every isTrue l
 unfolding allOf every
 all-true [] = refl
-all-true (x ∷ l) = and-true x (allOf l) ∙ ap (λ (b : Bool). isTrue x && b) (all-true l)
+all-true (x ∷ l) = andT-true x (allOf l) ∙ ap (λ (b : Bool). isTrue x && b) (all-true l)
 
 pub all-false : (l : List ℕ) → isFalse (allOf l) ≡ some isFalse l
 unfolding allOf some
 all-false [] = refl
-all-false (x ∷ l) = and-false x (allOf l) ∙ ap (λ (b : Bool). isFalse x || b) (all-false l)
+all-false (x ∷ l) = andT-false x (allOf l) ∙ ap (λ (b : Bool). isFalse x || b) (all-false l)
 
 -- OR of many is TRUE where one is TRUE, and FALSE where each is FALSE
 pub any-true : (l : List ℕ) → isTrue (anyOf l) ≡ some isTrue l
 unfolding anyOf some
 any-true [] = refl
-any-true (x ∷ l) = or-true x (anyOf l) ∙ ap (λ (b : Bool). isTrue x || b) (any-true l)
+any-true (x ∷ l) = orT-true x (anyOf l) ∙ ap (λ (b : Bool). isTrue x || b) (any-true l)
 
 pub any-false : (l : List ℕ) → isFalse (anyOf l) ≡ every isFalse l
 unfolding anyOf every
 any-false [] = refl
-any-false (x ∷ l) = or-false x (anyOf l) ∙ ap (λ (b : Bool). isFalse x && b) (any-false l)
+any-false (x ∷ l) = orT-false x (anyOf l) ∙ ap (λ (b : Bool). isFalse x && b) (any-false l)
 
 -- ---- the codes: a test at every entry, which antt computes
 module _ (f g : ℕ → ℕ → ℕ) where
@@ -129,30 +129,30 @@ pub or-unit : (x : ℕ) → x < 3 → orT 0 x ≡ x
 unfolding allFrom
 or-unit x p = at-codes (λ (x y : ℕ). orT 0 x) (λ (x y : ℕ). x) refl x 0 p (omega arith)
 
-pub not-not : (x : ℕ) → x < 3 → notT (notT x) ≡ x
+pub notT-notT : (x : ℕ) → x < 3 → notT (notT x) ≡ x
 unfolding allFrom
-not-not x p = at-codes (λ (x y : ℕ). notT (notT x)) (λ (x y : ℕ). x) refl x 0 p (omega arith)
+notT-notT x p = at-codes (λ (x y : ℕ). notT (notT x)) (λ (x y : ℕ). x) refl x 0 p (omega arith)
 
 -- ---- order and grouping, of any numbers
-pub and-comm : (x y : ℕ) → andT x y ≡ andT y x
-and-comm x y = ap₂ (λ (a b : Bool). cond a 0 (cond b 2 1)) (B.or-comm (isFalse x) (isFalse y)) (B.and-comm (isTrue x) (isTrue y))
+pub andT-comm : (x y : ℕ) → andT x y ≡ andT y x
+andT-comm x y = ap₂ (λ (a b : Bool). cond a 0 (cond b 2 1)) (B.or-comm (isFalse x) (isFalse y)) (B.and-comm (isTrue x) (isTrue y))
 
-pub or-comm : (x y : ℕ) → orT x y ≡ orT y x
-or-comm x y = ap₂ (λ (a b : Bool). cond a 2 (cond b 0 1)) (B.or-comm (isTrue x) (isTrue y)) (B.and-comm (isFalse x) (isFalse y))
+pub orT-comm : (x y : ℕ) → orT x y ≡ orT y x
+orT-comm x y = ap₂ (λ (a b : Bool). cond a 2 (cond b 0 1)) (B.or-comm (isTrue x) (isTrue y)) (B.and-comm (isFalse x) (isFalse y))
 
-pub and-assoc : (x y z : ℕ) → andT (andT x y) z ≡ andT x (andT y z)
-and-assoc x y z =
+pub andT-assoc : (x y z : ℕ) → andT (andT x y) z ≡ andT x (andT y z)
+andT-assoc x y z =
     ap₂ (λ (a b : Bool). cond a 0 (cond b 2 1))
-    (ap (λ (a : Bool). a || isFalse z) (and-false x y) ∙ B.or-assoc (isFalse x) (isFalse y) (isFalse z) ∙ ap (λ (a : Bool). isFalse x || a)
-    (sym (and-false y z)))
-    (ap (λ (a : Bool). a && isTrue z) (and-true x y) ∙ B.and-assoc (isTrue x) (isTrue y) (isTrue z) ∙ ap (λ (a : Bool). isTrue x && a) (sym (and-true y z)))
+    (ap (λ (a : Bool). a || isFalse z) (andT-false x y) ∙ B.or-assoc (isFalse x) (isFalse y) (isFalse z) ∙ ap (λ (a : Bool). isFalse x || a)
+    (sym (andT-false y z)))
+    (ap (λ (a : Bool). a && isTrue z) (andT-true x y) ∙ B.and-assoc (isTrue x) (isTrue y) (isTrue z) ∙ ap (λ (a : Bool). isTrue x && a) (sym (andT-true y z)))
 
-pub or-assoc : (x y z : ℕ) → orT (orT x y) z ≡ orT x (orT y z)
-or-assoc x y z =
+pub orT-assoc : (x y z : ℕ) → orT (orT x y) z ≡ orT x (orT y z)
+orT-assoc x y z =
     ap₂ (λ (a b : Bool). cond a 2 (cond b 0 1))
-    (ap (λ (a : Bool). a || isTrue z) (or-true x y) ∙ B.or-assoc (isTrue x) (isTrue y) (isTrue z) ∙ ap (λ (a : Bool). isTrue x || a) (sym (or-true y z)))
-    (ap (λ (a : Bool). a && isFalse z) (or-false x y) ∙ B.and-assoc (isFalse x) (isFalse y) (isFalse z) ∙ ap (λ (a : Bool). isFalse x && a)
-    (sym (or-false y z)))
+    (ap (λ (a : Bool). a || isTrue z) (orT-true x y) ∙ B.or-assoc (isTrue x) (isTrue y) (isTrue z) ∙ ap (λ (a : Bool). isTrue x || a) (sym (orT-true y z)))
+    (ap (λ (a : Bool). a && isFalse z) (orT-false x y) ∙ B.and-assoc (isFalse x) (isFalse y) (isFalse z) ∙ ap (λ (a : Bool). isFalse x && a)
+    (sym (orT-false y z)))
 
 -- ---- answers are codes
 made-code : (a b : Bool) (m n : ℕ) → m < 3 → n < 3 → cond a m (cond b n 1) < 3
@@ -183,12 +183,12 @@ any-code (x ∷ l) = or-code x (anyOf l)
 pub all-append : (l m : List ℕ) → allOf (l ++ m) ≡ andT (allOf l) (allOf m)
 unfolding allOf
 all-append [] m = sym (and-unit (allOf m) (all-code m))
-all-append (x ∷ l) m = ap (andT x) (all-append l m) ∙ sym (and-assoc x (allOf l) (allOf m))
+all-append (x ∷ l) m = ap (andT x) (all-append l m) ∙ sym (andT-assoc x (allOf l) (allOf m))
 
 pub any-append : (l m : List ℕ) → anyOf (l ++ m) ≡ orT (anyOf l) (anyOf m)
 unfolding anyOf
 any-append [] m = sym (or-unit (anyOf m) (any-code m))
-any-append (x ∷ l) m = ap (orT x) (any-append l m) ∙ sym (or-assoc x (anyOf l) (anyOf m))
+any-append (x ∷ l) m = ap (orT x) (any-append l m) ∙ sym (orT-assoc x (anyOf l) (anyOf m))
 
 -- ---- what is no code is read as UNKNOWN
 pub read-below : (x : ℕ) → codeRead x < 3

@@ -8,9 +8,9 @@ use native.Mathlib.Numerals.{add-one}
 use borrow.Author.Tests.{eq-eqb, ne-eqb, ltb-true}
 use mathlib.Core.Bool.{Bool, true, _&&_}
 use lib.Dec.{ltb}
-use Rattle.lists.proofs.RangeLaws.{and-right}
 use lib.ListN.{length, getD, set, take, replicate, getD-replicate}
 use lib.Seq.{getD-set-same, getD-set-other, getD-take, ext-getD}
+use Rattle.laws.proofs.Bools.{and-right}
 use Rattle.value_classes.specs.Parents.{rootOf, parentsOk, each}
 use Rattle.value_classes.specs.Classes.{Falling, canonicalOf}
 use Rattle.value_classes.specs.Listed.{rootsOf, membersTo, firstFrom, firstMember, nextMember, membersOf}

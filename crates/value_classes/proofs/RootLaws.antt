@@ -264,12 +264,12 @@ unfolding joined
 joined-length p l r = simp length-set
 
 -- ---- lists f 0, f 1, ..
-pub each-more : (f : ℕ → ℕ) (l : List ℕ) (i x : ℕ) → i < length l → x ≡ f i → take i l ≡ each f i → take (i + 1) (set l i x) ≡ each f (i + 1)
+pub take-each-more : (f : ℕ → ℕ) (l : List ℕ) (i x : ℕ) → i < length l → x ≡ f i → take i l ≡ each f i → take (i + 1) (set l i x) ≡ each f (i + 1)
 unfolding each
-each-more f l i x h e t = rw (add-one, take-suc-set l i x h, t, e)
+take-each-more f l i x h e t = rw (add-one, take-suc-set l i x h, t, e)
 
-pub each-done : (f : ℕ → ℕ) (n : ℕ) (l : List ℕ) (i : ℕ) → length l ≡ n → i ≡ n → take i l ≡ each f i → l ≡ each f n
-each-done f n l i e g t = sym (take-all n l (omega arith)) ∙ rw g at t
+pub take-each-done : (f : ℕ → ℕ) (n : ℕ) (l : List ℕ) (i : ℕ) → length l ≡ n → i ≡ n → take i l ≡ each f i → l ≡ each f n
+take-each-done f n l i e g t = sym (take-all n l (omega arith)) ∙ rw g at t
 
 pub length-each : (f : ℕ → ℕ) (n : ℕ) → length (each f n) ≡ n
 unfolding each

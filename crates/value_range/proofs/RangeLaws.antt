@@ -8,6 +8,7 @@ use lib.Signed.{ltZ, leZ}
 use lib.Ieee.{Float, binary64, lt, eq, fits}
 use lib.Ieee.Bits.{is-true, is-false}
 use lib.Ieee.Fits.{and-l, and-r}
+use Rattle.laws.proofs.Bools.{T-or-elim, T-nor-left, T-nor-right, T-or-neg-resolve-left, cond-apply, cond-same}
 use Rattle.scalar.specs.Exact.{eqZ, finite, exactIn}
 use Rattle.scalar.proofs.ExactLaws.{lt-exact, eq-exact}
 use Rattle.scalar.proofs.WholeLaws.{eqZ→eq, eqZ-comm, le-lt, lt-le, lt→le, other-way, irrefl}
@@ -17,40 +18,19 @@ use Rattle.value_range.specs.declared.Bound.{Bound}
 use Rattle.value_range.specs.declared.ValueRange.{ValueRange}
 
 -- ---- tests
-or-cases : {X : Type 0} (a b : Bool) → T (a || b) → (T a → X) → (T b → X) → X
-or-cases true b t f g = f tt
-or-cases false b t f g = g t
-
-nor-l : (a b : Bool) → T (not (a || b)) → T (not a)
-nor-l true b t = t
-nor-l false b t = tt
-
-nor-r : (a b : Bool) → T (not (a || b)) → T (not b)
-nor-r true b t = absurd t
-nor-r false b t = t
-
 by-case : {X : Type 0} (a : Bool) → (T a → X) → (T (not a) → X) → X
 by-case true f g = f tt
 by-case false f g = g tt
 
-absorbed : (a b : Bool) → (T b → T a) → b ≡ (a && b)
-absorbed true b f = refl
-absorbed false true f = absurd (f tt)
-absorbed false false f = refl
+and-absorbed-left : (a b : Bool) → (T b → T a) → b ≡ (a && b)
+and-absorbed-left true b f = refl
+and-absorbed-left false true f = absurd (f tt)
+and-absorbed-left false false f = refl
 
-kept : (a b : Bool) → (T a → T b) → a ≡ (a && b)
-kept true true f = refl
-kept true false f = absurd (f tt)
-kept false b f = refl
-
--- a field of the record that is chosen
-of-chosen : {A : Type 0} (g : ValueRange → A) (t : Bool) (r s : ValueRange) → g (cond t r s) ≡ cond t (g r) (g s)
-of-chosen g true r s = refl
-of-chosen g false r s = refl
-
-chosen-same : {A : Type 0} (t : Bool) (a : A) → cond t a a ≡ a
-chosen-same true a = refl
-chosen-same false a = refl
+and-absorbed-right : (a b : Bool) → (T a → T b) → a ≡ (a && b)
+and-absorbed-right true true f = refl
+and-absorbed-right true false f = absurd (f tt)
+and-absorbed-right false b f = refl
 
 -- ---- one law for both ends: an order, and the same the other way round
 record Order (L E : ℤ → ℤ → Bool) : Type 0 where
@@ -98,7 +78,7 @@ module _ (L E : ℤ → ℤ → Bool) (o : Order L E) where
   -- a bound z that replaces y is tighter, and one that does not is looser
   tighter : (x y z : ℤ) (w i : Bool) → T (L z y || (eqZ z y && (w && not i))) → T (keeps i x z) → T (keeps w x y)
   tighter x y z w i t k =
-      or-cases (L z y) (eqZ z y && (w && not i)) t
+      T-or-elim (L z y) (eqZ z y && (w && not i)) t
       (λ l. keeps-lt w x y (o .through x z y (keeps-le i x z k) l))
       (λ e.
       let p : z ≡ y = eqZ→eq z y (and-l (eqZ z y) (w && not i) e) in
@@ -106,12 +86,12 @@ module _ (L E : ℤ → ℤ → Bool) (o : Order L E) where
 
   looser : (x y z : ℤ) (w i : Bool) → T (not (L z y || (eqZ z y && (w && not i)))) → T (keeps w x y) → T (keeps i x z)
   looser x y z w i t k =
-      let n = nor-l (L z y) (eqZ z y && (w && not i)) t in
+      let n = T-nor-left (L z y) (eqZ z y && (w && not i)) t in
       by-case (eqZ z y)
       (λ e.
       let p : z ≡ y = eqZ→eq z y e in
       subst (λ (u : ℤ). T (keeps i x u)) (sym p)
-      (at-same′ w i x y (subst (λ (b : Bool). T (not (b && (w && not i)))) (is-true (eqZ z y) e) (nor-r (L z y) (eqZ z y && (w && not i)) t)) k))
+      (at-same′ w i x y (subst (λ (b : Bool). T (not (b && (w && not i)))) (is-true (eqZ z y) e) (T-nor-right (L z y) (eqZ z y && (w && not i)) t)) k))
       (λ d. keeps-lt i x z (o .through x y z (keeps-le w x y k) (o .total z y n d)))
 
   -- an end of a range, where F is the order on floats: v replaces the bound there or does not
@@ -149,8 +129,8 @@ module _ (L E : ℤ → ℤ → Bool) (o : Order L E) where
       where
         go : (t : Bool) → (T t → T (keeps i x (ex v)) → T (meetsBound b)) → (T (not t) → T (meetsBound b) → T (keeps i x (ex v))) → meetsBound
             (cond t (boundAt v i) b) ≡ (meetsBound b && keeps i x (ex v))
-        go true f g = absorbed (meetsBound b) (keeps i x (ex v)) (f tt)
-        go false f g = kept (meetsBound b) (keeps i x (ex v)) (g tt)
+        go true f g = and-absorbed-left (meetsBound b) (keeps i x (ex v)) (f tt)
+        go false f g = and-absorbed-right (meetsBound b) (keeps i x (ex v)) (g tt)
 
 -- a bound that is taken or left is finite
 sound-end : (t : Bool) (v : Float) (i : Bool) (b : Bound) → T (finite v) → T (fits binary64 v) → Sound b → Sound (cond t (boundAt v i) b)
@@ -160,18 +140,18 @@ sound-end false v i b fv hv s = s
 -- ---- tightening
 module _ (v : Float) (i : Bool) (r : ValueRange) where
   upper-end : tightenUpper r v i .upper ≡ cond (takesUpper (r .upper) v i) (boundAt v i) (r .upper)
-  upper-end = of-chosen (λ (s : ValueRange). s .upper) (takesUpper (r .upper) v i) (record { lower = r .lower; upper = boundAt v i }) r
+  upper-end = cond-apply (λ (s : ValueRange). s .upper) (takesUpper (r .upper) v i) (record { lower = r .lower; upper = boundAt v i }) r
 
   lower-end : tightenLower r v i .lower ≡ cond (takesLower (r .lower) v i) (boundAt v i) (r .lower)
-  lower-end = of-chosen (λ (s : ValueRange). s .lower) (takesLower (r .lower) v i) (record { lower = boundAt v i; upper = r .upper }) r
+  lower-end = cond-apply (λ (s : ValueRange). s .lower) (takesLower (r .lower) v i) (record { lower = boundAt v i; upper = r .upper }) r
 
   -- the other bound stays
   pub upper-keeps : tightenUpper r v i .lower ≡ r .lower
-  upper-keeps = of-chosen (λ (s : ValueRange). s .lower) (takesUpper (r .upper) v i) (record { lower = r .lower; upper = boundAt v i }) r ∙ chosen-same
+  upper-keeps = cond-apply (λ (s : ValueRange). s .lower) (takesUpper (r .upper) v i) (record { lower = r .lower; upper = boundAt v i }) r ∙ cond-same
       (takesUpper (r .upper) v i) (r .lower)
 
   pub lower-keeps : tightenLower r v i .upper ≡ r .upper
-  lower-keeps = of-chosen (λ (s : ValueRange). s .upper) (takesLower (r .lower) v i) (record { lower = boundAt v i; upper = r .upper }) r ∙ chosen-same
+  lower-keeps = cond-apply (λ (s : ValueRange). s .upper) (takesLower (r .lower) v i) (record { lower = boundAt v i; upper = r .upper }) r ∙ cond-same
       (takesLower (r .lower) v i) (r .upper)
 
   module _ (fv : T (finite v)) (hv : T (fits binary64 v)) where
@@ -233,13 +213,9 @@ gap false q a x n h k = irrefl a (lt-le a x a h (upTo-le q x a k))
 
 admits : (x a b : ℤ) (p q : Bool) → T (ltZ b a || (eqZ a b && not (p && q))) → T (upTo p a x) → T (upTo q x b) → ⊥
 admits x a b p q t h k =
-    or-cases (ltZ b a) (eqZ a b && not (p && q)) t
+    T-or-elim (ltZ b a) (eqZ a b && not (p && q)) t
     (λ l. irrefl x (le-lt x b x (upTo-le q x b k) (lt-le b a x l (upTo-le p a x h))))
     (λ e. gap p q a x (and-r (eqZ a b) (not (p && q)) e) h (subst (λ (u : ℤ). T (upTo q x u)) (sym (eqZ→eq a b (and-l (eqZ a b) (not (p && q)) e))) k))
-
-there : (p q : Bool) → T p → T (not p || q) → T q
-there true q t u = u
-there false q t u = absurd t
 
 pub nothing-within : (x : ℤ) (r : ValueRange) → SoundRange r → emptyRange r ≡ true → within x r ≡ false
 nothing-within x r s e = is-false (within x r) (not-T (within x r) (λ m. go (subst T (sym e) tt) m))
@@ -260,5 +236,5 @@ nothing-within x r s e = is-false (within x r) (not-T (within x r) (λ m. go (su
         (eq-exact binary64 (l .value) (u .value) (fl .0) (fu .0) (fl .1) (fu .1)))
         (and-r (u .present) cross rest) in
         admits x (ex (l .value)) (ex (u .value)) (l .inclusive) (u .inclusive) test
-        (there (l .present) (upTo (l .inclusive) (ex (l .value)) x) tl (and-l (meetsLower x l) (meetsUpper x u) m))
-        (there (u .present) (upTo (u .inclusive) x (ex (u .value))) tu (and-r (meetsLower x l) (meetsUpper x u) m))
+        (T-or-neg-resolve-left (l .present) (upTo (l .inclusive) (ex (l .value)) x) tl (and-l (meetsLower x l) (meetsUpper x u) m))
+        (T-or-neg-resolve-left (u .present) (upTo (u .inclusive) x (ex (u .value))) tu (and-r (meetsLower x l) (meetsUpper x u) m))

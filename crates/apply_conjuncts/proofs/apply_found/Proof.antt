@@ -1,6 +1,7 @@
 use borrow.Author.Needs.{needs}
 use Prim.Native.Nat.{_≤_, _<_, _-_}
 use lib.ListN.{length, getD, take}
+use Rattle.laws.proofs.Bools.{and-left}
 use Rattle.apply_conjuncts.proofs.SetWide.{set-wide}
 use lib.Seq.{getD-take}
 use Rattle.plan_data.specs.Nodes.{nodeOf}
@@ -11,7 +12,6 @@ use mathlib.Core.Logic.{⊎-elim}
 use native.Mathlib.Omega.{arith}
 use lib.Dec.{T}
 use borrow.Author.Tests.{ltb-true}
-use Rattle.lists.proofs.RangeLaws.{and-left}
 use Rattle.apply_action.specs.Actions.{Proper}
 use Rattle.apply_action.proofs.Acts.{proper}
 use Rattle.apply_conjuncts.proofs.Applying.{Turning, JoinedIn, CheckedIn, when-apart, when-together, when-checked, when-not, turn-again}

@@ -1,7 +1,7 @@
 use Rattle.apply_walk.specs.Walks.{passed}
 use borrow.Author.Needs.{needs}
 use Rattle.apply_walk.proofs.Rests.{stepsLeft}
-use Rattle.apply_predicate.proofs.Collecting.{Collected, Turning, at-most, less-left, some-frame, some-place, popped-on, skipped-on, found-on}
+use Rattle.apply_predicate.proofs.Collecting.{Collected, Turning, at-most, walk-less-left, some-frame, some-place, popped-on, skipped-on, found-on}
 use Rattle.apply_predicate.proofs.Collecting.{entered-on, skip-operand, found-operand, enter-operand, enter-frame}
 use Rattle.apply_predicate.proofs.next_conjuncts.Statement.{statement}
 use Rattle.apply_predicate.proofs.next_conjuncts.Tie as tie
@@ -216,7 +216,7 @@ returns : tie.Need-returns Inv-loop μ-loop
 returns c =
     let start = c .before .before .before .before .before .before .before in (
       c .before .loop .inv .good,
-      (at-most (c .before .loop .inv), (c .before .loop .inv .to-come, less-left (start .pre .0) (c .before .loop .inv) (c .loop-test .left))),
+      (at-most (c .before .loop .inv), (c .before .loop .inv .to-come, walk-less-left (start .pre .0) (c .before .loop .inv) (c .loop-test .left))),
     )
 
 pub next-conjuncts-spec : {M : Type 1} → statement M

@@ -2,9 +2,9 @@ use Prim.Native.Nat.{_-_}
 use borrow.Author.Needs.{needs}
 use Rattle.apply_walk.specs.Walks.{passed}
 use Rattle.apply_walk.proofs.Rests.{stepsLeft}
-use Rattle.apply_shared.proofs.Thinning.{Collected, Turning, owner-within, popped-on, skipped-on, found-within, found-over, found-room}
-use Rattle.apply_shared.proofs.Thinning.{found-kept, entered-within, entered-over, entered-on, enter-frame, skip-operand, found-operand}
-use Rattle.apply_shared.proofs.Thinning.{enter-operand, test-frame, over-seen, ended, started}
+use Rattle.apply_shared.proofs.Thinning.{Collected, Turning, owner-within, thin-popped-on, thin-skipped-on, thin-found-within, found-over, found-room}
+use Rattle.apply_shared.proofs.Thinning.{found-kept, entered-within, entered-over, thin-entered-on, thin-enter-frame, thin-skip-operand}
+use Rattle.apply_shared.proofs.Thinning.{thin-found-operand, thin-enter-operand, test-frame, over-seen, ended, started}
 use Rattle.apply_shared.proofs.of_and.Statement.{statement}
 use Rattle.apply_shared.proofs.of_and.Tie as tie
 use Rattle.apply_shared.proofs.of_and.Reads as reads
@@ -103,16 +103,16 @@ array-write-seen : tie.Need-array-write-seen Inv-loop μ-loop
 array-write-seen c = owner-within (turning (c .before .before))
 
 loop-less : tie.Need-loop-less Inv-loop μ-loop
-loop-less c = popped-on (turning (c .before .before)) (c .enum-told .given .1) .1
+loop-less c = thin-popped-on (turning (c .before .before)) (c .enum-told .given .1) .1
 
 loop-again : tie.Need-loop-again Inv-loop μ-loop
-loop-again c = popped-on (turning (c .before .before)) (c .enum-told .given .1) .0
+loop-again c = thin-popped-on (turning (c .before .before)) (c .enum-told .given .1) .0
 
 enum-told-2 : tie.Need-enum-told-2 Inv-loop μ-loop
 enum-told-2 c = search needs
 
 add-walk : tie.Need-add-walk Inv-loop μ-loop
-add-walk c = let h = skip-operand (turning (c .before .before)) (c .enum-told2 .given .1) .1 in search needs
+add-walk c = let h = thin-skip-operand (turning (c .before .before)) (c .enum-told2 .given .1) .1 in search needs
 
 mul-walk : tie.Need-mul-walk Inv-loop μ-loop
 mul-walk c = search needs
@@ -121,7 +121,7 @@ element-write-walk : tie.Need-element-write-walk Inv-loop μ-loop
 element-write-walk c = search needs
 
 sub-walk : tie.Need-sub-walk Inv-loop μ-loop
-sub-walk c = skip-operand (turning (c .before .before)) (c .enum-told2 .given .1) .0
+sub-walk c = thin-skip-operand (turning (c .before .before)) (c .enum-told2 .given .1) .0
 
 mul-walk-2 : tie.Need-mul-walk-2 Inv-loop μ-loop
 mul-walk-2 c = search needs
@@ -131,17 +131,17 @@ element-write-walk-2 c = search needs
 
 loop-less-2 : tie.Need-loop-less-2 Inv-loop μ-loop
 unfolding passed
-loop-less-2 c = skipped-on (turning (c .before .before)) (c .enum-told2 .given .1) .1
+loop-less-2 c = thin-skipped-on (turning (c .before .before)) (c .enum-told2 .given .1) .1
 
 loop-again-2 : tie.Need-loop-again-2 Inv-loop μ-loop
 unfolding passed
-loop-again-2 c = skipped-on (turning (c .before .before)) (c .enum-told2 .given .1) .0
+loop-again-2 c = thin-skipped-on (turning (c .before .before)) (c .enum-told2 .given .1) .0
 
 enum-known-turn : tie.Need-enum-known-turn Inv-loop μ-loop
 enum-known-turn c = search needs
 
 add-walk-2 : tie.Need-add-walk-2 Inv-loop μ-loop
-add-walk-2 c = let h = enter-operand (turning (c .before .before .before)) (c .before .turn2 .given .0 .0) (c .before .turn2 .given .1) .1 in search needs
+add-walk-2 c = let h = thin-enter-operand (turning (c .before .before .before)) (c .before .turn2 .given .0 .0) (c .before .turn2 .given .1) .1 in search needs
 
 mul-walk-3 : tie.Need-mul-walk-3 Inv-loop μ-loop
 mul-walk-3 c = search needs
@@ -150,7 +150,7 @@ element-write-walk-3 : tie.Need-element-write-walk-3 Inv-loop μ-loop
 element-write-walk-3 c = search needs
 
 sub-walk-2 : tie.Need-sub-walk-2 Inv-loop μ-loop
-sub-walk-2 c = enter-operand (turning (c .before .before .before)) (c .before .turn2 .given .0 .0) (c .before .turn2 .given .1) .0
+sub-walk-2 c = thin-enter-operand (turning (c .before .before .before)) (c .before .turn2 .given .0 .0) (c .before .turn2 .given .1) .0
 
 mul-walk-4 : tie.Need-mul-walk-4 Inv-loop μ-loop
 mul-walk-4 c = search needs
@@ -210,7 +210,7 @@ array-write-last : tie.Need-array-write-last Inv-loop μ-loop
 array-write-last c =
     let at-turn2 = c .before .before .before in
     let earlier = at-turn2 .before .before in
-    enter-frame (turning (earlier)) (at-turn2 .turn2 .given .0 .0) (at-turn2 .turn2 .given .1)
+    thin-enter-frame (turning (earlier)) (at-turn2 .turn2 .given .0 .0) (at-turn2 .turn2 .given .1)
 
 mul-walk-5 : tie.Need-mul-walk-5 Inv-loop μ-loop
 mul-walk-5 c = search needs
@@ -219,7 +219,7 @@ element-write-walk-5 : tie.Need-element-write-walk-5 Inv-loop μ-loop
 element-write-walk-5 c =
     let at-turn2 = c .before .before .before in
     let earlier = at-turn2 .before .before in
-    enter-frame (turning (earlier)) (at-turn2 .turn2 .given .0 .0) (at-turn2 .turn2 .given .1)
+    thin-enter-frame (turning (earlier)) (at-turn2 .turn2 .given .0 .0) (at-turn2 .turn2 .given .1)
 
 cast-at16 : tie.Need-cast-at16 Inv-loop μ-loop
 cast-at16 c = search needs
@@ -234,7 +234,7 @@ element-write-walk-6 : tie.Need-element-write-walk-6 Inv-loop μ-loop
 element-write-walk-6 c =
     let at-turn2 = c .before .before .before .before in
     let earlier = at-turn2 .before .before in
-    enter-frame (turning (earlier)) (at-turn2 .turn2 .given .0 .0) (at-turn2 .turn2 .given .1)
+    thin-enter-frame (turning (earlier)) (at-turn2 .turn2 .given .0 .0) (at-turn2 .turn2 .given .1)
 
 cast-at16-2 : tie.Need-cast-at16-2 Inv-loop μ-loop
 cast-at16-2 c = search needs
@@ -249,7 +249,7 @@ element-write-walk-7 : tie.Need-element-write-walk-7 Inv-loop μ-loop
 element-write-walk-7 c =
     let at-turn2 = c .before .before .before .before .before in
     let earlier = at-turn2 .before .before in
-    enter-frame (turning (earlier)) (at-turn2 .turn2 .given .0 .0) (at-turn2 .turn2 .given .1)
+    thin-enter-frame (turning (earlier)) (at-turn2 .turn2 .given .0 .0) (at-turn2 .turn2 .given .1)
 
 add-walk-3 : tie.Need-add-walk-3 Inv-loop μ-loop
 add-walk-3 c = search needs
@@ -258,19 +258,19 @@ loop-less-4 : tie.Need-loop-less-4 Inv-loop μ-loop
 loop-less-4 c =
     let at-turn2 = c .before .before .before .before .before in
     let earlier = at-turn2 .before .before in
-    entered-on (turning (earlier)) (at-turn2 .turn2 .given .0 .0) (at-turn2 .turn2 .given .1) _ _ (c .before .at16 .ensures) (c .at162 .ensures) .1
+    thin-entered-on (turning (earlier)) (at-turn2 .turn2 .given .0 .0) (at-turn2 .turn2 .given .1) _ _ (c .before .at16 .ensures) (c .at162 .ensures) .1
 
 loop-again-4 : tie.Need-loop-again-4 Inv-loop μ-loop
 loop-again-4 c =
     let at-turn2 = c .before .before .before .before .before in
     let earlier = at-turn2 .before .before in
-    entered-on (turning (earlier)) (at-turn2 .turn2 .given .0 .0) (at-turn2 .turn2 .given .1) _ _ (c .before .at16 .ensures) (c .at162 .ensures) .0
+    thin-entered-on (turning (earlier)) (at-turn2 .turn2 .given .0 .0) (at-turn2 .turn2 .given .1) _ _ (c .before .at16 .ensures) (c .at162 .ensures) .0
 
 enum-known-turn-2 : tie.Need-enum-known-turn-2 Inv-loop μ-loop
 enum-known-turn-2 c = search needs
 
 add-walk-4 : tie.Need-add-walk-4 Inv-loop μ-loop
-add-walk-4 c = let h = found-operand (turning (c .before .before .before)) (c .before .turn3 .given .0 .0) (c .before .turn3 .given .1) .1 in search needs
+add-walk-4 c = let h = thin-found-operand (turning (c .before .before .before)) (c .before .turn3 .given .0 .0) (c .before .turn3 .given .1) .1 in search needs
 
 mul-walk-8 : tie.Need-mul-walk-8 Inv-loop μ-loop
 mul-walk-8 c = search needs
@@ -279,7 +279,7 @@ element-write-walk-8 : tie.Need-element-write-walk-8 Inv-loop μ-loop
 element-write-walk-8 c = search needs
 
 sub-walk-3 : tie.Need-sub-walk-3 Inv-loop μ-loop
-sub-walk-3 c = found-operand (turning (c .before .before .before)) (c .before .turn3 .given .0 .0) (c .before .turn3 .given .1) .0
+sub-walk-3 c = thin-found-operand (turning (c .before .before .before)) (c .before .turn3 .given .0 .0) (c .before .turn3 .given .1) .0
 
 mul-walk-9 : tie.Need-mul-walk-9 Inv-loop μ-loop
 mul-walk-9 c = search needs
@@ -297,7 +297,7 @@ cast-if2 : tie.Need-cast-if2 Inv-loop μ-loop
 cast-if2 c = search needs
 
 array-read-if2 : tie.Need-array-read-if2 Inv-loop μ-loop
-array-read-if2 c = found-within (turning (c .before .before .before .before)) (c .before .before .turn3 .given .0 .0) (c .before .before .turn3 .given .1)
+array-read-if2 c = thin-found-within (turning (c .before .before .before .before)) (c .before .before .turn3 .given .0 .0) (c .before .before .turn3 .given .1)
 
 cast-owed-3 : tie.Need-cast-owed-3 Inv-loop μ-loop
 cast-owed-3 c = search needs
@@ -306,7 +306,7 @@ array-write-owed-3 : tie.Need-array-write-owed-3 Inv-loop μ-loop
 array-write-owed-3 c =
     let at-turn3 = c .before .before .before in
     let earlier = at-turn3 .before .before in
-    found-within (turning (earlier)) (at-turn3 .turn3 .given .0 .0) (at-turn3 .turn3 .given .1)
+    thin-found-within (turning (earlier)) (at-turn3 .turn3 .given .0 .0) (at-turn3 .turn3 .given .1)
 
 loop-less-5 : tie.Need-loop-less-5 Inv-loop μ-loop
 unfolding passed
@@ -333,7 +333,7 @@ array-write-owed-4 : tie.Need-array-write-owed-4 Inv-loop μ-loop
 array-write-owed-4 c =
     let at-turn3 = c .before .before .before in
     let earlier = at-turn3 .before .before in
-    found-within (turning (earlier)) (at-turn3 .turn3 .given .0 .0) (at-turn3 .turn3 .given .1)
+    thin-found-within (turning (earlier)) (at-turn3 .turn3 .given .0 .0) (at-turn3 .turn3 .given .1)
 
 cast-seen-2 : tie.Need-cast-seen-2 Inv-loop μ-loop
 cast-seen-2 c = search needs
@@ -342,7 +342,7 @@ array-write-seen-2 : tie.Need-array-write-seen-2 Inv-loop μ-loop
 array-write-seen-2 c =
     let at-turn3 = c .before .before .before in
     let earlier = at-turn3 .before .before in
-    found-within (turning (earlier)) (at-turn3 .turn3 .given .0 .0) (at-turn3 .turn3 .given .1)
+    thin-found-within (turning (earlier)) (at-turn3 .turn3 .given .0 .0) (at-turn3 .turn3 .given .1)
 
 mul-handles : tie.Need-mul-handles Inv-loop μ-loop
 mul-handles c = search needs

@@ -1,7 +1,7 @@
 use mathlib.Core.Path.{sym, _∙_}
 use native.Mathlib.Omega.{arith}
 use denote.Ref.{now}
-use Rattle.apply_shared.proofs.Thinning.{alone}
+use Rattle.apply_shared.proofs.Thinning.{thinned-alone}
 use borrow.Author.Needs.{needs}
 use Rattle.apply_shared.proofs.thinned_conjuncts.Statement.{statement}
 use Rattle.apply_shared.proofs.thinned_conjuncts.Tie as tie
@@ -26,7 +26,7 @@ returns-2 c =
     let start = c .before .before .before .before in
     let args = start .args in (
       omega arith,
-      (λ q b bits. alone (now (args .kind)) (now (args .code)) (now (args .a)) b bits (now (args .start)) (now (args .items)) (args .e)
+      (λ q b bits. thinned-alone (now (args .kind)) (now (args .code)) (now (args .a)) b bits (now (args .start)) (now (args .items)) (args .e)
           (sym (c .before .is-and .ensures) ∙ c .if1 .left)),
     )
 

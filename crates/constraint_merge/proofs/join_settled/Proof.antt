@@ -3,7 +3,7 @@ use lib.ListN.{getD}
 use mir.Syntax.{w64}
 use mir.Val.{Fits}
 use borrow.Author.Needs.{needs}
-use Rattle.constraint_merge.proofs.Uniting.{goes-on, high-below, turned, unturned, chain-ended, settled-on}
+use Rattle.constraint_merge.proofs.Uniting.{members-go-on, high-below, turn-united, unturned, chain-ended, settled-on}
 use Rattle.constraint_merge.specs.Chained.{chained}
 use Rattle.constraint_set.specs.Settled.{Settled}
 use mathlib.Core.Logic.{⊎-elim}
@@ -31,7 +31,7 @@ small c =
     let at-loop = c .before .before .before in
     let start = at-loop .before .before .before in
     high-below (at-loop .loop .q) (at-loop .loop .inv .1) (start .args .r) (at-loop .loop .m) (start .pre .1)
-    (goes-on (at-loop .loop .left) (at-loop .loop .m) (c .before .before .loop-test .taken) .1) (c .root-pair .result) (c .root-pair .ensures)
+    (members-go-on (at-loop .loop .left) (at-loop .loop .m) (c .before .before .loop-test .taken) .1) (c .root-pair .result) (c .root-pair .ensures)
 
 -- the next member is a byte
 fits : (c : tie.Start Inv-loop μ-loop) (i : ℕ) → Fits w64 (getD (c .args .t5 .next) i 0)
@@ -53,7 +53,7 @@ loop-holds c = (refl, c .before .before .pre .0)
 root-pair-requires : tie.Need-root-pair-requires Inv-loop μ-loop
 root-pair-requires c κs =
     let start = c .before .before .before .before .before in
-    (start .pre .1, goes-on (c .before .before .loop .left) (c .before .before .loop .m) (c .before .loop-test .taken) .1)
+    (start .pre .1, members-go-on (c .before .before .loop .left) (c .before .before .loop .m) (c .before .loop-test .taken) .1)
 
 -- src/lib.rt:95:22
 element-copy-out-n1 : tie.Need-element-copy-out-n1 Inv-loop μ-loop
@@ -159,7 +159,7 @@ element-copy-out-m : tie.Need-element-copy-out-m Inv-loop μ-loop
 element-copy-out-m c =
     let at-loop-test = c .before .before .before in
     let at-loop = at-loop-test .before in
-    goes-on (at-loop .loop .left) (at-loop .loop .m) (at-loop-test .loop-test .taken) .1
+    members-go-on (at-loop .loop .left) (at-loop .loop .m) (at-loop-test .loop-test .taken) .1
 
 -- src/lib.rt:114:13
 cast-m : tie.Need-cast-m Inv-loop μ-loop
@@ -170,14 +170,14 @@ sub-left : tie.Need-sub-left Inv-loop μ-loop
 sub-left c =
     let at-loop-test = c .before .before .before .before in
     let at-loop = at-loop-test .before in
-    omega (arith, goes-on (at-loop .loop .left) (at-loop .loop .m) (at-loop-test .loop-test .taken) .0)
+    omega (arith, members-go-on (at-loop .loop .left) (at-loop .loop .m) (at-loop-test .loop-test .taken) .0)
 
 -- src/lib.rt:88:5
 loop-less : tie.Need-loop-less Inv-loop μ-loop
 loop-less c =
     let at-loop-test = c .before .before .before .before in
     let at-loop = at-loop-test .before in
-    omega (arith, goes-on (at-loop .loop .left) (at-loop .loop .m) (at-loop-test .loop-test .taken) .0)
+    omega (arith, members-go-on (at-loop .loop .left) (at-loop .loop .m) (at-loop-test .loop-test .taken) .0)
 
 -- src/lib.rt:88:5
 loop-again : tie.Need-loop-again Inv-loop μ-loop
@@ -190,10 +190,10 @@ loop-again c =
     let start = at-empty .before in
     let args = start .args in
     let g = at-loop .loop .inv in
-    let on = goes-on (at-loop .loop .left) (at-loop .loop .m) (at-loop-test .loop-test .taken) in
+    let on = members-go-on (at-loop .loop .left) (at-loop .loop .m) (at-loop-test .loop-test .taken) in
     let q = at-loop .loop .q in
     let next = settled-on (args .t5) (args .r) (at-loop .loop .left) (at-loop .loop .m) q (c .before .if1 .q) _ (g .1) (start .pre .1) on in
-    ⊎-elim (λ w. next (w .12 ∙ turned q (g .1) (args .r) (at-loop .loop .m) (start .pre .1) (on .1) (at-root-pair .root-pair .result)
+    ⊎-elim (λ w. next (w .12 ∙ turn-united q (g .1) (args .r) (at-loop .loop .m) (start .pre .1) (on .1) (at-root-pair .root-pair .result)
     (at-root-pair .root-pair .ensures) (w .8 .result) (at-empty .empty .result) (at-empty2 .empty2 .result) (w .0 .taken) (w .8 .ensures)
     (at-empty .empty .ensures) (at-empty2 .empty2 .ensures)) (g .0))
     (λ w. next (w .1 ∙ unturned q (g .1) (args .r) (at-loop .loop .m) (start .pre .1) (on .1) (at-root-pair .root-pair .result)

@@ -1,10 +1,10 @@
 use Rattle.constraint_merge.proofs.Merging.{chained-past, joinChain, classes-joined}
-use Rattle.constraint_set.proofs.Loops.{steps-next}
 use Rattle.constraint_merge.proofs.Uniting.{not-yet}
 use Rattle.constraint_merge.specs.Chained.{chained}
 use Rattle.constraint_merge.specs.Joins.{SettledIf}
 use Rattle.constraint_merge.specs.declared.Joining.{Joining}
 use Rattle.constraint_spec.specs.Sets.{stepsTo, mergeClasses}
+use Rattle.constraint_spec.proofs.Steps.{steps-next}
 use Rattle.value_classes.specs.declared.Members.{Members}
 use Prim.Native.Nat.{ℕ}
 use mathlib.Core.Logic.{⊎-elim}

@@ -1,7 +1,7 @@
 use borrow.Author.Needs.{needs}
-use Rattle.constraint_set.proofs.Loops.{steps-next}
-use Rattle.constraint_merge.proofs.Merging.{null-laid, null-left}
+use Rattle.constraint_merge.proofs.Merging.{null-laid, null-unmerged}
 use Rattle.constraint_spec.specs.Sets.{stepsTo, mergeNonNull, mergeNonNulls}
+use Rattle.constraint_spec.proofs.Steps.{steps-next}
 use mathlib.Core.Logic.{⊎-elim}
 use native.Mathlib.Omega.{arith}
 use Prim.Native.Nat.{_≤_, _-_}
@@ -45,7 +45,7 @@ loop-again c =
     (λ w. (
       omega arith,
       rw (w .1) (steps-next (mergeNonNull (args .t2)) _ (at-loop .loop .i) (at-loop .loop .q) _ (v .1)
-          (null-left (at-loop .loop .i) (at-loop .loop .q) (args .t2) (w .0 .left))),
+          (null-unmerged (at-loop .loop .i) (at-loop .loop .q) (args .t2) (w .0 .left))),
     )) (c .if1 .came)
 
 returns : tie.Need-returns Inv-loop μ-loop

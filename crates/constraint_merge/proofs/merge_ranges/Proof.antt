@@ -1,7 +1,7 @@
 use borrow.Author.Needs.{needs}
-use Rattle.constraint_set.proofs.Loops.{steps-next}
 use Rattle.constraint_merge.proofs.Merging.{range-laid, range-left}
 use Rattle.constraint_spec.specs.Sets.{stepsTo, mergeRange, mergeRanges}
+use Rattle.constraint_spec.proofs.Steps.{steps-next}
 use Rattle.value_classes.specs.declared.ValueEquivalenceClasses.{ValueEquivalenceClasses}
 use Rattle.value_classes.specs.Classes.{Whole, canonicalOf}
 use Rattle.value_classes.proofs.ClassLaws.{canonical-small}

@@ -1,5 +1,5 @@
-use Rattle.constraint_merge.proofs.Uniting.{left-lower, right-lower}
 use Rattle.value_classes.proofs.ClassLaws.{canonical-small}
+use Rattle.constraint_merge.proofs.Uniting.{pair-left, pair-right}
 use borrow.Author.Needs.{needs}
 use Rattle.constraint_merge.proofs.root_pair.Statement.{statement}
 use Rattle.constraint_merge.proofs.root_pair.Tie as tie
@@ -26,7 +26,7 @@ returns c =
     let at-canonical = at-canonical2 .before in
     let args = at-canonical .before .args in
     let right = at-canonical2 .canonical2 in
-    left-lower (args .classes) (args .left) (args .right) (at-canonical .canonical .result) (right .result) (at-canonical .canonical .ensures)
+    pair-left (args .classes) (args .left) (args .right) (at-canonical .canonical .result) (right .result) (at-canonical .canonical .ensures)
     (right .ensures) (c .join-roots .result)
     (canonical-small (args .classes) (args .right) (right .result) (search needs) (right .ensures) (at-canonical .before .pre .1))
     (c .join-roots .ensures) (c .before .if1 .taken)
@@ -41,7 +41,7 @@ returns-2 c =
     let at-canonical = at-canonical2 .before in
     let args = at-canonical .before .args in
     let left = at-canonical .canonical in
-    right-lower (args .classes) (args .left) (args .right) (left .result) (at-canonical2 .canonical2 .result) (left .ensures)
+    pair-right (args .classes) (args .left) (args .right) (left .result) (at-canonical2 .canonical2 .result) (left .ensures)
     (at-canonical2 .canonical2 .ensures) (c .join-roots2 .result)
     (canonical-small (args .classes) (args .left) (left .result) (search needs) (left .ensures) (at-canonical .before .pre .0))
     (c .join-roots2 .ensures) (c .before .if1 .left)

@@ -1,8 +1,9 @@
 use borrow.Author.Needs.{needs}
 use Rattle.constraint_set.specs.Checked.{Checked}
 use Rattle.constraint_set.proofs.Checking.{unchecked, added-checked}
-use Rattle.constraint_set.proofs.Loops.{steps-next, literal-laid, literal-left}
+use Rattle.constraint_set.proofs.Loops.{literal-laid, literal-left}
 use Rattle.constraint_spec.specs.Sets.{stepsTo, mergeLiteral, mergeLiterals}
+use Rattle.constraint_spec.proofs.Steps.{steps-next}
 use mathlib.Core.Logic.{⊎-elim}
 use mathlib.Core.Bool.{true}
 use native.Mathlib.Omega.{arith}

@@ -3,8 +3,9 @@ use Prim.Native.Nat.{_-_, _≤_}
 use mathlib.Core.Path.{_≡_, refl, sym, ap, _∙_}
 use native.Mathlib.Omega.{arith}
 use Rattle.constraint_spec.specs.Sets.{stepsTo}
+use Rattle.constraint_spec.proofs.Steps.{steps-next}
 use Rattle.derive_spec.specs.Columns.{keyStep, noColumns, keysOf}
-use Rattle.derive_columns.proofs.ColumnStores.{steps-none, steps-next, steps-all}
+use Rattle.derive_columns.proofs.ColumnStores.{steps-none, steps-all}
 use Rattle.plan_data.specs.Nodes.{nodeOf}
 use Rattle.derive_columns.proofs.key_columns.Statement.{statement}
 use Rattle.derive_columns.proofs.key_columns.Tie as tie

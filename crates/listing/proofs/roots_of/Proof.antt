@@ -1,4 +1,4 @@
-use Rattle.value_classes.proofs.RootLaws.{root-below, each-more, each-done}
+use Rattle.value_classes.proofs.RootLaws.{root-below, take-each-more, take-each-done}
 use Rattle.value_classes.specs.Classes.{canonicalOf}
 use Rattle.value_classes.specs.Parents.{each}
 use lib.ListN.{length, take, length-set}
@@ -39,12 +39,12 @@ loop-again c =
     let v = c .before .before .loop .inv in (
       omega arith,
       simp length-set (v .1),
-      each-more (canonicalOf (start .args .classes)) _ _ _ (omega arith)
+      take-each-more (canonicalOf (start .args .classes)) _ _ _ (omega arith)
           (c .canonical .ensures) (v .2),
     )
 
 returns : tie.Need-returns Inv-loop μ-loop
-returns c = each-done (canonicalOf (c .before .before .args .classes)) 128 _ _ (c .before .loop .inv .1) (omega arith) (c .before .loop .inv .2)
+returns c = take-each-done (canonicalOf (c .before .before .args .classes)) 128 _ _ (c .before .loop .inv .1) (omega arith) (c .before .loop .inv .2)
 
 pub roots-of-spec : {M : Type 1} → statement M
 roots-of-spec =

@@ -1,4 +1,4 @@
-use Rattle.plan_file.proofs.RecordTests.{some-more}
+use Rattle.plan_file.proofs.RecordTests.{wanted-more}
 use Rattle.plan_file.specs.Steps.{lessOne}
 use borrow.Author.Tests.{le-ltb, lt-ltb}
 use borrow.Author.Needs.{needs}
@@ -13,7 +13,7 @@ unfolding lessOne
 returns c = rw (lt-ltb _ _ (c .before .if1 .taken))
 
 sub-v-2 : tie.Need-sub-v-2
-sub-v-2 c = some-more _ (c .before .if1 .left) (c .before .before .before .pre)
+sub-v-2 c = wanted-more _ (c .before .if1 .left) (c .before .before .before .pre)
 
 returns-2 : tie.Need-returns-2
 unfolding lessOne

@@ -7,7 +7,7 @@ use Rattle.plan_data.specs.Nodes.{nodeOf}
 use Rattle.rows_spec.specs.Compare.{compareOf, ofTruth}
 use Rattle.rows_spec.specs.Cells.{cellOf}
 use Rattle.rows_spec.specs.Values.{unaryOf, valueIn, values}
-use Rattle.rows_spec.proofs.ValueLaws.{value-past, node-way, Joined, joined-first, joined-done, joined-past, joined-more}
+use Rattle.rows_spec.proofs.ValueLaws.{value-past, node-value-way, Joined, joined-first, joined-done, joined-past, joined-more}
 use Prim.Native.Nat.{ℕ, _<_}
 use borrow.Fn.Kinds.{In}
 use borrow.Fn.PlainCycle.{Measures, is, falls, and}
@@ -156,7 +156,7 @@ value-of-returns-2 t c =
     let at-if1 = at-node-at .before in
     let start = at-if1 .before .before .before .before .before .before .before .before .before .before .before in
     let a = start .args in
-    node-way (cellOf (now (a .rk)) (now (a .rc)) (now (a .rb)))
+    node-value-way (cellOf (now (a .rk)) (now (a .rc)) (now (a .rb)))
     (nodeOf (now (a .kind)) (now (a .code)) (now (a .a)) (now (a .b)) (now (a .bits)) (now (a .start))) (now (a .items)) (a .below) (a .h)
     (at-if1 .if1 .left) _ _ _ (at-node-at .node-at .ensures) (c .before .node .given .1) refl
 
@@ -167,7 +167,7 @@ value-of-returns-3 t c =
     let at-if1 = at-node-at .before in
     let start = at-if1 .before .before .before .before .before .before .before .before .before .before .before in
     let a = start .args in
-    node-way (cellOf (now (a .rk)) (now (a .rc)) (now (a .rb)))
+    node-value-way (cellOf (now (a .rk)) (now (a .rc)) (now (a .rb)))
     (nodeOf (now (a .kind)) (now (a .code)) (now (a .a)) (now (a .b)) (now (a .bits)) (now (a .start))) (now (a .items)) (a .below) (a .h)
     (at-if1 .if1 .left) _ _ _ (at-node-at .node-at .ensures) (at-node2 .node2 .given .1) (c .cell-at .ensures)
 
@@ -178,7 +178,7 @@ value-of-returns-4 t c =
     let at-if1 = at-node-at .before in
     let start = at-if1 .before .before .before .before .before .before .before .before .before .before .before in
     let a = start .args in
-    node-way (cellOf (now (a .rk)) (now (a .rc)) (now (a .rb)))
+    node-value-way (cellOf (now (a .rk)) (now (a .rc)) (now (a .rb)))
     (nodeOf (now (a .kind)) (now (a .code)) (now (a .a)) (now (a .b)) (now (a .bits)) (now (a .start))) (now (a .items)) (a .below) (a .h)
     (at-if1 .if1 .left) _ _ _ (at-node-at .node-at .ensures) (at-node3 .node3 .given .1)
     (c .unary .ensures ∙ ap (unaryOf (at-node3 .node3 .given .0 .0)) (c .before .value-of .ensures))
@@ -191,7 +191,7 @@ value-of-returns-5 t c =
     let at-if1 = at-node-at .before in
     let start = at-if1 .before .before .before .before .before .before .before .before .before .before .before in
     let a = start .args in
-    node-way (cellOf (now (a .rk)) (now (a .rc)) (now (a .rb)))
+    node-value-way (cellOf (now (a .rk)) (now (a .rc)) (now (a .rb)))
     (nodeOf (now (a .kind)) (now (a .code)) (now (a .a)) (now (a .b)) (now (a .bits)) (now (a .start))) (now (a .items)) (a .below) (a .h)
     (at-if1 .if1 .left) _ _ _ (at-node-at .node-at .ensures) (at-node4 .node4 .given .1)
     (c .of-truth .ensures ∙ ap ofTruth (c .before .compare .ensures ∙ ap₂ (compareOf (at-node4 .node4 .given .0 .0)) (at-value-of2 .value-of2 .ensures)
@@ -204,7 +204,7 @@ value-of-returns-6 t c =
     let at-if1 = at-node-at .before in
     let start = at-if1 .before .before .before .before .before .before .before .before .before .before .before in
     let a = start .args in
-    node-way (cellOf (now (a .rk)) (now (a .rc)) (now (a .rb)))
+    node-value-way (cellOf (now (a .rk)) (now (a .rc)) (now (a .rb)))
     (nodeOf (now (a .kind)) (now (a .code)) (now (a .a)) (now (a .b)) (now (a .bits)) (now (a .start))) (now (a .items)) (a .below) (a .h)
     (at-if1 .if1 .left) _ _ _ (at-node-at .node-at .ensures) (at-node5 .node5 .given .1)
     (c .of-truth2 .ensures ∙ ap ofTruth (c .before .value-of-run .ensures))

@@ -5,7 +5,7 @@ use native.Mathlib.Omega.{arith}
 use lib.ListN.{length, take, length-set}
 use Rattle.value_classes.specs.Parents.{each}
 use Rattle.value_classes.specs.Classes.{emptyClasses}
-use Rattle.value_classes.proofs.RootLaws.{own, each-more, each-done}
+use Rattle.value_classes.proofs.RootLaws.{own, take-each-more, take-each-done}
 use Rattle.value_classes.proofs.ValueEquivalenceClasses.empty.Statement.{statement}
 use Rattle.value_classes.proofs.ValueEquivalenceClasses.empty.Tie as tie
 
@@ -33,11 +33,11 @@ loop-less c = search needs
 loop-again : tie.Need-loop-again Inv-loop μ-loop
 loop-again c =
     let v = c .before .loop .inv in
-    (omega arith, simp length-set (v .1), each-more own _ _ _ (omega arith) refl (v .2))
+    (omega arith, simp length-set (v .1), take-each-more own _ _ _ (omega arith) refl (v .2))
 
 returns : tie.Need-returns Inv-loop μ-loop
 unfolding emptyClasses
-returns c = let e = each-done own 128 _ _ (c .before .loop .inv .1) (omega arith) (c .before .loop .inv .2) in λ i. record { parents = e i }
+returns c = let e = take-each-done own 128 _ _ (c .before .loop .inv .1) (omega arith) (c .before .loop .inv .2) in λ i. record { parents = e i }
 
 pub empty-spec : {M : Type 1} → statement M
 empty-spec =

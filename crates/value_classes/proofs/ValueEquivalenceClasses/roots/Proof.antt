@@ -3,13 +3,13 @@ use Prim.Native.Nat.{_≤_, _<_, _+_, _-_}
 use mathlib.Core.Path.{_≡_, refl, sym, ap, _∙_}
 use mathlib.Core.Logic.{⊎-elim}
 use borrow.Author.Tests.{ltb-true}
-use Rattle.lists.proofs.RangeLaws.{and-left, and-right}
+use Rattle.laws.proofs.Bools.{and-left, and-right}
 use Rattle.value_classes.proofs.MemberLaws.{root-known, parent-low}
 use native.Mathlib.Omega.{arith}
 use lib.ListN.{length, take, length-set}
 use Rattle.value_classes.specs.Parents.{rootOf, each}
 use Rattle.value_classes.specs.Listed.{rootsOf}
-use Rattle.value_classes.proofs.RootLaws.{root-below, each-more, each-done}
+use Rattle.value_classes.proofs.RootLaws.{root-below, take-each-more, take-each-done}
 use Rattle.value_classes.proofs.ValueEquivalenceClasses.roots.Statement.{statement}
 use Rattle.value_classes.proofs.ValueEquivalenceClasses.roots.Tie as tie
 use Rattle.value_classes.proofs.ValueEquivalenceClasses.roots.Reads as reads
@@ -80,11 +80,11 @@ loop-again c =
     ⊎-elim (λ w. let t = w .0 .taken in let e = w .1 in let x = root-known p l 128 i _ (search needs)
     (sym (at-parents-ok .parents-ok .ensures) ∙ and-left (at-parents-ok .parents-ok .result) _ t) refl
     (ltb-true _ _ (and-right (at-parents-ok .parents-ok .result) _ t)) (omega arith) (v .2)
-    in (omega arith, ap length e ∙ length-set l i _ ∙ v .1, ap (take (i + 1)) e ∙ each-more (rootOf p) l i _ (omega arith) x (v .2)))
+    in (omega arith, ap length e ∙ length-set l i _ ∙ v .1, ap (take (i + 1)) e ∙ take-each-more (rootOf p) l i _ (omega arith) x (v .2)))
     (λ w. let e = w .2 in (
       omega arith,
       ap length e ∙ length-set l i _ ∙ v .1,
-      ap (take (i + 1)) e ∙ each-more (rootOf p) l i _ (omega arith)
+      ap (take (i + 1)) e ∙ take-each-more (rootOf p) l i _ (omega arith)
           (w .1 .ensures) (v .2),
     )) (c .if1 .came)
 
@@ -93,7 +93,8 @@ returns : tie.Need-returns Inv-loop μ-loop
 unfolding rootsOf
 returns c =
     let start = c .before .before .before in
-    let e = each-done (rootOf (start .args .t1 .parents)) 128 _ _ (c .before .loop .inv .1) (omega arith) (c .before .loop .inv .2) in λ i. record { of = e i }
+    let e = take-each-done (rootOf (start .args .t1 .parents)) 128 _ _ (c .before .loop .inv .1) (omega arith) (c .before .loop .inv .2) in
+    λ i. record { of = e i }
 
 pub roots-spec : {M : Type 1} → statement M
 roots-spec =

@@ -1,20 +1,30 @@
--- A table that grows by one entry at a time: what is read of it, and induction over what stands before. Assumes nothing.
-use mathlib.Core.Path.{_≡_, sym, ap, _∙_, subst}
-use mathlib.Core.List.{List, [], _∷_, _++_}
+-- Laws of lists that several crates need. Assumes nothing.
 use Prim.Native.Nat.{ℕ, zero, suc, _+_, _<_, _≤_}
+use mathlib.Core.Path.{_≡_, refl, sym, ap, ap₂, _∙_, subst}
+use mathlib.Core.List.{List, [], _∷_, _++_}
 use native.Mathlib.Decide.{decLt}
 use native.Mathlib.Omega.{arith}
-use lib.ListN.{getD, length, length-append, List·getD-append, List·getD-eq-default}
-use lib.Seq.{getD-at}
+use lib.ListN.{getD, length, take, drop, replicate, length-append, List·getD-append, List·getD-eq-default}
+use lib.Seq.{getD-at, drop-cons}
 
--- what holds of a number where it holds of all before it holds of every number. Assumes nothing
-pub before-all : (P : ℕ → Type 0) → ((h : ℕ) → ((e : ℕ) → e < h → P e) → P h) → (h : ℕ) → P h
-before-all P step h = step h (go h)
-  where
-    go : (n e : ℕ) → e < n → P e
-    go zero e l = absurd (omega arith)
-    go (suc n) e l = step e (λ x k. go n x (omega arith))
+-- a list of one value has it at each place, and past its end where it is the default
+pub getD-replicate-self : {A : Type 0} (n i : ℕ) (x : A) → getD (replicate n x) i x ≡ x
+getD-replicate-self zero i x = refl
+getD-replicate-self (suc n) zero x = refl
+getD-replicate-self (suc n) (suc i) x = getD-replicate-self n i x
 
+-- a part of two lists whose entries there are the same
+pub take-drop-same : (l m : List ℕ) (n s : ℕ) → s + n ≤ length l → s + n ≤ length m → ((j : ℕ) → s ≤ j → j < s + n → getD m j 0 ≡ getD l j 0)
+    → take n (drop s m) ≡ take n (drop s l)
+take-drop-same l m zero s a b h = refl
+take-drop-same l m (suc n) s a b h =
+    let p : s < length l = omega arith in
+    let q : s < length m = omega arith in
+    rw (drop-cons l s 0 p, drop-cons m s 0 q)
+    (ap₂ (λ (x : ℕ) (xs : List ℕ). x ∷ xs) (h s (omega arith) (omega arith))
+    (take-drop-same l m n (suc s) (omega arith) (omega arith) (λ j lo hi. h j (omega arith) (omega arith))))
+
+-- ---- a table that grows by one entry at a time
 module _ {A : Type 0} (d : A) (tbl : ℕ → List A) (next : ℕ → A) (start : tbl 0 ≡ []) (more : (n : ℕ) → tbl (suc n) ≡ tbl n ++ (next n ∷ [])) where
   -- n entries. Assumes nothing
   pub table-long : (n : ℕ) → length (tbl n) ≡ n
