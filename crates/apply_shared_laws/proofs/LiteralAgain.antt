@@ -14,7 +14,8 @@ use Rattle.scalar.specs.Scalars.{sameScalar, holdsNan}
 use Rattle.scalar.specs.declared.ScalarValue.{ScalarValue}
 use Rattle.scalar.proofs.ScalarLaws.{same-left}
 use Rattle.value_classes.proofs.ClassLaws.{canonical-small}
-use Rattle.constraint_spec.specs.Sets.{none, held, classesOf, nonNulls, literals, handles, literalAt, withValues, withLiterals, withFlag, withResiduals, hasHandle}
+use Rattle.constraint_spec.specs.Sets.{none, held, classesOf, nonNulls, literals, handles, literalAt, withValues, withLiterals, withFlag}
+use Rattle.constraint_spec.specs.Sets.{withResiduals, hasHandle}
 use Rattle.constraint_spec.specs.Sets.{canonicalAt, clashes, pushResidual, addLiteral, addResidual, appliedOf, done, refusedWith}
 use Rattle.constraint_spec.specs.declared.Holder.{Holder}
 use Rattle.constraint_spec.specs.declared.ConstraintSet.{ConstraintSet}

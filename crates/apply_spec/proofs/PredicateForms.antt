@@ -1,4 +1,4 @@
--- What 01 says of each form of predicate, on every set and every handle. Assumes nothing.
+-- What the rules say of each form of predicate, on every set and every handle. Assumes nothing.
 use Prim.Native.Nat.{ℕ}
 use mathlib.Core.Path.{_≡_, refl}
 use mathlib.Core.Bool.{true, false, cond}

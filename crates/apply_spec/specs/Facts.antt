@@ -12,7 +12,7 @@ use Rattle.apply_spec.specs.declared.LogicalFacts.{LogicalFacts}
 use Rattle.apply_spec.specs.declared.Outcome.{Outcome}
 use Rattle.apply_spec.specs.declared.Outcome.the-variants.{Accepted, Residuals, NoSuch}
 
--- 01's number of the refusal, 0 for none
+-- the number of the refusal in the rules (docs/FORMAT.md), 0 for none
 abbrev pub refusalOf : Outcome → ℕ
 refusalOf Accepted = 0
 refusalOf Residuals = 7

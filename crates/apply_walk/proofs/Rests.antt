@@ -13,7 +13,7 @@ use native.Mathlib.Nat.{ne-of-lt}
 use Rattle.lists.proofs.RangeLaws.{below-or-not}
 use Rattle.plan_data.specs.declared.ExprData.{ExprData}
 use Rattle.apply_spec.specs.Conjuncts.{joinedOf, conjunctsTo}
-use Rattle.rows.specs.InOrder.{inOrder}
+use Rattle.rows_spec.specs.InOrder.{inOrder}
 use Rattle.apply_walk.specs.declared.Walk.{Walk}
 use Rattle.apply_walk.specs.Walks.{isAnd, ownerAt, placeAt, leftAt, pushed, popped, passed}
 

@@ -14,7 +14,7 @@ use Rattle.plan_data.specs.Nodes.{nodeOf}
 use Rattle.plan_data.specs.declared.ExprData.{ExprData}
 use Rattle.apply_spec.specs.Conjuncts.{joinedOf, conjunctsTo, conjunctsOf}
 use Rattle.apply_spec.proofs.Readings.{conjuncts-past, conjuncts-at}
-use Rattle.rows.proofs.InOrderLaws.{in-order-at}
+use Rattle.rows_spec.proofs.InOrderLaws.{in-order-at}
 use Rattle.apply_walk.specs.declared.Walk.{Walk}
 use Rattle.apply_walk.specs.Walks.{isAnd, emptyWalk, ownerAt, placeAt, leftAt, popped, passed, entered}
 use Rattle.apply_walk.proofs.Entries.{and-entry, other-entry}

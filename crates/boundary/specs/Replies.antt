@@ -1,4 +1,5 @@
--- The replies of the boundary, as bytes: 01's number of the refusal, 0 for none; a number of eight bytes, high byte first; and what is handed
+-- The replies of the boundary, as bytes: the number of the refusal in the rules (docs/FORMAT.md), 0 for none; a number of eight bytes, high byte
+-- first; and what is handed
 -- back. Assumes nothing.
 use Prim.Native.Nat.{ℕ, zero, suc}
 use mathlib.Core.Bool.{cond}

@@ -43,7 +43,10 @@ cases-hold = (
               (refl, refl),
               (
                 (refl, refl),
-                ((refl, refl), ((refl, (refl, refl)), ((refl, (refl, refl)), ((refl, (refl, refl)), ((refl, (refl, refl)), (refl, (refl, (refl, (refl, tt))))))))),
+                (
+                  (refl, refl),
+                  ((refl, (refl, refl)), ((refl, (refl, refl)), ((refl, (refl, refl)), ((refl, (refl, refl)), (refl, (refl, (refl, (refl, tt)))))))),
+                ),
               ),
             ),
           ),

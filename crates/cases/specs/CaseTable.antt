@@ -1,4 +1,5 @@
--- 01's proved cases as one table: predicates applied one after the other to fresh facts, with all that is then known (1 to 10), and expressions
+-- The eleven cases of docs/PROMISES.md as one table: predicates applied one after the other to fresh facts, with all that is then known (1 to 10),
+-- and expressions
 -- with what they are simplified to (11). Assumes nothing.
 use mathlib.Core.Path.{_≡_}
 use mathlib.Core.Bool.{Bool, true, false}

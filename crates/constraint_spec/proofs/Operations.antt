@@ -62,7 +62,8 @@ module _ (v : ℕ → ScalarValue) (tv : (i : ℕ) → Typed (v i)) where
     pub joined-together : Together v new ↔ (Together v k × Like v i j)
     joined-together = (
       λ w. (
-        λ a h. together-pair new w a (canonicalOf k a) h (omega (arith, canonical-le k f a)) (met a (canonicalOf k a) .1 (inl (sym (canonical-idempotent k f a)))),
+        λ a h. together-pair new w a (canonicalOf k a) h (omega (arith, canonical-le k f a))
+            (met a (canonicalOf k a) .1 (inl (sym (canonical-idempotent k f a)))),
         together-pair new w i j hi hj (met i j .1 (inr (inl (refl, refl)))),
       ),
       λ w a h.

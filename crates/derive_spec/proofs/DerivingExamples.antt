@@ -1,4 +1,4 @@
--- Cases of 01 on real plans, by computing: the worked input, cases 1, 2 and 9, what Map, Rename, Aggregation and the joins leave, and who refuses.
+-- Cases of the rules on real plans, by computing: the worked input, cases 1, 2 and 9, what Map, Rename, Aggregation and the joins leave, and who refuses.
 -- Assumes nothing.
 use Prim.Native.Nat.{ℕ, _-_}
 use mathlib.Core.Path.{_≡_, refl}
@@ -88,7 +88,7 @@ alone = emptyClasses
 abbrev below : ℕ → Entry
 below n = entryOf (record { lower = noBound; upper = boundAt (ofInt binary64 (pos n)) false })
 
--- ---- 01's worked input: x = y And y < 7 over a Scan of x and y, expressions 2 and 4, the And 5
+-- ---- the rules' worked input: x = y And y < 7 over a Scan of x and y, expressions 2 and 4, the And 5
 abbrev worked : Plan
 worked =
     planOf (2 ∷ 2 ∷ [])

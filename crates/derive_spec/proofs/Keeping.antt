@@ -1,4 +1,4 @@
--- What 01 says of each kind of operator, for all facts. Assumes nothing.
+-- What the rules say of each kind of operator, for all facts. Assumes nothing.
 use Prim.Native.Nat.{ℕ, zero, suc, _<_}
 use mathlib.Core.Path.{_≡_, refl, sym, ap, _∙_}
 use mathlib.Core.Bool.{Bool, true, false, cond}

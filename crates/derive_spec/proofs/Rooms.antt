@@ -8,7 +8,8 @@ use native.Mathlib.Omega.{arith}
 use lib.Dec.{T, ltb}
 use lib.ListN.{getD, set, length, length-set}
 use borrow.Author.Tests.{ltb-true}
-use Rattle.constraint_spec.specs.Sets.{handles, withResiduals, emptySet, stepsTo, hasHandle, roomFor, pushResidual, done, normalized, mergeResidual, mergeResiduals}
+use Rattle.constraint_spec.specs.Sets.{handles, withResiduals, emptySet, stepsTo, hasHandle, roomFor, pushResidual, done, normalized, mergeResidual}
+use Rattle.constraint_spec.specs.Sets.{mergeResiduals}
 use Rattle.constraint_spec.specs.Sets.{mergeValues, mergedSet, roomTo, mergeRoom, mergeFrom}
 use Rattle.constraint_spec.specs.Room.{listed, pushed, pushTo, jointList}
 use Rattle.constraint_spec.specs.declared.ConstraintSet.{ConstraintSet}

@@ -28,7 +28,7 @@ use Rattle.derive_spec.specs.declared.DeriveOutcome.the-variants.{Accept
 use Rattle.derive_spec.specs.declared.DeriveAnswer.{DeriveAnswer}
 
 -- ---- answers
--- 01's number of the refusal, 0 for none
+-- the number of the refusal in the rules (docs/FORMAT.md), 0 for none
 abbrev pub refusalOf : DeriveOutcome → ℕ
 refusalOf Accepted = 0
 refusalOf (UnsupportedKey o) = 6

@@ -12,7 +12,7 @@ use Rattle.plan_data.specs.declared.JoinType.{JoinType}
 use Rattle.plan.specs.declared.Operator.{Operator}
 use Rattle.simplify_spec.specs.OneOperator.{heldOf, rebuiltOf}
 use Rattle.simplify_spec.specs.declared.Held.the-variants.{Nothing, One, Seconds, Firsts}
-use Rattle.simplify_spec.proofs.HeldLaws.{choose}
+use Rattle.laws.proofs.Bools.{cond-elim}
 
 -- ---- what an operator holds
 module _ (x : Record) (start : ℕ) where
@@ -46,20 +46,20 @@ module _ (x : Record) (start : ℕ) where
   held-nothing n1 n2 n3 n4 n5 n6 =
       let k = x .kind in
       let P : OperatorData → Type 0 = λ d. Nothing ≡ heldOf d in
-      choose P (eqb k 0x30) _ _ (λ t. refl)
-      (λ t. choose P (eqb k 0x31) _ _ (λ t. refl)
-      (λ t. choose P (eqb k 0x32) _ _ (λ t. refl)
-      (λ t. choose P (eqb k 0x33) _ _ (λ t. absurd (n1 (eqb-true k 0x33 t)))
-      (λ t. choose P (eqb k 0x34) _ _ (λ t. refl)
-      (λ t. choose P (eqb k 0x35) _ _ (λ t. refl)
-      (λ t. choose P (eqb k 0x36) _ _ (λ t. absurd (n4 (eqb-true k 0x36 t)))
-      (λ t. choose P (eqb k 0x37) _ _ (λ t. absurd (n5 (eqb-true k 0x37 t)))
-      (λ t. choose P (eqb k 0x38) _ _ (λ t. absurd (n6 (eqb-true k 0x38 t)))
-      (λ t. choose P (eqb k 0x39) _ _ (λ t. refl)
-      (λ t. choose P (eqb k 0x3A) _ _ (λ t. refl)
-      (λ t. choose P (eqb k 0x3B) _ _ (λ t. refl)
-      (λ t. choose P (eqb k 0x3C) _ _ (λ t. absurd (n2 (eqb-true k 0x3C t)))
-      (λ t. choose P (eqb k 0x3D) _ _ (λ t. absurd (n3 (eqb-true k 0x3D t))) (λ t. refl))))))))))))))
+      cond-elim P (eqb k 0x30) _ _ (λ t. refl)
+      (λ t. cond-elim P (eqb k 0x31) _ _ (λ t. refl)
+      (λ t. cond-elim P (eqb k 0x32) _ _ (λ t. refl)
+      (λ t. cond-elim P (eqb k 0x33) _ _ (λ t. absurd (n1 (eqb-true k 0x33 t)))
+      (λ t. cond-elim P (eqb k 0x34) _ _ (λ t. refl)
+      (λ t. cond-elim P (eqb k 0x35) _ _ (λ t. refl)
+      (λ t. cond-elim P (eqb k 0x36) _ _ (λ t. absurd (n4 (eqb-true k 0x36 t)))
+      (λ t. cond-elim P (eqb k 0x37) _ _ (λ t. absurd (n5 (eqb-true k 0x37 t)))
+      (λ t. cond-elim P (eqb k 0x38) _ _ (λ t. absurd (n6 (eqb-true k 0x38 t)))
+      (λ t. cond-elim P (eqb k 0x39) _ _ (λ t. refl)
+      (λ t. cond-elim P (eqb k 0x3A) _ _ (λ t. refl)
+      (λ t. cond-elim P (eqb k 0x3B) _ _ (λ t. refl)
+      (λ t. cond-elim P (eqb k 0x3C) _ _ (λ t. absurd (n2 (eqb-true k 0x3C t)))
+      (λ t. cond-elim P (eqb k 0x3D) _ _ (λ t. absurd (n3 (eqb-true k 0x3D t))) (λ t. refl))))))))))))))
 
 -- ---- the new operator's record
 module _ (d : OperatorData) where

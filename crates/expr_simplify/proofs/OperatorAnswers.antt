@@ -32,7 +32,7 @@ use Rattle.simplify_spec.specs.declared.Held.the-variants.{Nothing, One, Second
 use Rattle.simplify_spec.specs.declared.Rewrite.the-variants.{Keep, Replace, Room, NoSuch}
 use Rattle.simplify_spec.specs.declared.Rewritten.{Rewritten}
 use Rattle.plan_append.specs.Appending.{itemsOf}
-use Rattle.simplify_spec.proofs.HeldLaws.{choose}
+use Rattle.laws.proofs.Bools.{cond-elim}
 
 -- ---- one expression after the other
 pub each-one : (n e : ℕ) (r : Each) (k : ℕ) (q : Simplified) → q ≡ enterOf simplifyAt n (r .ok) (r .st) e → (ats : List ℕ) → ats ≡ set (r .ats) k (q .at)

@@ -10,7 +10,7 @@ ghost use Rattle.plan_file.specs.Steps.{readOf};
 ghost use Rattle.refusals.specs.Numbers.{lastOf};
 ghost use Rattle.file_facts.specs.Known.{nothingKnown, planKnown, answerKnown};
 
-// 01's number of the refusal, 0 for none, and its place; the operator, and what its listing is made of.
+// the number of the refusal in the rules (docs/FORMAT.md), 0 for none, and its place; the operator, and what its listing is made of.
 pub struct Known {
     pub number: u8,
     pub place: usize,

@@ -1,4 +1,5 @@
--- The listing of facts: 01's lines in 01's order. Columns and identities rise, residuals stand in recorded order. Assumes nothing.
+-- The listing of facts: the lines of the rules (docs/FORMAT.md) in their order. Columns and identities rise, residuals stand in recorded order.
+-- Assumes nothing.
 use Prim.Native.Nat.{ℕ, min}
 use mathlib.Core.Bool.{Bool, false, cond}
 use mathlib.Core.List.{List, [], _∷_, _++_}

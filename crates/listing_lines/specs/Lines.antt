@@ -1,4 +1,4 @@
--- The lines of a listing, byte by byte, as 01 has them. Assumes nothing.
+-- The lines of a listing, byte by byte, as the rules have them. Assumes nothing.
 use Prim.Native.Nat.{ℕ, _-_}
 use mathlib.Core.Bool.{Bool, true, false, cond}
 use mathlib.Core.List.{List, [], _∷_, _++_}

@@ -9,7 +9,7 @@ use Rattle.plan.specs.declared.Appended.{Appended}
 use Rattle.plan.specs.declared.Added.{Added}
 use Rattle.plan.specs.declared.Added.the-variants.{At, Room}
 
--- 01's number of the refusal, 0 for none
+-- the number of the refusal in the rules (docs/FORMAT.md), 0 for none
 abbrev pub refusalOf : Added → ℕ
 refusalOf (At n) = 0
 refusalOf Room = 3

@@ -1,4 +1,4 @@
--- Files of some bytes, read by the definition alone: 01's listing, and one or more for the refusals 1, 2, 4 and 5, with the order of the tests
+-- Files of some bytes, read by the definition alone: the rules' listing, and one or more for the refusals 1, 2, 4 and 5, with the order of the tests
 -- in one record. (Refusal 3 takes files of the sizes: they are run.) Assumes nothing.
 use Prim.Native.Nat.{ℕ}
 use mathlib.Core.Path.{_≡_, refl}
@@ -138,7 +138,13 @@ files-read = (
                     refl,
                     (
                       refl,
-                      (refl, (refl, (refl, (refl, (refl, (refl, (refl, (refl, (refl, (refl, (refl, (refl, (refl, (refl, (refl, (refl, (refl, tt))))))))))))))))),
+                      (
+                        refl,
+                        (
+                          refl,
+                          (refl, (refl, (refl, (refl, (refl, (refl, (refl, (refl, (refl, (refl, (refl, (refl, (refl, (refl, (refl, tt))))))))))))))),
+                        ),
+                      ),
                     ),
                   ),
                 ),

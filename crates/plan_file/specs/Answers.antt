@@ -1,4 +1,4 @@
--- How a reading ended, in 01's numbers. Assumes nothing.
+-- How a reading ended, in the numbers of the rules. Assumes nothing.
 use Prim.Native.Nat.{ℕ}
 use mathlib.Core.Bool.{Bool, true, false}
 use Rattle.plan.specs.declared.Added.{Added}
@@ -6,7 +6,7 @@ use Rattle.plan.specs.declared.Added.the-variants.{At, Room as Full}
 use Rattle.plan_file.specs.declared.Reading.{Reading}
 use Rattle.plan_file.specs.declared.Reading.the-variants.{Whole, Short, Unknown, Room, Handle, ScannedTwice}
 
--- 01's number of the refusal, 0 for none
+-- the number of the refusal in the rules (docs/FORMAT.md), 0 for none
 abbrev pub refusalOf : Reading → ℕ
 refusalOf Whole = 0
 refusalOf (Short at) = 1

@@ -1,4 +1,4 @@
-// The kinds of record in a plan file: 01's table, a line a kind, and what a record has to keep to.
+// The kinds of record in a plan file: the rules' table, a line a kind, and what a record has to keep to.
 ghost use mathlib.Core.Path.{_≡_};
 ghost use Prim.Native.Nat.{_≤_};
 ghost use Rattle.plan_kinds.specs.Rows.{rowOf, plainRow, codedRow, named, literal};

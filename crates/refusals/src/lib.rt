@@ -1,4 +1,4 @@
-// The answers of reading, deriving, applying, simplifying and evaluating in 01's numbers: the number of the refusal, 0 for none, and the number
+// The answers of reading, deriving, applying, simplifying and evaluating in the numbers of the rules: the number of the refusal, 0 for none, and the number
 // that goes with it.
 use apply_spec::Outcome;
 use derive_spec::DeriveOutcome;

@@ -15,7 +15,7 @@ use Rattle.plan_data.specs.declared.ExprData.{ExprData}
 use Rattle.scalar.specs.declared.ScalarValue.{ScalarValue}
 use Rattle.simplify_spec.specs.Shapes.{literalShape, unaryShape, naryShape, shapeOf}
 use Rattle.simplify_spec.specs.declared.Shape.the-variants.{Boolean, Not, Compare, And, Or, Other}
-use Rattle.simplify_spec.proofs.HeldLaws.{choose}
+use Rattle.laws.proofs.Bools.{cond-elim}
 
 pub unary-not : (n : ℕ) (e : Expr) → n ≡ 0 → Not e ≡ unaryShape (unaryOpOf n) e
 unary-not n e p = rw (eq-eqb n 0 p)
@@ -57,13 +57,13 @@ module _ (x : Record) (start : ℕ) where
       let k = x .kind in
       let P : ExprData → Type 0 = λ d. Other ≡ shapeOf d in
       let Q : ScalarValue → Type 0 = λ v. Other ≡ literalShape v in
-      choose P (eqb k 0x20) _ _ (λ t. refl)
-      (λ t. choose P (eqb k 0x21) _ _ (λ t. absurd (n2 (eqb-true k 0x21 t)))
-      (λ t. choose P (eqb k 0x22) _ _ (λ t. absurd (n3 (eqb-true k 0x22 t)))
-      (λ t. choose P (eqb k 0x23) _ _ (λ t. absurd (n4 (eqb-true k 0x23 t)))
-      (λ t. choose Q (eqb k 0x10) _ _ (λ t. refl)
-      (λ t. choose Q (eqb k 0x11) _ _ (λ t. absurd (n1 (eqb-true k 0x11 t)))
-      (λ t. choose Q (eqb k 0x12) _ _ (λ t. refl)
-      (λ t. choose Q (eqb k 0x13) _ _ (λ t. refl)
-      (λ t. choose Q (eqb k 0x14) _ _ (λ t. refl)
-      (λ t. choose Q (eqb k 0x15) _ _ (λ t. refl) (λ t. refl))))))))))
+      cond-elim P (eqb k 0x20) _ _ (λ t. refl)
+      (λ t. cond-elim P (eqb k 0x21) _ _ (λ t. absurd (n2 (eqb-true k 0x21 t)))
+      (λ t. cond-elim P (eqb k 0x22) _ _ (λ t. absurd (n3 (eqb-true k 0x22 t)))
+      (λ t. cond-elim P (eqb k 0x23) _ _ (λ t. absurd (n4 (eqb-true k 0x23 t)))
+      (λ t. cond-elim Q (eqb k 0x10) _ _ (λ t. refl)
+      (λ t. cond-elim Q (eqb k 0x11) _ _ (λ t. absurd (n1 (eqb-true k 0x11 t)))
+      (λ t. cond-elim Q (eqb k 0x12) _ _ (λ t. refl)
+      (λ t. cond-elim Q (eqb k 0x13) _ _ (λ t. refl)
+      (λ t. cond-elim Q (eqb k 0x14) _ _ (λ t. refl)
+      (λ t. cond-elim Q (eqb k 0x15) _ _ (λ t. refl) (λ t. refl))))))))))

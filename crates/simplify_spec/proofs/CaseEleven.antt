@@ -1,4 +1,4 @@
--- Case 11 of 01, on plans with a Boolean column b: And[] and And[b] stay, And[true] is true, Or[false, b] is b. And what the Selection on each is
+-- Case 11 of the rules, on plans with a Boolean column b: And[] and And[b] stay, And[true] is true, Or[false, b] is b. And what the Selection on each is
 -- answered. Assumes nothing.
 use mathlib.Core.Path.{_≡_, refl}
 use mathlib.Core.Bool.{true}

@@ -9,78 +9,60 @@ use Rattle.apply_action.proofs.constant_action.Reads as constant-action
 use Rattle.apply_action.proofs.seen.Reads as seen-reads
 use Rattle.plan_data.proofs.node_at.Reads as node-at-reads
 
--- src/lib.rt:254:9
 node-at-requires : tie.Need-node-at-requires
 node-at-requires c κs = search needs
 
--- src/lib.rt:256:27
 enum-known-node : tie.Need-enum-known-node
 enum-known-node c = search needs
 
--- src/lib.rt:256:33
 constant-action-requires : tie.Need-constant-action-requires
 constant-action-requires c κs = search needs
 
--- src/lib.rt:257:35
 enum-told : tie.Need-enum-told
 enum-told c = search needs
 
--- src/lib.rt:258:47
 enum-told-2 : tie.Need-enum-told-2
 enum-told-2 c = search needs
 
--- src/lib.rt:259:28
 enum-known-node-2 : tie.Need-enum-known-node-2
 enum-known-node-2 c = search needs
 
--- src/lib.rt:260:71
 cast-node-at : tie.Need-cast-node-at
 cast-node-at c = search needs
 
--- src/lib.rt:260:17
 node-at-requires-2 : tie.Need-node-at-requires-2
 node-at-requires-2 c κs = search needs
 
--- src/lib.rt:261:71
 cast-node-at-2 : tie.Need-cast-node-at-2
 cast-node-at-2 c = search needs
 
--- src/lib.rt:261:17
 node-at-requires-3 : tie.Need-node-at-requires-3
 node-at-requires-3 c κs = search needs
 
--- src/lib.rt:262:17
 seen-requires : tie.Need-seen-requires
 seen-requires c κs = search needs
 
--- src/lib.rt:263:17
 seen-requires-2 : tie.Need-seen-requires-2
 seen-requires-2 c κs = search needs
 
--- src/lib.rt:264:13
 comparison-action-requires : tie.Need-comparison-action-requires
 comparison-action-requires c κs = search needs
 
--- src/lib.rt:266:47
 enum-told-3 : tie.Need-enum-told-3
 enum-told-3 c = search needs
 
--- src/lib.rt:242:1
 returns : tie.Need-returns
 unfolding actionOf
 returns c = rw (← c .before .before .before .before .node-at .ensures, c .before .before .node .given .1) (c .constant-action .ensures)
 
--- src/lib.rt:242:1
 returns-2 : tie.Need-returns-2
 unfolding actionOf
 returns-2 c = rw (← c .before .before .node-at .ensures, c .enum-told .given .1)
 
--- src/lib.rt:242:1
 returns-3 : tie.Need-returns-3
 unfolding actionOf
 returns-3 c = rw (← c .before .before .node-at .ensures, c .enum-told2 .given .1)
 
--- src/lib.rt:242:1
 returns-4 : tie.Need-returns-4
 unfolding actionOf
 returns-4 c =
@@ -98,7 +80,6 @@ returns-4 c =
       ← c .before .seen2 .ensures,
     ) (c .comparison-action .ensures)
 
--- src/lib.rt:242:1
 returns-5 : tie.Need-returns-5
 unfolding actionOf
 returns-5 c = rw (← c .before .before .node-at .ensures, c .enum-told3 .given .1)

@@ -6,87 +6,66 @@ use Rattle.apply_action.proofs.bound_action.Lts as lts
 use Rattle.apply_action.proofs.literal_action.Reads as literal-action-reads
 use Rattle.apply_action.proofs.range_action.Reads as range-action-reads
 
--- src/lib.rt:153:25
 enum-told : tie.Need-enum-told
 enum-told c = search needs
 
--- src/lib.rt:153:25
 literal-action-requires : tie.Need-literal-action-requires
 literal-action-requires c κs = search needs
 
--- src/lib.rt:154:41
 enum-told-2 : tie.Need-enum-told-2
 enum-told-2 c = search needs
 
--- src/lib.rt:154:28
 range-action-requires : tie.Need-range-action-requires
 range-action-requires c κs = search needs
 
--- src/lib.rt:155:38
 enum-told-3 : tie.Need-enum-told-3
 enum-told-3 c = search needs
 
--- src/lib.rt:155:25
 range-action-requires-2 : tie.Need-range-action-requires-2
 range-action-requires-2 c κs = search needs
 
--- src/lib.rt:156:40
 enum-told-4 : tie.Need-enum-told-4
 enum-told-4 c = search needs
 
--- src/lib.rt:156:27
 range-action-requires-3 : tie.Need-range-action-requires-3
 range-action-requires-3 c κs = search needs
 
--- src/lib.rt:157:38
 enum-told-5 : tie.Need-enum-told-5
 enum-told-5 c = search needs
 
--- src/lib.rt:157:25
 range-action-requires-4 : tie.Need-range-action-requires-4
 range-action-requires-4 c κs = search needs
 
--- src/lib.rt:158:40
 enum-told-6 : tie.Need-enum-told-6
 enum-told-6 c = search needs
 
--- src/lib.rt:158:27
 range-action-requires-5 : tie.Need-range-action-requires-5
 range-action-requires-5 c κs = search needs
 
--- src/lib.rt:159:53
 enum-told-7 : tie.Need-enum-told-7
 enum-told-7 c = search needs
 
--- src/lib.rt:159:40
 range-action-requires-6 : tie.Need-range-action-requires-6
 range-action-requires-6 c κs = search needs
 
--- src/lib.rt:149:1
 returns : tie.Need-returns
 returns c = rw (c .before .enum-told .given .1) (c .literal-action .ensures)
 
--- src/lib.rt:149:1
 returns-2 : tie.Need-returns-2
 returns-2 c = rw (c .before .enum-told2 .given .1) (c .range-action .ensures)
 
--- src/lib.rt:149:1
 returns-3 : tie.Need-returns-3
 returns-3 c = rw (c .before .enum-told3 .given .1) (c .range-action2 .ensures)
 
--- src/lib.rt:149:1
 returns-4 : tie.Need-returns-4
 returns-4 c = rw (c .before .enum-told4 .given .1) (c .range-action3 .ensures)
 
--- src/lib.rt:149:1
 returns-5 : tie.Need-returns-5
 returns-5 c = rw (c .before .enum-told5 .given .1) (c .range-action4 .ensures)
 
--- src/lib.rt:149:1
 returns-6 : tie.Need-returns-6
 returns-6 c = rw (c .before .enum-told6 .given .1) (c .range-action5 .ensures)
 
--- src/lib.rt:149:1
 returns-7 : tie.Need-returns-7
 returns-7 c = rw (c .before .enum-told7 .given .1) (c .range-action6 .ensures)
 

@@ -9,79 +9,60 @@ use Rattle.apply_action.proofs.with_bound.Reads as with-bound-reads
 use Rattle.apply_action.proofs.with_entry.Reads as with-entry-reads
 use Rattle.apply_action.proofs.with_literal.Reads as with-literal-reads
 
--- src/lib.rt:407:28
 enum-told : tie.Need-enum-told
 enum-told c = search needs
 
--- src/lib.rt:408:34
 enum-told-2 : tie.Need-enum-told-2
 enum-told-2 c = search needs
 
--- src/lib.rt:408:34
 flagged-requires : tie.Need-flagged-requires
 flagged-requires c κs = search needs
 
--- src/lib.rt:409:29
 enum-told-3 : tie.Need-enum-told-3
 enum-told-3 c = search needs
 
--- src/lib.rt:410:28
 enum-known-action : tie.Need-enum-known-action
 enum-known-action c = search needs
 
--- src/lib.rt:410:37
 not-null-requires : tie.Need-not-null-requires
 not-null-requires c κs = search needs
 
--- src/lib.rt:411:28
 enum-known-action-2 : tie.Need-enum-known-action-2
 enum-known-action-2 c = search needs
 
--- src/lib.rt:411:38
 with-literal-requires : tie.Need-with-literal-requires
 with-literal-requires c κs = search needs
 
--- src/lib.rt:412:26
 enum-known-action-3 : tie.Need-enum-known-action-3
 enum-known-action-3 c = search needs
 
--- src/lib.rt:412:36
 with-bound-requires : tie.Need-with-bound-requires
 with-bound-requires c κs = search needs
 
--- src/lib.rt:413:29
 enum-told-4 : tie.Need-enum-told-4
 enum-told-4 c = search needs
 
--- src/lib.rt:413:29
 with-entry-requires : tie.Need-with-entry-requires
 with-entry-requires c κs = search needs
 
--- src/lib.rt:403:1
 returns : tie.Need-returns
 returns c = rw (c .enum-told .given .1)
 
--- src/lib.rt:403:1
 returns-2 : tie.Need-returns-2
 returns-2 c = rw (c .before .enum-told2 .given .1) (c .flagged .ensures)
 
--- src/lib.rt:403:1
 returns-3 : tie.Need-returns-3
 returns-3 c = rw (c .enum-told3 .given .1)
 
--- src/lib.rt:403:1
 returns-4 : tie.Need-returns-4
 returns-4 c = rw (c .before .before .action .given .1) (c .not-null .ensures)
 
--- src/lib.rt:403:1
 returns-5 : tie.Need-returns-5
 returns-5 c = rw (c .before .before .action2 .given .1) (c .with-literal .ensures)
 
--- src/lib.rt:403:1
 returns-6 : tie.Need-returns-6
 returns-6 c = rw (c .before .before .action3 .given .1) (c .with-bound .ensures)
 
--- src/lib.rt:403:1
 returns-7 : tie.Need-returns-7
 returns-7 c = rw (c .before .enum-told4 .given .1) (c .with-entry .ensures)
 

@@ -6,27 +6,21 @@ use Rattle.apply_action.proofs.column_seen.Reads as reads
 use Rattle.apply_action.proofs.column_seen.Lts as lts
 use Rattle.lists.proofs.at8.Reads as at8-reads
 
--- src/lib.rt:49:33
 cast-at8 : tie.Need-cast-at8
 cast-at8 c = search needs
 
--- src/lib.rt:49:9
 at8-requires : tie.Need-at8-requires
 at8-requires c κs = search needs
 
--- src/lib.rt:51:9
 returns : tie.Need-returns
 returns c = rw (← c .before .at8 .ensures, c .if1 .taken)
 
--- src/lib.rt:53:20
 cast-t4 : tie.Need-cast-t4
 cast-t4 c = search needs
 
--- src/lib.rt:53:20
 sub-t6 : tie.Need-sub-t6
 sub-t6 c = search needs
 
--- src/lib.rt:46:1
 returns-2 : tie.Need-returns-2
 returns-2 c = rw (← c .before .at8 .ensures, ne-eqb _ 0 (c .if1 .left))
 

@@ -8,30 +8,24 @@ use Rattle.comparison.proofs.is_ordinary.Reads as is-ordinary-reads
 use Rattle.apply_action.proofs.is_null_literal.Reads as is-null-literal-reads
 use Rattle.apply_action.proofs.operands_action.Reads as operands-action-reads
 
--- src/lib.rt:214:9
 is-ordinary-requires : tie.Need-is-ordinary-requires
 is-ordinary-requires c κs = search needs
 
--- src/lib.rt:215:16
 is-null-literal-requires : tie.Need-is-null-literal-requires
 is-null-literal-requires c κs = search needs
 
--- src/lib.rt:215:37
 is-null-literal-requires-2 : tie.Need-is-null-literal-requires-2
 is-null-literal-requires-2 c κs = search needs
 
--- src/lib.rt:217:9
 returns : tie.Need-returns
 unfolding comparisonAction
 returns c =
     let at-is-ordinary = c .before .before .before in
     rw (← at-is-ordinary .is-ordinary .ensures, ← c .before .before .is-null-literal .ensures, ← c .before .is-null-literal2 .ensures, c .if1 .taken)
 
--- src/lib.rt:219:5
 operands-action-requires : tie.Need-operands-action-requires
 operands-action-requires c κs = search needs
 
--- src/lib.rt:211:1
 returns-2 : tie.Need-returns-2
 unfolding comparisonAction
 returns-2 c =

@@ -6,35 +6,27 @@ use Rattle.apply_action.proofs.left_action.Lts as lts
 use Rattle.apply_action.proofs.bound_action.Reads as bound-action-reads
 use Rattle.apply_action.proofs.pair_action.Reads as pair-action-reads
 
--- src/lib.rt:183:24
 enum-known-r : tie.Need-enum-known-r
 enum-known-r c = search needs
 
--- src/lib.rt:183:34
 pair-action-requires : tie.Need-pair-action-requires
 pair-action-requires c κs = search needs
 
--- src/lib.rt:184:24
 enum-known-r-2 : tie.Need-enum-known-r-2
 enum-known-r-2 c = search needs
 
--- src/lib.rt:184:36
 bound-action-requires : tie.Need-bound-action-requires
 bound-action-requires c κs = search needs
 
--- src/lib.rt:185:25
 enum-told : tie.Need-enum-told
 enum-told c = search needs
 
--- src/lib.rt:179:1
 returns : tie.Need-returns
 returns c = rw (c .before .before .r .given .1) (c .pair-action .ensures)
 
--- src/lib.rt:179:1
 returns-2 : tie.Need-returns-2
 returns-2 c = rw (c .before .before .r2 .given .1) (c .bound-action .ensures)
 
--- src/lib.rt:179:1
 returns-3 : tie.Need-returns-3
 returns-3 c = search needs
 

@@ -4,11 +4,9 @@ use Rattle.apply_action.proofs.not_null.Tie as tie
 use Rattle.apply_action.proofs.not_null.Reads as reads
 use Rattle.apply_action.proofs.not_null.Lts as lts
 
--- src/lib.rt:342:1
 returns : tie.Need-returns
 returns c = rw (c .if1 .taken)
 
--- src/lib.rt:342:1
 returns-2 : tie.Need-returns-2
 returns-2 c = search needs
 

@@ -7,26 +7,21 @@ use Rattle.apply_action.proofs.number_action.Reads as reads
 use Rattle.apply_action.proofs.number_action.Lts as lts
 use Rattle.comparison.proofs.is_bounding.Reads as is-bounding-reads
 
--- src/lib.rt:112:9
 is-bounding-requires : tie.Need-is-bounding-requires
 is-bounding-requires c κs = search needs
 
--- src/lib.rt:114:9
 returns : tie.Need-returns
 unfolding boundedBy
 returns c = rw (← c .before .before .is-bounding .ensures, c .if2 .taken, le-ltb _ _ (c .before .if1 .taken))
 
--- src/lib.rt:114:9
 returns-2 : tie.Need-returns-2
 unfolding boundedBy
 returns-2 c = rw (← c .before .before .is-bounding .ensures, c .if2 .left, le-ltb _ _ (c .before .if1 .taken))
 
--- src/lib.rt:121:9
 returns-3 : tie.Need-returns-3
 unfolding boundedBy
 returns-3 c = rw (← c .before .before .is-bounding .ensures, c .if3 .taken, lt-ltb _ _ (c .before .if1 .left))
 
--- src/lib.rt:109:1
 returns-4 : tie.Need-returns-4
 unfolding boundedBy
 returns-4 c = rw (← c .before .before .is-bounding .ensures, c .if3 .left, lt-ltb _ _ (c .before .if1 .left))

@@ -8,35 +8,27 @@ use Rattle.apply_action.proofs.operands_action.Lts as lts
 use Rattle.apply_action.proofs.left_action.Reads as left-action-reads
 use Rattle.apply_action.proofs.right_action.Reads as right-action-reads
 
--- src/lib.rt:204:24
 enum-known-l : tie.Need-enum-known-l
 enum-known-l c = search needs
 
--- src/lib.rt:204:33
 left-action-requires : tie.Need-left-action-requires
 left-action-requires c κs = search needs
 
--- src/lib.rt:205:24
 enum-known-l-2 : tie.Need-enum-known-l-2
 enum-known-l-2 c = search needs
 
--- src/lib.rt:205:36
 right-action-requires : tie.Need-right-action-requires
 right-action-requires c κs = search needs
 
--- src/lib.rt:206:25
 enum-told : tie.Need-enum-told
 enum-told c = search needs
 
--- src/lib.rt:200:1
 returns : tie.Need-returns
 returns c = rw (c .before .before .l .given .1) (c .left-action .ensures)
 
--- src/lib.rt:200:1
 returns-2 : tie.Need-returns-2
 returns-2 c = rw (c .before .before .l2 .given .1) (c .right-action .ensures)
 
--- src/lib.rt:200:1
 returns-3 : tie.Need-returns-3
 returns-3 c = rw (c .enum-told .given .1) (sym (unseen-left (c .before .before .args .op) (c .before .before .args .r)))
 

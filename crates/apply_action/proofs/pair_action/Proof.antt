@@ -5,67 +5,51 @@ use Rattle.apply_action.proofs.pair_action.Reads as reads
 use Rattle.apply_action.proofs.pair_action.Lts as lts
 use Rattle.apply_action.proofs.same.Reads as same-reads
 
--- src/lib.rt:98:25
 enum-told : tie.Need-enum-told
 enum-told c = search needs
 
--- src/lib.rt:98:25
 same-requires : tie.Need-same-requires
 same-requires c κs = search needs
 
--- src/lib.rt:99:28
 enum-told-2 : tie.Need-enum-told-2
 enum-told-2 c = search needs
 
--- src/lib.rt:100:25
 enum-told-3 : tie.Need-enum-told-3
 enum-told-3 c = search needs
 
--- src/lib.rt:101:27
 enum-told-4 : tie.Need-enum-told-4
 enum-told-4 c = search needs
 
--- src/lib.rt:102:25
 enum-told-5 : tie.Need-enum-told-5
 enum-told-5 c = search needs
 
--- src/lib.rt:103:27
 enum-told-6 : tie.Need-enum-told-6
 enum-told-6 c = search needs
 
--- src/lib.rt:104:40
 enum-told-7 : tie.Need-enum-told-7
 enum-told-7 c = search needs
 
--- src/lib.rt:104:40
 same-requires-2 : tie.Need-same-requires-2
 same-requires-2 c κs = search needs
 
--- src/lib.rt:94:1
 returns : tie.Need-returns
 returns c = rw (c .before .enum-told .given .1) (c .same .ensures)
 
--- src/lib.rt:94:1
 returns-2 : tie.Need-returns-2
 returns-2 c = search needs
 
--- src/lib.rt:94:1
 returns-3 : tie.Need-returns-3
 returns-3 c = search needs
 
--- src/lib.rt:94:1
 returns-4 : tie.Need-returns-4
 returns-4 c = search needs
 
--- src/lib.rt:94:1
 returns-5 : tie.Need-returns-5
 returns-5 c = search needs
 
--- src/lib.rt:94:1
 returns-6 : tie.Need-returns-6
 returns-6 c = search needs
 
--- src/lib.rt:94:1
 returns-7 : tie.Need-returns-7
 returns-7 c = rw (c .before .enum-told7 .given .1) (c .same2 .ensures)
 

@@ -7,27 +7,21 @@ use Rattle.apply_action.proofs.range_action.Lts as lts
 use Rattle.apply_action.proofs.number_action.Reads as number-action-reads
 use Rattle.scalar.proofs.scalar_to_f64.Reads as scalar-to-f64-reads
 
--- src/lib.rt:129:9
 scalar-to-f64-requires : tie.Need-scalar-to-f64-requires
 scalar-to-f64-requires c κs = search needs
 
--- src/lib.rt:131:20
 enum-known-number : tie.Need-enum-known-number
 enum-known-number c = search needs
 
--- src/lib.rt:131:26
 number-action-requires : tie.Need-number-action-requires
 number-action-requires c κs = search needs
 
--- src/lib.rt:132:28
 enum-told : tie.Need-enum-told
 enum-told c = search needs
 
--- src/lib.rt:126:1
 returns : tie.Need-returns
 returns c = rw (← c .before .before .before .before .scalar-to-f64 .ensures, c .before .before .number .given .1) (c .number-action .ensures)
 
--- src/lib.rt:126:1
 returns-2 : tie.Need-returns-2
 unfolding boundedBy
 returns-2 c = rw (← c .before .before .scalar-to-f64 .ensures, c .enum-told .given .1)

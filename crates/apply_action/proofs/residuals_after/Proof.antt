@@ -5,15 +5,12 @@ use Rattle.apply_action.proofs.residuals_after.Reads as reads
 use Rattle.apply_action.proofs.residuals_after.Lts as lts
 use Rattle.constraint_set.proofs.push_handle.Reads as push-handle-reads
 
--- src/lib.rt:422:9
 push-handle-requires : tie.Need-push-handle-requires
 push-handle-requires c κs = search needs
 
--- src/lib.rt:422:9
 returns : tie.Need-returns
 returns c = rw (c .before .if1 .taken) (c .push-handle .ensures)
 
--- src/lib.rt:418:1
 returns-2 : tie.Need-returns-2
 returns-2 c = rw (c .if1 .left)
 

@@ -13,63 +13,48 @@ use Rattle.apply_action.proofs.range_action.Reads as range-action-reads
 reversed-requires : tie.Need-reversed-requires
 reversed-requires c κs = search needs
 
--- src/lib.rt:168:25
 enum-told : tie.Need-enum-told
 enum-told c = search needs
 
--- src/lib.rt:168:25
 literal-action-requires : tie.Need-literal-action-requires
 literal-action-requires c κs = search needs
 
--- src/lib.rt:169:28
 enum-told-2 : tie.Need-enum-told-2
 enum-told-2 c = search needs
 
--- src/lib.rt:170:38
 enum-told-3 : tie.Need-enum-told-3
 enum-told-3 c = search needs
 
--- src/lib.rt:170:25
 range-action-requires : tie.Need-range-action-requires
 range-action-requires c κs = search needs
 
--- src/lib.rt:171:40
 enum-told-4 : tie.Need-enum-told-4
 enum-told-4 c = search needs
 
--- src/lib.rt:171:27
 range-action-requires-2 : tie.Need-range-action-requires-2
 range-action-requires-2 c κs = search needs
 
--- src/lib.rt:172:38
 enum-told-5 : tie.Need-enum-told-5
 enum-told-5 c = search needs
 
--- src/lib.rt:172:25
 range-action-requires-3 : tie.Need-range-action-requires-3
 range-action-requires-3 c κs = search needs
 
--- src/lib.rt:173:40
 enum-told-6 : tie.Need-enum-told-6
 enum-told-6 c = search needs
 
--- src/lib.rt:173:27
 range-action-requires-4 : tie.Need-range-action-requires-4
 range-action-requires-4 c κs = search needs
 
--- src/lib.rt:174:40
 enum-told-7 : tie.Need-enum-told-7
 enum-told-7 c = search needs
 
--- src/lib.rt:164:1
 returns : tie.Need-returns
 returns c = rw (c .before .enum-told .given .1) (c .literal-action .ensures)
 
--- src/lib.rt:164:1
 returns-2 : tie.Need-returns-2
 returns-2 c = search needs
 
--- src/lib.rt:164:1
 returns-3 : tie.Need-returns-3
 returns-3 c =
     let at-reversed = c .before .before .before in
@@ -77,7 +62,6 @@ returns-3 c =
     rw (c .before .enum-told3 .given .1) (c .range-action .ensures ∙ ap (λ (o : BinaryOp). rangeAction o (args .value) (args .literal))
     (at-reversed .reversed .ensures ∙ ap reversedOp (c .before .enum-told3 .given .1)))
 
--- src/lib.rt:164:1
 returns-4 : tie.Need-returns-4
 returns-4 c =
     let at-reversed = c .before .before .before in
@@ -85,7 +69,6 @@ returns-4 c =
     rw (c .before .enum-told4 .given .1) (c .range-action2 .ensures ∙ ap (λ (o : BinaryOp). rangeAction o (args .value) (args .literal))
     (at-reversed .reversed .ensures ∙ ap reversedOp (c .before .enum-told4 .given .1)))
 
--- src/lib.rt:164:1
 returns-5 : tie.Need-returns-5
 returns-5 c =
     let at-reversed = c .before .before .before in
@@ -93,7 +76,6 @@ returns-5 c =
     rw (c .before .enum-told5 .given .1) (c .range-action3 .ensures ∙ ap (λ (o : BinaryOp). rangeAction o (args .value) (args .literal))
     (at-reversed .reversed .ensures ∙ ap reversedOp (c .before .enum-told5 .given .1)))
 
--- src/lib.rt:164:1
 returns-6 : tie.Need-returns-6
 returns-6 c =
     let at-reversed = c .before .before .before in
@@ -101,7 +83,6 @@ returns-6 c =
     rw (c .before .enum-told6 .given .1) (c .range-action4 .ensures ∙ ap (λ (o : BinaryOp). rangeAction o (args .value) (args .literal))
     (at-reversed .reversed .ensures ∙ ap reversedOp (c .before .enum-told6 .given .1)))
 
--- src/lib.rt:164:1
 returns-7 : tie.Need-returns-7
 returns-7 c = search needs
 

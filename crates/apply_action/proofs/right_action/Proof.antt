@@ -5,31 +5,24 @@ use Rattle.apply_action.proofs.right_action.Reads as reads
 use Rattle.apply_action.proofs.right_action.Lts as lts
 use Rattle.apply_action.proofs.reversed_action.Reads as reversed-action-reads
 
--- src/lib.rt:194:24
 enum-known-r : tie.Need-enum-known-r
 enum-known-r c = search needs
 
--- src/lib.rt:194:34
 reversed-action-requires : tie.Need-reversed-action-requires
 reversed-action-requires c κs = search needs
 
--- src/lib.rt:195:30
 enum-told : tie.Need-enum-told
 enum-told c = search needs
 
--- src/lib.rt:196:25
 enum-told-2 : tie.Need-enum-told-2
 enum-told-2 c = search needs
 
--- src/lib.rt:190:1
 returns : tie.Need-returns
 returns c = rw (c .before .before .r .given .1) (c .reversed-action .ensures)
 
--- src/lib.rt:190:1
 returns-2 : tie.Need-returns-2
 returns-2 c = search needs
 
--- src/lib.rt:190:1
 returns-3 : tie.Need-returns-3
 returns-3 c = search needs
 

@@ -6,17 +6,14 @@ use Rattle.apply_action.proofs.same.Tie as tie
 use Rattle.apply_action.proofs.same.Reads as reads
 use Rattle.apply_action.proofs.same.Lts as lts
 
--- src/lib.rt:85:9
 returns : tie.Need-returns
 unfolding sameAction
 returns c = rw (le-ltb _ _ (c .if1 .taken))
 
--- src/lib.rt:88:9
 returns-2 : tie.Need-returns-2
 unfolding sameAction
 returns-2 c = rw (lt-ltb _ _ (c .before .if1 .left), le-ltb _ _ (c .if2 .taken))
 
--- src/lib.rt:81:1
 returns-3 : tie.Need-returns-3
 unfolding sameAction
 returns-3 c = rw (lt-ltb _ _ (c .before .if1 .left), lt-ltb _ _ (c .if2 .left))

@@ -5,47 +5,36 @@ use Rattle.apply_action.proofs.seen.Reads as reads
 use Rattle.apply_action.proofs.seen.Lts as lts
 use Rattle.apply_action.proofs.column_seen.Reads as column-seen-reads
 
--- src/lib.rt:60:27
 enum-known-node : tie.Need-enum-known-node
 enum-known-node c = search needs
 
--- src/lib.rt:61:29
 enum-known-node-2 : tie.Need-enum-known-node-2
 enum-known-node-2 c = search needs
 
--- src/lib.rt:61:40
 column-seen-requires : tie.Need-column-seen-requires
 column-seen-requires c κs = search needs
 
--- src/lib.rt:62:47
 enum-told : tie.Need-enum-told
 enum-told c = search needs
 
--- src/lib.rt:63:58
 enum-told-2 : tie.Need-enum-told-2
 enum-told-2 c = search needs
 
--- src/lib.rt:64:47
 enum-told-3 : tie.Need-enum-told-3
 enum-told-3 c = search needs
 
--- src/lib.rt:56:1
 returns : tie.Need-returns
 returns c = rw (c .before .node .given .1)
 
--- src/lib.rt:56:1
 returns-2 : tie.Need-returns-2
 returns-2 c = rw (c .before .before .node2 .given .1) (c .column-seen .ensures)
 
--- src/lib.rt:56:1
 returns-3 : tie.Need-returns-3
 returns-3 c = search needs
 
--- src/lib.rt:56:1
 returns-4 : tie.Need-returns-4
 returns-4 c = search needs
 
--- src/lib.rt:56:1
 returns-5 : tie.Need-returns-5
 returns-5 c = search needs
 

@@ -10,27 +10,21 @@ use Rattle.constraint_set.proofs.is_crossed.Reads as is-crossed-reads
 use Rattle.constraint_set.proofs.tightened.Reads as tightened-reads
 use Rattle.value_range.proofs.ValueRange.is_empty.Reads as is-empty-reads
 
--- src/lib.rt:374:9
 bounds-by-requires : tie.Need-bounds-by-requires
 bounds-by-requires c κs = search needs
 
--- src/lib.rt:375:9
 tightened-requires : tie.Need-tightened-requires
 tightened-requires c κs = search needs
 
--- src/lib.rt:376:9
 is-empty-requires : tie.Need-is-empty-requires
 is-empty-requires c κs = search needs
 
--- src/lib.rt:377:9
 entry-of-requires : tie.Need-entry-of-requires
 entry-of-requires c κs = search needs
 
--- src/lib.rt:378:9
 is-crossed-requires : tie.Need-is-crossed-requires
 is-crossed-requires c κs = search needs
 
--- src/lib.rt:369:1
 returns : tie.Need-returns
 unfolding boundCell
 returns c =

@@ -7,15 +7,12 @@ use Rattle.apply_action.proofs.with_entry.Lts as lts
 use Rattle.constraint_set.proofs.entry_of.Reads as entry-of-reads
 use Rattle.constraint_set.proofs.range_in.Reads as range-in-reads
 
--- src/lib.rt:393:9
 range-in-requires : tie.Need-range-in-requires
 range-in-requires c κs = search needs
 
--- src/lib.rt:394:9
 entry-of-requires : tie.Need-entry-of-requires
 entry-of-requires c κs = search needs
 
--- src/lib.rt:388:1
 returns : tie.Need-returns
 unfolding entryCell
 returns c = rw (c .entry-of .ensures, c .before .range-in .ensures)

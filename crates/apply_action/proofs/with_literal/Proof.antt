@@ -8,19 +8,15 @@ use Rattle.constraint_set.proofs.is_crossed.Reads as is-crossed-reads
 use Rattle.constraint_set.proofs.literal_clashes.Reads as literal-clashes-reads
 use Rattle.constraint_set.proofs.literal_kept.Reads as literal-kept-reads
 
--- src/lib.rt:357:9
 literal-clashes-requires : tie.Need-literal-clashes-requires
 literal-clashes-requires c κs = search needs
 
--- src/lib.rt:358:9
 literal-kept-requires : tie.Need-literal-kept-requires
 literal-kept-requires c κs = search needs
 
--- src/lib.rt:359:9
 is-crossed-requires : tie.Need-is-crossed-requires
 is-crossed-requires c κs = search needs
 
--- src/lib.rt:352:1
 returns : tie.Need-returns
 unfolding literalCell
 returns c = rw (c .is-crossed .ensures, c .before .literal-kept .ensures, c .before .before .literal-clashes .ensures)

@@ -50,7 +50,8 @@ returns-4 c =
     let at-if1 = at-if2 .before in
     let at-plan-ok = at-if1 .before in
     let args = at-plan-ok .before .before .args in
-    c .apply-to-facts .ensures ∙ apply-pass (args .p) (args .f) (args .e) (sym (at-plan-ok .plan-ok .ensures) ∙ not-false _ (at-if1 .if1 .left)) (at-if2 .if2 .left)
+    c .apply-to-facts .ensures ∙ apply-pass (args .p) (args .f) (args .e) (sym (at-plan-ok .plan-ok .ensures) ∙ not-false _ (at-if1 .if1 .left))
+    (at-if2 .if2 .left)
     (sym (c .before .before .facts-ok .ensures) ∙ not-false _ (c .before .if3 .left))
 
 pub apply-predicate-spec : {M : Type 1} → statement M

@@ -17,31 +17,24 @@ Inv-loop s a₀ i₀ a i = (i ≤ 64) × (length a ≡ 64) × (a ≡ cellsTo s i
 abbrev μ-loop : tie.MeasureT-loop
 μ-loop s a₀ i₀ a i = 64 - i
 
--- src/lib.rt:164:5
 loop-holds : tie.Need-loop-holds Inv-loop μ-loop
 loop-holds c = (omega arith, refl, cells-none _)
 
--- src/lib.rt:165:16
 at64-requires : tie.Need-at64-requires Inv-loop μ-loop
 at64-requires c κs = search needs
 
--- src/lib.rt:165:9
 mul-a : tie.Need-mul-a Inv-loop μ-loop
 mul-a c = search needs
 
--- src/lib.rt:165:9
 array-write-a : tie.Need-array-write-a Inv-loop μ-loop
 array-write-a c = search needs
 
--- src/lib.rt:166:9
 add-i : tie.Need-add-i Inv-loop μ-loop
 add-i c = search needs
 
--- src/lib.rt:164:5
 loop-less : tie.Need-loop-less Inv-loop μ-loop
 loop-less c = search needs
 
--- src/lib.rt:164:5
 loop-again : tie.Need-loop-again Inv-loop μ-loop
 loop-again c =
     let at-loop = c .before .before in (
@@ -51,7 +44,6 @@ loop-again c =
           (c .at64 .ensures),
     )
 
--- src/lib.rt:159:1
 returns : tie.Need-returns Inv-loop μ-loop
 returns c = let e : c .before .loop .i ≡ 64 = omega arith in rw e at (c .before .loop .inv .2)
 

@@ -10,31 +10,24 @@ use Rattle.refusals.proofs.evaluation_number.Reads as evaluation-number-reads
 use Rattle.refusals.proofs.truth_found.Reads as truth-found-reads
 use Rattle.rows.proofs.evaluate.Reads as evaluate-reads
 
--- src/lib.rt:139:9
 evaluate-requires : tie.Need-evaluate-requires
 evaluate-requires c κs = search needs
 
--- src/lib.rt:140:9
 evaluation-number-requires : tie.Need-evaluation-number-requires
 evaluation-number-requires c κs = search needs
 
--- src/lib.rt:141:9
 truth-found-requires : tie.Need-truth-found-requires
 truth-found-requires c κs = search needs
 
--- src/lib.rt:142:18
 cast-head : tie.Need-cast-head
 cast-head c = search needs
 
--- src/lib.rt:142:5
 head-requires : tie.Need-head-requires
 head-requires c κs = search needs
 
--- src/lib.rt:136:1
 same-length : tie.Need-same-length
 same-length c = search needs
 
--- src/lib.rt:136:1
 returns : tie.Need-returns
 returns c =
     let at-truth-found = c .before .before .before .before in

@@ -8,19 +8,15 @@ use Rattle.boundary.proofs.head.Lts as lts
 use Rattle.plan_file_write.proofs.put8.Reads as put8-reads
 use Rattle.writing.proofs.byte.Reads as byte-reads
 
--- src/lib.rt:37:9
 byte-requires : tie.Need-byte-requires
 byte-requires c κs = search needs
 
--- src/lib.rt:38:5
 put8-requires : tie.Need-put8-requires
 put8-requires c κs = search needs
 
--- src/lib.rt:34:1
 same-length : tie.Need-same-length
 same-length c = search needs
 
--- src/lib.rt:34:1
 returns : tie.Need-returns
 unfolding headOf
 returns c =

@@ -18,23 +18,18 @@ Inv-loop p predicates facts₀ k₀ facts k = (k ≤ length predicates) × (inTu
 abbrev μ-loop : tie.MeasureT-loop
 μ-loop p predicates facts₀ k₀ facts k = length predicates - k
 
--- src/lib.rt:78:5
 loop-holds : tie.Need-loop-holds Inv-loop μ-loop
 loop-holds c = (omega arith, refl)
 
--- src/lib.rt:79:13
 at16-requires : tie.Need-at16-requires Inv-loop μ-loop
 at16-requires c κs = search needs
 
--- src/lib.rt:80:13
 apply-predicate-requires : tie.Need-apply-predicate-requires Inv-loop μ-loop
 apply-predicate-requires c κs = search needs
 
--- src/lib.rt:83:12
 outcome-number-requires : tie.Need-outcome-number-requires Inv-loop μ-loop
 outcome-number-requires c κs = search needs
 
--- src/lib.rt:84:13
 returns : tie.Need-returns Inv-loop μ-loop
 returns c =
     let at-apply-predicate = c .before .before .before in
@@ -43,15 +38,12 @@ returns c =
     turn-refused _ _ _ _ (omega arith) _ (at-at16 .at16 .ensures) _ (at-apply-predicate .apply-predicate .ensures) _ (c .before .outcome-number .ensures)
     (c .if1 .taken) ∙ at-loop .loop .inv .1
 
--- src/lib.rt:91:9
 add-k : tie.Need-add-k Inv-loop μ-loop
 add-k c = search needs
 
--- src/lib.rt:78:5
 loop-less : tie.Need-loop-less Inv-loop μ-loop
 loop-less c = search needs
 
--- src/lib.rt:78:5
 loop-again : tie.Need-loop-again Inv-loop μ-loop
 loop-again c =
     let at-apply-predicate = c .before .before .before in
@@ -60,10 +52,10 @@ loop-again c =
     let start = at-loop .before .before in (
       search needs,
       turn-next (start .args .p) (start .args .predicates .now) (at-loop .loop .facts) (at-loop .loop .k) (omega arith) _
-          (at-at16 .at16 .ensures) _ (at-apply-predicate .apply-predicate .ensures) _ (c .before .outcome-number .ensures) (c .if1 .left) ∙ at-loop .loop .inv .1,
+          (at-at16 .at16 .ensures) _ (at-apply-predicate .apply-predicate .ensures) _ (c .before .outcome-number .ensures) (c .if1 .left)
+          ∙ at-loop .loop .inv .1,
     )
 
--- src/lib.rt:73:1
 returns-2 : tie.Need-returns-2 Inv-loop μ-loop
 returns-2 c =
     let start = c .before .before .before in

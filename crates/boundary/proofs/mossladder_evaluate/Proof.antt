@@ -14,23 +14,18 @@ use Rattle.boundary.proofs.row_in.Reads as row-in-reads
 use Rattle.plan_file.proofs.read.Reads as read-reads
 use Rattle.refusals.proofs.reading_number.Reads as reading-number-reads
 
--- src/lib.rt:270:9
 read-requires : tie.Need-read-requires
 read-requires c κs = search needs
 
--- src/lib.rt:272:8
 reading-number-requires : tie.Need-reading-number-requires
 reading-number-requires c κs = search needs
 
--- src/lib.rt:273:9
 refused-reading-requires : tie.Need-refused-reading-requires
 refused-reading-requires c κs = search needs
 
--- src/lib.rt:273:9
 same-length : tie.Need-same-length
 same-length c = search needs
 
--- src/lib.rt:273:9
 returns : tie.Need-returns
 returns c =
     let at-if1 = c .before .before .before .before in
@@ -42,19 +37,15 @@ returns c =
     (plan-refused (evaluateReply (args .expr) (rowIn (args .case .now) (args .code .now) (args .bits .now))) _ _ (at-read .read .ensures) _
     (at-reading-number .reading-number .ensures) (at-if1 .if1 .taken))
 
--- src/lib.rt:275:9
 row-in-requires : tie.Need-row-in-requires
 row-in-requires c κs = search needs
 
--- src/lib.rt:277:5
 evaluate-plan-requires : tie.Need-evaluate-plan-requires
 evaluate-plan-requires c κs = search needs
 
--- src/lib.rt:259:1
 same-length-2 : tie.Need-same-length-2
 same-length-2 c = search needs
 
--- src/lib.rt:259:1
 returns-2 : tie.Need-returns-2
 returns-2 c =
     let at-row-in = c .before .before .before .before .before in

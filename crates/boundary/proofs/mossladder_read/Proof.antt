@@ -9,23 +9,18 @@ use Rattle.boundary.proofs.refused_reading.Reads as refused-reading-rea
 use Rattle.plan_file.proofs.read.Reads as read-reads
 use Rattle.plan_file_write.proofs.write.Reads as write-reads
 
--- src/lib.rt:188:9
 read-requires : tie.Need-read-requires
 read-requires c κs = search needs
 
--- src/lib.rt:191:9
 refused-reading-requires : tie.Need-refused-reading-requires
 refused-reading-requires c κs = search needs
 
--- src/lib.rt:192:5
 write-requires : tie.Need-write-requires
 write-requires c κs = search needs
 
--- src/lib.rt:184:1
 same-length : tie.Need-same-length
 same-length c = search needs
 
--- src/lib.rt:184:1
 returns : tie.Need-returns
 returns c =
     let at-refused-reading = c .before .before .before .before .before .before in

@@ -11,23 +11,18 @@ use Rattle.boundary.proofs.simplify_plan.Reads as simplify-plan-reads
 use Rattle.plan_file.proofs.read.Reads as read-reads
 use Rattle.refusals.proofs.reading_number.Reads as reading-number-reads
 
--- src/lib.rt:248:9
 read-requires : tie.Need-read-requires
 read-requires c κs = search needs
 
--- src/lib.rt:250:8
 reading-number-requires : tie.Need-reading-number-requires
 reading-number-requires c κs = search needs
 
--- src/lib.rt:251:9
 refused-reading-requires : tie.Need-refused-reading-requires
 refused-reading-requires c κs = search needs
 
--- src/lib.rt:251:9
 same-length : tie.Need-same-length
 same-length c = search needs
 
--- src/lib.rt:251:9
 returns : tie.Need-returns
 returns c =
     let at-if1 = c .before .before .before .before in
@@ -37,15 +32,12 @@ returns c =
     wrote-as _ _ _ _ _ _ (c .before .before .refused-reading .ensures) (plan-refused (simplifyReply (start .args .operator)) _ _ (at-read .read .ensures) _
     (at-reading-number .reading-number .ensures) (at-if1 .if1 .taken))
 
--- src/lib.rt:254:5
 simplify-plan-requires : tie.Need-simplify-plan-requires
 simplify-plan-requires c κs = search needs
 
--- src/lib.rt:244:1
 same-length-2 : tie.Need-same-length-2
 same-length-2 c = search needs
 
--- src/lib.rt:244:1
 returns-2 : tie.Need-returns-2
 returns-2 c =
     let at-if1 = c .before .before .before .before .before in

@@ -9,23 +9,18 @@ use Rattle.boundary.proofs.head.Reads as head-reads
 use Rattle.refusals.proofs.reading_number.Reads as reading-number-reads
 use Rattle.refusals.proofs.reading_place.Reads as reading-place-reads
 
--- src/lib.rt:44:9
 reading-number-requires : tie.Need-reading-number-requires
 reading-number-requires c κs = search needs
 
--- src/lib.rt:45:9
 reading-place-requires : tie.Need-reading-place-requires
 reading-place-requires c κs = search needs
 
--- src/lib.rt:46:5
 head-requires : tie.Need-head-requires
 head-requires c κs = search needs
 
--- src/lib.rt:41:1
 same-length : tie.Need-same-length
 same-length c = search needs
 
--- src/lib.rt:41:1
 returns : tie.Need-returns
 returns c =
     let at-reading-place = c .before .before .before .before in

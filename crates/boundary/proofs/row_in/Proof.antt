@@ -6,19 +6,15 @@ use Rattle.boundary.proofs.row_in.Lts as lts
 use Rattle.boundary.proofs.cells64.Reads as cells64-reads
 use Rattle.boundary.proofs.cells8.Reads as cells8-reads
 
--- src/lib.rt:176:15
 cells8-requires : tie.Need-cells8-requires
 cells8-requires c κs = search needs
 
--- src/lib.rt:177:15
 cells8-requires-2 : tie.Need-cells8-requires-2
 cells8-requires-2 c κs = search needs
 
--- src/lib.rt:178:15
 cells64-requires : tie.Need-cells64-requires
 cells64-requires c κs = search needs
 
--- src/lib.rt:172:1
 returns : tie.Need-returns
 returns c = λ i. record { case = c .before .before .cells8 .ensures i; code = c .before .cells82 .ensures i; bits = c .cells64 .ensures i }
 

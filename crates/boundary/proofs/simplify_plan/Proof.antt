@@ -11,35 +11,27 @@ use Rattle.plan_file_write.proofs.write.Reads as write-reads
 use Rattle.refusals.proofs.rewrite_number.Reads as rewrite-number-reads
 use Rattle.refusals.proofs.standing.Reads as standing-reads
 
--- src/lib.rt:127:9
 simplify-requires : tie.Need-simplify-requires
 simplify-requires c κs = search needs
 
--- src/lib.rt:129:9
 rewrite-number-requires : tie.Need-rewrite-number-requires
 rewrite-number-requires c κs = search needs
 
--- src/lib.rt:130:9
 standing-requires : tie.Need-standing-requires
 standing-requires c κs = search needs
 
--- src/lib.rt:131:26
 cast-head : tie.Need-cast-head
 cast-head c = search needs
 
--- src/lib.rt:131:9
 head-requires : tie.Need-head-requires
 head-requires c κs = search needs
 
--- src/lib.rt:133:5
 write-requires : tie.Need-write-requires
 write-requires c κs = search needs
 
--- src/lib.rt:124:1
 same-length : tie.Need-same-length
 same-length c = search needs
 
--- src/lib.rt:124:1
 returns : tie.Need-returns
 returns c =
     let at-head = c .before .before .before .before .before .before .before in

@@ -26,39 +26,32 @@ abbrev μ-loop : tie.MeasureT-loop
 fits : (c : tie.Start Inv-loop μ-loop) (i : ℕ) → Fits w64 (getD (c .args .t4 .next) i 0)
 fits c i = search needs
 
--- src/lib.rt:144:5
 loop-holds : tie.Need-loop-holds Inv-loop μ-loop
 loop-holds c = (refl, c .pre .0)
 
--- src/lib.rt:146:9
 join-values-requires : tie.Need-join-values-requires Inv-loop μ-loop
 join-values-requires c κs = search needs
 
--- src/lib.rt:147:13
 element-copy-out-m : tie.Need-element-copy-out-m Inv-loop μ-loop
 element-copy-out-m c =
     let at-loop = c .before .before .before .before in
     goes-on-unsettled (at-loop .loop .left) (at-loop .loop .m) (at-loop .loop .q .settled) (c .before .before .if1 .taken) .1
 
--- src/lib.rt:147:13
 cast-m : tie.Need-cast-m Inv-loop μ-loop
 cast-m c = fits (c .before .before .before .before .before .before) (c .before .before .before .before .before .loop .m)
 
--- src/lib.rt:148:9
 sub-left : tie.Need-sub-left Inv-loop μ-loop
 sub-left c =
     let at-if1 = c .before .before .before in
     let at-loop = at-if1 .before .before in
     omega (arith, goes-on-unsettled (at-loop .loop .left) (at-loop .loop .m) (at-loop .loop .q .settled) (at-if1 .if1 .taken) .0)
 
--- src/lib.rt:144:5
 loop-less : tie.Need-loop-less Inv-loop μ-loop
 loop-less c =
     let at-if1 = c .before .before .before in
     let at-loop = at-if1 .before .before in
     omega (arith, goes-on-unsettled (at-loop .loop .left) (at-loop .loop .m) (at-loop .loop .q .settled) (at-if1 .if1 .taken) .0)
 
--- src/lib.rt:144:5
 loop-again : tie.Need-loop-again Inv-loop μ-loop
 loop-again c =
     let at-if1 = c .before .before .before in
@@ -70,15 +63,12 @@ loop-again c =
       c .before .join-values .ensures .good,
     )
 
--- src/lib.rt:152:13
 join-settled-requires : tie.Need-join-settled-requires Inv-loop μ-loop
 join-settled-requires c κs = (c .before .before .before .before .loop .inv .1 (c .before .if2 .taken), c .before .before .before .before .before .pre .1)
 
--- src/lib.rt:153:9
 returns : tie.Need-returns Inv-loop μ-loop
 returns c = record { whole = c .join-settled .ensures .whole ∙ c .before .before .before .before .before .loop .inv .0; good = c .join-settled .ensures .good }
 
--- src/lib.rt:136:1
 returns-2 : tie.Need-returns-2 Inv-loop μ-loop
 returns-2 c =
     let at-loop = c .before .before .before in

@@ -8,26 +8,21 @@ use Rattle.constraint_set.proofs.normalize.Reads as normalize-reads
 use Rattle.value_classes.proofs.ValueEquivalenceClasses.parents_ok.Reads as parents-ok-reads
 use Rattle.value_classes.proofs.ValueEquivalenceClasses.union.Reads as union-reads
 
--- src/lib.rt:58:9
 union-requires : tie.Need-union-requires
 union-requires c κs = search needs
 
--- src/lib.rt:61:13
 parents-ok-requires : tie.Need-parents-ok-requires
 parents-ok-requires c κs = search needs
 
--- src/lib.rt:64:13
 normalize-requires : tie.Need-normalize-requires
 normalize-requires c κs = search needs
 
--- src/lib.rt:65:9
 returns : tie.Need-returns
 returns c = fully-joined (c .before .before .before .before .before .before .args .s) (c .before .before .before .before .before .before .args .left)
     (c .before .before .before .before .before .before .args .right) (c .before .before .before .before .union .result)
     (c .before .before .before .before .union .ensures) (c .normalize .result) (c .before .parents-ok .result) (search needs)
     (c .before .before .before .if1 .taken) (c .before .parents-ok .ensures) (c .normalize .ensures)
 
--- src/lib.rt:54:1
 returns-2 : tie.Need-returns-2
 returns-2 c =
     let start = c .before .before .before in

@@ -26,48 +26,37 @@ Inv-loop members q₀ r₀ q r = (r ≤ 128) × (q .constraints ≡ stepsTo (joi
 abbrev μ-loop : tie.MeasureT-loop
 μ-loop members q₀ r₀ q r = 128 - r
 
--- src/lib.rt:164:19
 members-requires : tie.Need-members-requires Inv-loop μ-loop
 members-requires c κs = search needs
 
--- src/lib.rt:170:5
 loop-holds : tie.Need-loop-holds Inv-loop μ-loop
 unfolding stepsTo
 loop-holds c = (omega arith, refl, not-yet (c .before .args .t))
 
--- src/lib.rt:171:21
 element-copy-out-first : tie.Need-element-copy-out-first Inv-loop μ-loop
 element-copy-out-first c = search needs
 
--- src/lib.rt:171:21
 cast-first : tie.Need-cast-first Inv-loop μ-loop
 cast-first c = search needs
 
--- src/lib.rt:172:20
 element-copy-out-next : tie.Need-element-copy-out-next Inv-loop μ-loop
 element-copy-out-next c = search needs
 
--- src/lib.rt:172:20
 cast-next : tie.Need-cast-next Inv-loop μ-loop
 cast-next c = search needs
 
--- src/lib.rt:173:13
 second-member-requires : tie.Need-second-member-requires Inv-loop μ-loop
 second-member-requires c κs = search needs
 
--- src/lib.rt:175:13
 join-class-requires : tie.Need-join-class-requires Inv-loop μ-loop
 join-class-requires c κs = (c .before .before .before .before .before .loop .inv .2, c .before .before .before .before .loop-test .taken)
 
--- src/lib.rt:177:9
 add-r : tie.Need-add-r Inv-loop μ-loop
 add-r c = search needs
 
--- src/lib.rt:170:5
 loop-less : tie.Need-loop-less Inv-loop μ-loop
 loop-less c = search needs
 
--- src/lib.rt:170:5
 loop-again : tie.Need-loop-again Inv-loop μ-loop
 loop-again c =
     let at-loop = c .before .before .before .before .before in
@@ -90,7 +79,6 @@ loop-again c =
       subst SettledIf (sym (w .1)) (v .2),
     )) (c .if1 .came)
 
--- src/lib.rt:161:1
 returns : tie.Need-returns Inv-loop μ-loop
 unfolding mergeClasses
 returns c =

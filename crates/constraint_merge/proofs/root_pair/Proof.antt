@@ -8,18 +8,15 @@ use Rattle.constraint_merge.proofs.root_pair.Lts as lts
 use Rattle.value_classes.proofs.ValueEquivalenceClasses.canonical.Reads as canonical-reads
 use Rattle.value_classes.proofs.ValueEquivalenceClasses.join_roots.Reads as join-roots-reads
 
--- src/lib.rt:33:9
 canonical-requires : tie.Need-canonical-requires
 canonical-requires c κs = search needs
 
--- src/lib.rt:34:9
 canonical-requires-2 : tie.Need-canonical-requires-2
 canonical-requires-2 c κs = search needs
 
 join-roots-requires : tie.Need-join-roots-requires
 join-roots-requires c κs = search needs
 
--- src/lib.rt:38:9
 returns : tie.Need-returns
 returns c =
     let at-canonical2 = c .before .before in
@@ -34,7 +31,6 @@ returns c =
 join-roots-requires-2 : tie.Need-join-roots-requires-2
 join-roots-requires-2 c κs = search needs
 
--- src/lib.rt:28:1
 returns-2 : tie.Need-returns-2
 returns-2 c =
     let at-canonical2 = c .before .before in

@@ -14,35 +14,28 @@ use Rattle.constraint_set.proofs.put_literal.Reads as put-literal-reads
 use Rattle.scalar.proofs.is_null.Reads as is-null-reads
 use Rattle.value_classes.proofs.ValueEquivalenceClasses.canonical.Reads as canonical-reads
 
--- src/lib.rt:332:9
 returns : tie.Need-returns
 unfolding addLiteral
 returns c = rw (le-ltb _ _ (c .if1 .taken))
 
--- src/lib.rt:334:8
 is-null-requires : tie.Need-is-null-requires
 is-null-requires c κs = search needs
 
--- src/lib.rt:337:9
 returns-2 : tie.Need-returns-2
 unfolding addLiteral
 returns-2 c = rw (lt-ltb _ _ (c .before .before .if1 .left), sym (c .before .is-null .ensures) ∙ c .if2 .taken)
 
--- src/lib.rt:340:9
 canonical-requires : tie.Need-canonical-requires
 canonical-requires c κs = search needs
 
--- src/lib.rt:341:9
 put-literal-requires : tie.Need-put-literal-requires
 put-literal-requires c κs =
     let start = c .before .before .before .before .before in
     canonical-small (start .args .s .«equivalence_classes») _ _ (search needs) (c .canonical .ensures) (omega arith)
 
--- src/lib.rt:342:5
 cross-check-literals-and-ranges-requires : tie.Need-cross-check-literals-and-ranges-requires
 cross-check-literals-and-ranges-requires c κs = search needs
 
--- src/lib.rt:328:1
 returns-3 : tie.Need-returns-3
 returns-3 c =
     let at-if2 = c .before .before .before .before in

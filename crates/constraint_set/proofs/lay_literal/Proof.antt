@@ -13,57 +13,46 @@ use Rattle.constraint_set.proofs.put_literal.Reads as put-literal-reads
 use Rattle.scalar.proofs.is_null.Reads as is-null-reads
 use Rattle.value_classes.proofs.ValueEquivalenceClasses.canonical.Reads as canonical-reads
 
--- src/lib.rt:351:19
 is-null-requires : tie.Need-is-null-requires
 is-null-requires c κs = search needs
 
--- src/lib.rt:352:9
 add-literal-requires : tie.Need-add-literal-requires
 add-literal-requires c κs = search needs
 
--- src/lib.rt:352:9
 returns : tie.Need-returns
 returns c = search needs
 
--- src/lib.rt:355:9
 canonical-requires : tie.Need-canonical-requires
 canonical-requires c κs = search needs
 
--- src/lib.rt:356:17
 put-literal-requires : tie.Need-put-literal-requires
 put-literal-requires c κs =
     let start = c .before .before .before .before in
     canonical-small (start .args .s .«equivalence_classes») _ _ (search needs) (c .canonical .ensures) (omega arith)
 
--- src/lib.rt:357:13
 mul-h : tie.Need-mul-h
 mul-h c =
     let start = c .before .before .before .before .before in
     omega (arith, canonical-small (start .args .s .«equivalence_classes») _ _ (search needs) (c .before .canonical .ensures) (omega arith))
 
--- src/lib.rt:357:13
 element-copy-out-h : tie.Need-element-copy-out-h
 element-copy-out-h c =
     let start = c .before .before .before .before .before in
     canonical-small (start .args .s .«equivalence_classes») _ _ (search needs) (c .before .canonical .ensures) (omega arith)
 
--- src/lib.rt:358:13
 mul-e : tie.Need-mul-e
 mul-e c =
     let start = c .before .before .before .before .before .before in
     omega (arith, canonical-small (start .args .s .«equivalence_classes») _ _ (search needs) (c .before .before .canonical .ensures) (omega arith))
 
--- src/lib.rt:358:13
 element-copy-out-e : tie.Need-element-copy-out-e
 element-copy-out-e c =
     let start = c .before .before .before .before .before .before in
     canonical-small (start .args .s .«equivalence_classes») _ _ (search needs) (c .before .before .canonical .ensures) (omega arith)
 
--- src/lib.rt:359:9
 is-crossed-requires : tie.Need-is-crossed-requires
 is-crossed-requires c κs = search needs
 
--- src/lib.rt:346:1
 returns-2 : tie.Need-returns-2
 returns-2 c = literal-checked (c .before .before .before .before .before .before .before .before .args .s)
     (c .before .before .before .before .before .before .before .before .pre .1

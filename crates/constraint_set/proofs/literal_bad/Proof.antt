@@ -6,16 +6,13 @@ use Rattle.constraint_set.proofs.literal_bad.Reads as reads
 use Rattle.constraint_set.proofs.literal_bad.Lts as lts
 use Rattle.constraint_set.proofs.literal_clashes.Reads as literal-clashes-reads
 
--- src/lib.rt:520:9
 literal-clashes-requires : tie.Need-literal-clashes-requires
 literal-clashes-requires c κs = search needs
 
--- src/lib.rt:520:9
 returns : tie.Need-returns
 unfolding literalBad
 returns c = rw (c .before .if1 .taken) (c .literal-clashes .ensures)
 
--- src/lib.rt:515:1
 returns-2 : tie.Need-returns-2
 unfolding literalBad
 returns-2 c = rw (c .if1 .left)

@@ -7,20 +7,16 @@ use Rattle.constraint_set.proofs.literal_on.Lts as lts
 use Rattle.constraint_set.proofs.literal_clashes.Reads as literal-clashes-reads
 use Rattle.constraint_set.proofs.literal_kept.Reads as literal-kept-reads
 
--- src/lib.rt:509:13
 literal-clashes-requires : tie.Need-literal-clashes-requires
 literal-clashes-requires c κs = search needs
 
--- src/lib.rt:510:9
 literal-kept-requires : tie.Need-literal-kept-requires
 literal-kept-requires c κs = search needs
 
--- src/lib.rt:510:9
 returns : tie.Need-returns
 unfolding literalOn
 returns c = rw (c .before .before .if1 .taken, ← c .before .literal-clashes .ensures) (c .literal-kept .ensures)
 
--- src/lib.rt:504:1
 returns-2 : tie.Need-returns-2
 unfolding literalOn
 returns-2 c = rw (c .if1 .left)

@@ -21,32 +21,25 @@ Inv-loop others q₀ checked₀ i₀ q checked i = (i ≤ 128) × (q ≡ stepsTo
 abbrev μ-loop : tie.MeasureT-loop
 μ-loop others q₀ checked₀ i₀ q checked i = 128 - i
 
--- src/lib.rt:372:5
 loop-holds : tie.Need-loop-holds Inv-loop μ-loop
 unfolding stepsTo
 loop-holds c = (omega arith, refl, unchecked (c .args .t))
 
--- src/lib.rt:373:17
 mul-h : tie.Need-mul-h Inv-loop μ-loop
 mul-h c = search needs
 
--- src/lib.rt:373:17
 array-copy-out-h : tie.Need-array-copy-out-h Inv-loop μ-loop
 array-copy-out-h c = search needs
 
--- src/lib.rt:376:13
 lay-literal-requires : tie.Need-lay-literal-requires Inv-loop μ-loop
 lay-literal-requires c κs = (c .before .before .loop-test .taken, c .before .before .before .loop .inv .2)
 
--- src/lib.rt:379:9
 add-i : tie.Need-add-i Inv-loop μ-loop
 add-i c = search needs
 
--- src/lib.rt:372:5
 loop-less : tie.Need-loop-less Inv-loop μ-loop
 loop-less c = search needs
 
--- src/lib.rt:372:5
 loop-again : tie.Need-loop-again Inv-loop μ-loop
 loop-again c =
     let at-loop = c .before .before .before in
@@ -67,7 +60,6 @@ loop-again c =
       λ e. subst Checked (sym (w .1)) (v .2 (sym (w .2) ∙ e)),
     )) (c .if1 .came)
 
--- src/lib.rt:366:1
 returns : tie.Need-returns Inv-loop μ-loop
 unfolding mergeLiterals
 returns c = let e : c .before .loop .i ≡ 128 = omega arith in rw e at (c .before .loop .inv .1)

@@ -10,27 +10,21 @@ use Rattle.constraint_set.proofs.literal_on.Reads as literal-on-reads
 use Rattle.constraint_set.proofs.range_bad.Reads as range-bad-reads
 use Rattle.constraint_set.proofs.range_on.Reads as range-on-reads
 
--- src/lib.rt:550:9
 literal-on-requires : tie.Need-literal-on-requires
 literal-on-requires c κs = search needs
 
--- src/lib.rt:551:9
 range-on-requires : tie.Need-range-on-requires
 range-on-requires c κs = search needs
 
--- src/lib.rt:552:9
 literal-bad-requires : tie.Need-literal-bad-requires
 literal-bad-requires c κs = search needs
 
--- src/lib.rt:553:9
 range-bad-requires : tie.Need-range-bad-requires
 range-bad-requires c κs = search needs
 
--- src/lib.rt:554:9
 is-crossed-requires : tie.Need-is-crossed-requires
 is-crossed-requires c κs = search needs
 
--- src/lib.rt:547:1
 returns : tie.Need-returns
 returns c =
     let at-range-on = c .before .before .before in

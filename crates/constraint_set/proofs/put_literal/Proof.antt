@@ -8,35 +8,27 @@ use Rattle.constraint_set.proofs.put_literal.Lts as lts
 use Rattle.constraint_set.proofs.literal_clashes.Reads as literal-clashes-reads
 use Rattle.constraint_set.proofs.literal_kept.Reads as literal-kept-reads
 
--- src/lib.rt:318:15
 mul-old : tie.Need-mul-old
 mul-old c = search needs
 
--- src/lib.rt:318:15
 element-copy-out-old : tie.Need-element-copy-out-old
 element-copy-out-old c = search needs
 
--- src/lib.rt:319:9
 literal-clashes-requires : tie.Need-literal-clashes-requires
 literal-clashes-requires c κs = search needs
 
--- src/lib.rt:320:9
 literal-kept-requires : tie.Need-literal-kept-requires
 literal-kept-requires c κs = search needs
 
--- src/lib.rt:322:5
 element-write-t : tie.Need-element-write-t
 element-write-t c = search needs
 
--- src/lib.rt:323:5
 mul-h : tie.Need-mul-h
 mul-h c = search needs
 
--- src/lib.rt:323:5
 element-set-from-h : tie.Need-element-set-from-h
 element-set-from-h c = search needs
 
--- src/lib.rt:313:1
 returns : tie.Need-returns
 unfolding putNonNull
 returns c =

@@ -7,20 +7,16 @@ use Rattle.constraint_set.proofs.range_bad.Lts as lts
 use Rattle.constraint_set.proofs.tightened.Reads as tightened-reads
 use Rattle.value_range.proofs.ValueRange.is_empty.Reads as is-empty-reads
 
--- src/lib.rt:541:13
 tightened-requires : tie.Need-tightened-requires
 tightened-requires c κs = search needs
 
--- src/lib.rt:542:9
 is-empty-requires : tie.Need-is-empty-requires
 is-empty-requires c κs = search needs
 
--- src/lib.rt:542:9
 returns : tie.Need-returns
 unfolding rangeBad
 returns c = rw (c .before .before .before .if1 .taken, ← c .before .tightened .ensures) (c .is-empty .ensures)
 
--- src/lib.rt:536:1
 returns-2 : tie.Need-returns-2
 unfolding rangeBad
 returns-2 c = rw (c .if1 .left)

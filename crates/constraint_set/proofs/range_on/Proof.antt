@@ -7,20 +7,16 @@ use Rattle.constraint_set.proofs.range_on.Lts as lts
 use Rattle.constraint_set.proofs.entry_of.Reads as entry-of-reads
 use Rattle.constraint_set.proofs.tightened.Reads as tightened-reads
 
--- src/lib.rt:530:13
 tightened-requires : tie.Need-tightened-requires
 tightened-requires c κs = search needs
 
--- src/lib.rt:531:9
 entry-of-requires : tie.Need-entry-of-requires
 entry-of-requires c κs = search needs
 
--- src/lib.rt:531:9
 returns : tie.Need-returns
 unfolding rangeOn
 returns c = rw (c .before .before .before .if1 .taken, ← c .before .tightened .ensures) (c .entry-of .ensures)
 
--- src/lib.rt:525:1
 returns-2 : tie.Need-returns-2
 unfolding rangeOn
 returns-2 c = rw (c .if1 .left)

@@ -3,11 +3,9 @@ use Rattle.logical_facts.proofs.answer.Tie as tie
 use Rattle.logical_facts.proofs.answer.Reads as reads
 use Rattle.logical_facts.proofs.answer.Lts as lts
 
--- src/lib.rt:426:9
 returns : tie.Need-returns
 returns c = rw (c .if1 .taken)
 
--- src/lib.rt:422:1
 returns-2 : tie.Need-returns-2
 returns-2 c = rw (c .if1 .left)
 

@@ -6,11 +6,9 @@ use Rattle.logical_facts.proofs.definition_ok.Reads as reads
 use Rattle.logical_facts.proofs.definition_ok.Lts as lts
 use Rattle.lists.proofs.at16.Reads as at16-reads
 
--- src/lib.rt:368:9
 at16-requires : tie.Need-at16-requires
 at16-requires c κs = search needs
 
--- src/lib.rt:365:1
 returns : tie.Need-returns
 unfolding definitionOk
 returns c = rw (c .at16 .ensures)

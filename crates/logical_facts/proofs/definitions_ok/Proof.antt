@@ -20,15 +20,12 @@ Inv-loop definitions nc ne c₀ c = (c ≤ 64) × (allFrom (definitionOk definit
 abbrev μ-loop : tie.MeasureT-loop
 μ-loop definitions nc ne c₀ c = 64 - c
 
--- src/lib.rt:376:5
 loop-holds : tie.Need-loop-holds Inv-loop μ-loop
 loop-holds c = (omega arith, ap (allFrom (definitionOk (now (c .before .args .definitions)) (c .before .args .nc) (c .before .args .ne)) 0) (sym (sub-zero 64)))
 
--- src/lib.rt:377:13
 definition-ok-requires : tie.Need-definition-ok-requires Inv-loop μ-loop
 definition-ok-requires c κs = search needs
 
--- src/lib.rt:378:13
 returns : tie.Need-returns Inv-loop μ-loop
 returns c =
     let at-loop = c .before .before .before in
@@ -37,15 +34,12 @@ returns c =
     sym (at-loop .loop .inv .1 ∙ all-fails (definitionOk (now (args .definitions)) (args .nc) (args .ne)) (at-loop .loop .c) 64
     (c .before .before .loop-test .taken) (sym (c .before .definition-ok .ensures) ∙ not-true _ (c .if1 .taken)))
 
--- src/lib.rt:380:9
 add-c : tie.Need-add-c Inv-loop μ-loop
 add-c c = search needs
 
--- src/lib.rt:376:5
 loop-less : tie.Need-loop-less Inv-loop μ-loop
 loop-less c = search needs
 
--- src/lib.rt:376:5
 loop-again : tie.Need-loop-again Inv-loop μ-loop
 loop-again c =
     let at-loop = c .before .before .before in
@@ -56,7 +50,6 @@ loop-again c =
           (c .before .before .loop-test .taken) (sym (c .before .definition-ok .ensures) ∙ not-false _ (c .if1 .left)),
     )
 
--- src/lib.rt:372:1
 returns-2 : tie.Need-returns-2 Inv-loop μ-loop
 returns-2 c =
     let start = c .before .before .before in

@@ -11,21 +11,17 @@ use Rattle.logical_facts.proofs.definitions_ok.Reads as definitions-ok-
 use Rattle.logical_facts.proofs.lineages_ok.Reads as lineages-ok-reads
 use Rattle.logical_facts.proofs.residuals_ok.Reads as residuals-ok-reads
 
--- src/lib.rt:407:9
 lineages-ok-requires : tie.Need-lineages-ok-requires
 lineages-ok-requires c κs = search needs
 
--- src/lib.rt:408:9
 returns : tie.Need-returns
 returns c =
     let start = c .before .before .before .before .before .before .before .before in
     facts-fail-1 (start .args .p) (start .args .t2) (sym (c .before .lineages-ok .ensures) ∙ not-true _ (c .if1 .taken))
 
--- src/lib.rt:410:9
 definitions-ok-requires : tie.Need-definitions-ok-requires
 definitions-ok-requires c κs = search needs
 
--- src/lib.rt:411:9
 returns-2 : tie.Need-returns-2
 returns-2 c =
     let at-if1 = c .before .before .before .before .before in
@@ -34,11 +30,9 @@ returns-2 c =
     facts-fail-2 (start .args .p) (start .args .t2) (sym (at-lineages-ok .lineages-ok .ensures) ∙ not-false _ (at-if1 .if1 .left))
     (sym (c .before .definitions-ok .ensures) ∙ not-true _ (c .if2 .taken))
 
--- src/lib.rt:413:9
 set-ok-requires : tie.Need-set-ok-requires
 set-ok-requires c κs = search needs
 
--- src/lib.rt:414:9
 returns-3 : tie.Need-returns-3
 returns-3 c =
     let at-definitions-ok = c .before .before .before in
@@ -49,11 +43,9 @@ returns-3 c =
     (sym (at-definitions-ok .definitions-ok .ensures) ∙ not-false _ (c .before .before .if2 .left))
     (sym (c .before .set-ok .ensures) ∙ not-true _ (c .if3 .taken))
 
--- src/lib.rt:416:5
 residuals-ok-requires : tie.Need-residuals-ok-requires
 residuals-ok-requires c κs = search needs
 
--- src/lib.rt:399:1
 returns-4 : tie.Need-returns-4
 returns-4 c =
     let at-if2 = c .before .before .before in

@@ -8,19 +8,15 @@ use Rattle.logical_facts.proofs.answer.Reads as answer-reads
 use Rattle.logical_facts.proofs.merge_constraints.Reads as merge-constraints-reads
 use Rattle.logical_facts.proofs.override_columns.Reads as override-columns-reads
 
--- src/lib.rt:526:9
 override-columns-requires : tie.Need-override-columns-requires
 override-columns-requires c κs = search needs
 
--- src/lib.rt:536:9
 merge-constraints-requires : tie.Need-merge-constraints-requires
 merge-constraints-requires c κs = search needs
 
--- src/lib.rt:537:5
 answer-requires : tie.Need-answer-requires
 answer-requires c κs = search needs
 
--- src/lib.rt:519:1
 returns : tie.Need-returns
 returns c =
     let at-override-columns = c .before .before .before .before .before .before in

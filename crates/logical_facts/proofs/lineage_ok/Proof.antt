@@ -7,28 +7,22 @@ use Rattle.logical_facts.proofs.lineage_ok.Reads as reads
 use Rattle.logical_facts.proofs.lineage_ok.Lts as lts
 use Rattle.lists.proofs.at8.Reads as at8-reads
 
--- src/lib.rt:343:13
 at8-requires : tie.Need-at8-requires
 at8-requires c κs = search needs
 
--- src/lib.rt:343:13
 cast-v : tie.Need-cast-v
 cast-v c = search needs
 
--- src/lib.rt:346:9
 returns : tie.Need-returns
 unfolding lineageOk
 returns c = rw (← c .before .at8 .ensures, c .if1 .taken)
 
--- src/lib.rt:348:13
 sub-i : tie.Need-sub-i
 sub-i c = search needs
 
--- src/lib.rt:349:44
 add-result : tie.Need-add-result
 add-result c = search needs
 
--- src/lib.rt:340:1
 returns-2 : tie.Need-returns-2
 unfolding lineageOk
 returns-2 c = rw (← c .before .at8 .ensures, ne-eqb _ 0 (c .if1 .left))

@@ -20,15 +20,12 @@ Inv-loop lineage nc c₀ c = (c ≤ 64) × (allFrom (lineageOk lineage nc) 0 64 
 abbrev μ-loop : tie.MeasureT-loop
 μ-loop lineage nc c₀ c = 64 - c
 
--- src/lib.rt:356:5
 loop-holds : tie.Need-loop-holds Inv-loop μ-loop
 loop-holds c = (omega arith, ap (allFrom (lineageOk (now (c .before .args .lineage)) (c .before .args .nc)) 0) (sym (sub-zero 64)))
 
--- src/lib.rt:357:13
 lineage-ok-requires : tie.Need-lineage-ok-requires Inv-loop μ-loop
 lineage-ok-requires c κs = search needs
 
--- src/lib.rt:358:13
 returns : tie.Need-returns Inv-loop μ-loop
 returns c =
     let at-loop = c .before .before .before in
@@ -36,15 +33,12 @@ returns c =
     sym (at-loop .loop .inv .1 ∙ all-fails (lineageOk (now (start .args .lineage)) (start .args .nc)) (at-loop .loop .c) 64
     (c .before .before .loop-test .taken) (sym (c .before .lineage-ok .ensures) ∙ not-true _ (c .if1 .taken)))
 
--- src/lib.rt:360:9
 add-c : tie.Need-add-c Inv-loop μ-loop
 add-c c = search needs
 
--- src/lib.rt:356:5
 loop-less : tie.Need-loop-less Inv-loop μ-loop
 loop-less c = search needs
 
--- src/lib.rt:356:5
 loop-again : tie.Need-loop-again Inv-loop μ-loop
 loop-again c =
     let at-loop = c .before .before .before in
@@ -54,7 +48,6 @@ loop-again c =
           (c .before .before .loop-test .taken) (sym (c .before .lineage-ok .ensures) ∙ not-false _ (c .if1 .left)),
     )
 
--- src/lib.rt:352:1
 returns-2 : tie.Need-returns-2 Inv-loop μ-loop
 returns-2 c =
     let start = c .before .before .before in

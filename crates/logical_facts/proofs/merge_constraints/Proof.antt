@@ -5,15 +5,12 @@ use Rattle.logical_facts.proofs.merge_constraints.Reads as reads
 use Rattle.logical_facts.proofs.merge_constraints.Lts as lts
 use Rattle.constraint_merge.proofs.merge_from.Reads as merge-from-reads
 
--- src/lib.rt:513:9
 merge-from-requires : tie.Need-merge-from-requires
 merge-from-requires c κs = search needs
 
--- src/lib.rt:513:9
 returns : tie.Need-returns
 returns c = rw (c .before .if1 .taken) (c .merge-from .ensures)
 
--- src/lib.rt:509:1
 returns-2 : tie.Need-returns-2
 returns-2 c = rw (c .if1 .left)
 

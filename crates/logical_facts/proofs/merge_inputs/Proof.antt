@@ -11,15 +11,12 @@ use Rattle.logical_facts.proofs.inputs_merged.Reads as inputs-merged-re
 use Rattle.logical_facts.proofs.no_such.Reads as no-such-reads
 use Rattle.plan_rules.proofs.plan_ok.Reads as plan-ok-reads
 
--- src/lib.rt:543:9
 plan-ok-requires : tie.Need-plan-ok-requires
 plan-ok-requires c κs = search needs
 
--- src/lib.rt:544:9
 no-such-requires : tie.Need-no-such-requires
 no-such-requires c κs = search needs
 
--- src/lib.rt:544:9
 returns : tie.Need-returns
 returns c =
     let start = c .before .before .before in
@@ -27,15 +24,12 @@ returns c =
     c .no-such .ensures ∙ merge-fail-1 (args .p) (args .left) (args .right) (args .merge)
     (sym (c .before .before .plan-ok .ensures) ∙ not-true _ (c .before .if1 .taken))
 
--- src/lib.rt:546:9
 facts-ok-requires : tie.Need-facts-ok-requires
 facts-ok-requires c κs = search needs
 
--- src/lib.rt:547:9
 no-such-requires-2 : tie.Need-no-such-requires-2
 no-such-requires-2 c κs = search needs
 
--- src/lib.rt:547:9
 returns-2 : tie.Need-returns-2
 returns-2 c =
     let at-if1 = c .before .before .before in
@@ -45,15 +39,12 @@ returns-2 c =
     c .no-such2 .ensures ∙ merge-fail-2 (args .p) (args .left) (args .right) (args .merge)
     (sym (at-plan-ok .plan-ok .ensures) ∙ not-false _ (at-if1 .if1 .left)) (sym (c .before .before .facts-ok .ensures) ∙ not-true _ (c .before .if2 .taken))
 
--- src/lib.rt:549:9
 facts-ok-requires-2 : tie.Need-facts-ok-requires-2
 facts-ok-requires-2 c κs = search needs
 
--- src/lib.rt:550:9
 no-such-requires-3 : tie.Need-no-such-requires-3
 no-such-requires-3 c κs = search needs
 
--- src/lib.rt:550:9
 returns-3 : tie.Need-returns-3
 returns-3 c =
     let at-if2 = c .before .before .before in
@@ -66,11 +57,9 @@ returns-3 c =
     (sym (at-plan-ok .plan-ok .ensures) ∙ not-false _ (at-if1 .if1 .left)) (sym (at-facts-ok .facts-ok .ensures) ∙ not-false _ (at-if2 .if2 .left))
     (sym (c .before .before .facts-ok2 .ensures) ∙ not-true _ (c .before .if3 .taken))
 
--- src/lib.rt:552:5
 inputs-merged-requires : tie.Need-inputs-merged-requires
 inputs-merged-requires c κs = search needs
 
--- src/lib.rt:540:1
 returns-4 : tie.Need-returns-4
 returns-4 c =
     let at-if2 = c .before .before .before in

@@ -16,69 +16,53 @@ Inv-loop right t₀ c₀ t c = (c ≤ 64) × (t ≡ overTo t₀ right c)
 abbrev μ-loop : tie.MeasureT-loop
 μ-loop right t₀ c₀ t c = 64 - c
 
--- src/lib.rt:498:5
 loop-holds : tie.Need-loop-holds Inv-loop μ-loop
 loop-holds c = (omega arith, over-none _ _)
 
--- src/lib.rt:499:17
 element-copy-out-l : tie.Need-element-copy-out-l Inv-loop μ-loop
 element-copy-out-l c = search needs
 
--- src/lib.rt:500:17
 mul-d : tie.Need-mul-d Inv-loop μ-loop
 mul-d c = search needs
 
--- src/lib.rt:500:17
 element-copy-out-d : tie.Need-element-copy-out-d Inv-loop μ-loop
 element-copy-out-d c = search needs
 
--- src/lib.rt:501:30
 element-copy-out-over8 : tie.Need-element-copy-out-over8 Inv-loop μ-loop
 element-copy-out-over8 c = search needs
 
--- src/lib.rt:501:24
 over8-requires : tie.Need-over8-requires Inv-loop μ-loop
 over8-requires c κs = search needs
 
--- src/lib.rt:501:9
 element-write-t : tie.Need-element-write-t Inv-loop μ-loop
 element-write-t c = search needs
 
--- src/lib.rt:502:35
 mul-over16 : tie.Need-mul-over16 Inv-loop μ-loop
 mul-over16 c = search needs
 
--- src/lib.rt:502:35
 element-copy-out-over16 : tie.Need-element-copy-out-over16 Inv-loop μ-loop
 element-copy-out-over16 c = search needs
 
--- src/lib.rt:502:28
 over16-requires : tie.Need-over16-requires Inv-loop μ-loop
 over16-requires c κs = search needs
 
--- src/lib.rt:502:9
 mul-t : tie.Need-mul-t Inv-loop μ-loop
 mul-t c = search needs
 
--- src/lib.rt:502:9
 element-write-t-2 : tie.Need-element-write-t-2 Inv-loop μ-loop
 element-write-t-2 c = search needs
 
--- src/lib.rt:503:9
 add-c : tie.Need-add-c Inv-loop μ-loop
 add-c c = search needs
 
--- src/lib.rt:498:5
 loop-less : tie.Need-loop-less Inv-loop μ-loop
 loop-less c = search needs
 
--- src/lib.rt:498:5
 loop-again : tie.Need-loop-again Inv-loop μ-loop
 loop-again c =
     let at-loop = c .before .before .before .before .before .before .before in
     (omega arith, over-next _ _ (at-loop .loop .t) (at-loop .loop .c) _ _ (at-loop .loop .inv .1) (c .before .before .over8 .ensures) (c .over16 .ensures))
 
--- src/lib.rt:493:1
 returns : tie.Need-returns Inv-loop μ-loop
 returns c = over-all (c .before .before .args .left) (c .before .before .args .t2) (c .before .loop .t) (c .before .loop .c) (c .before .loop .inv .0)
     (c .loop-test .left) (c .before .loop .inv .1)

@@ -22,15 +22,12 @@ Inv-loop ne s n k₀ k = (k ≤ n) × (allFrom (residualOk s ne) 0 n ≡ allFrom
 abbrev μ-loop : tie.MeasureT-loop
 μ-loop ne s n k₀ k = n - k
 
--- src/lib.rt:390:5
 loop-holds : tie.Need-loop-holds Inv-loop μ-loop
 loop-holds c = (omega arith, ap (allFrom (residualOk (c .args .t1) (c .args .ne)) 0) (sym (sub-zero (c .args .t1 .residuals))))
 
--- src/lib.rt:391:18
 at16-requires : tie.Need-at16-requires Inv-loop μ-loop
 at16-requires c κs = search needs
 
--- src/lib.rt:392:13
 returns : tie.Need-returns Inv-loop μ-loop
 returns c =
     let at-loop-test = c .before .before .before .before .before in
@@ -40,15 +37,12 @@ returns c =
     sym (at-loop .loop .inv .1 ∙ all-fails (residualOk (args .t1) (args .ne)) (at-loop .loop .k) (args .t1 .residuals) (at-loop-test .loop-test .taken)
     (ap (λ (v : ℕ). ltb v (args .ne)) (sym (c .before .at16 .ensures)) ∙ le-ltb _ _ (c .if1 .taken)))
 
--- src/lib.rt:394:9
 add-k : tie.Need-add-k Inv-loop μ-loop
 add-k c = search needs
 
--- src/lib.rt:390:5
 loop-less : tie.Need-loop-less Inv-loop μ-loop
 loop-less c = search needs
 
--- src/lib.rt:390:5
 loop-again : tie.Need-loop-again Inv-loop μ-loop
 loop-again c =
     let at-loop-test = c .before .before .before .before .before in
@@ -60,7 +54,6 @@ loop-again c =
           (at-loop-test .loop-test .taken) (ap (λ (v : ℕ). ltb v (args .ne)) (sym (c .before .at16 .ensures)) ∙ lt-ltb _ _ (c .if1 .left)),
     )
 
--- src/lib.rt:385:1
 returns-2 : tie.Need-returns-2 Inv-loop μ-loop
 returns-2 c =
     let start = c .before .before in

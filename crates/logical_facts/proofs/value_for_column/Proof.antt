@@ -7,28 +7,22 @@ use Rattle.logical_facts.proofs.value_for_column.Reads as reads
 use Rattle.logical_facts.proofs.value_for_column.Lts as lts
 use Rattle.lists.proofs.at8.Reads as at8-reads
 
--- src/lib.rt:548:36
 cast-at8 : tie.Need-cast-at8
 cast-at8 c = search needs
 
--- src/lib.rt:548:9
 at8-requires : tie.Need-at8-requires
 at8-requires c κs = search needs
 
--- src/lib.rt:550:9
 returns : tie.Need-returns
 unfolding valueForColumn
 returns c = rw (← c .before .at8 .ensures, c .if1 .taken)
 
--- src/lib.rt:552:21
 cast-t7 : tie.Need-cast-t7
 cast-t7 c = search needs
 
--- src/lib.rt:552:21
 sub-t9 : tie.Need-sub-t9
 sub-t9 c = search needs
 
--- src/lib.rt:545:1
 returns-2 : tie.Need-returns-2
 unfolding valueForColumn
 returns-2 c = rw (← c .before .at8 .ensures, ne-eqb _ 0 (c .if1 .left))

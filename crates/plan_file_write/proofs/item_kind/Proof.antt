@@ -7,23 +7,18 @@ use Rattle.plan_file_write.proofs.item_kind.Lts as lts
 use Rattle.plan_kinds.proofs.count_of.Reads as count-of-reads
 use Rattle.plan_kinds.proofs.row_of.Reads as row-of-reads
 
--- src/lib.rt:98:9
 row-of-requires : tie.Need-row-of-requires
 row-of-requires c κs = search needs
 
--- src/lib.rt:99:17
 count-of-requires : tie.Need-count-of-requires
 count-of-requires c κs = search needs
 
--- src/lib.rt:99:17
 cast-first : tie.Need-cast-first
 cast-first c = search needs
 
--- src/lib.rt:95:1
 returns : tie.Need-returns
 returns c = kind-first _ _ _ _ (c .before .before .row-of .ensures) (c .before .count-of .ensures) (c .if1 .taken)
 
--- src/lib.rt:95:1
 returns-2 : tie.Need-returns-2
 returns-2 c = kind-second _ _ _ _ (c .before .before .row-of .ensures) (c .before .count-of .ensures) (c .if1 .left)
 

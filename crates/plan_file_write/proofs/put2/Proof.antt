@@ -6,27 +6,21 @@ use Rattle.plan_file_write.proofs.put2.Reads as reads
 use Rattle.plan_file_write.proofs.put2.Lts as lts
 use Rattle.writing.proofs.byte.Reads as byte-reads
 
--- src/lib.rt:21:36
 cast-byte : tie.Need-cast-byte
 cast-byte c = search needs
 
--- src/lib.rt:21:9
 byte-requires : tie.Need-byte-requires
 byte-requires c κs = search needs
 
--- src/lib.rt:22:27
 cast-byte-2 : tie.Need-cast-byte-2
 cast-byte-2 c = search needs
 
--- src/lib.rt:22:5
 byte-requires-2 : tie.Need-byte-requires-2
 byte-requires-2 c κs = search needs
 
--- src/lib.rt:18:1
 same-length : tie.Need-same-length
 same-length c = search needs
 
--- src/lib.rt:18:1
 returns : tie.Need-returns
 returns c =
     let at-byte = c .before .before .before .before .before .before in

@@ -6,27 +6,21 @@ use Rattle.plan_file_write.proofs.put4.Reads as reads
 use Rattle.plan_file_write.proofs.put4.Lts as lts
 use Rattle.plan_file_write.proofs.put2.Reads as put2-reads
 
--- src/lib.rt:28:27
 cast-put2 : tie.Need-cast-put2
 cast-put2 c = search needs
 
--- src/lib.rt:28:9
 put2-requires : tie.Need-put2-requires
 put2-requires c κs = search needs
 
--- src/lib.rt:29:18
 cast-put2-2 : tie.Need-cast-put2-2
 cast-put2-2 c = search needs
 
--- src/lib.rt:29:5
 put2-requires-2 : tie.Need-put2-requires-2
 put2-requires-2 c κs = search needs
 
--- src/lib.rt:25:1
 same-length : tie.Need-same-length
 same-length c = search needs
 
--- src/lib.rt:25:1
 returns : tie.Need-returns
 returns c =
     let at-put2 = c .before .before .before .before .before .before in

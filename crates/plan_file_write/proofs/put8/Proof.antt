@@ -6,27 +6,21 @@ use Rattle.plan_file_write.proofs.put8.Reads as reads
 use Rattle.plan_file_write.proofs.put8.Lts as lts
 use Rattle.plan_file_write.proofs.put4.Reads as put4-reads
 
--- src/lib.rt:35:27
 cast-put4 : tie.Need-cast-put4
 cast-put4 c = search needs
 
--- src/lib.rt:35:9
 put4-requires : tie.Need-put4-requires
 put4-requires c κs = search needs
 
--- src/lib.rt:36:18
 cast-put4-2 : tie.Need-cast-put4-2
 cast-put4-2 c = search needs
 
--- src/lib.rt:36:5
 put4-requires-2 : tie.Need-put4-requires-2
 put4-requires-2 c κs = search needs
 
--- src/lib.rt:32:1
 same-length : tie.Need-same-length
 same-length c = search needs
 
--- src/lib.rt:32:1
 returns : tie.Need-returns
 returns c =
     let at-put4 = c .before .before .before .before .before .before in

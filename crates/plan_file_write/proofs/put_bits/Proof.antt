@@ -9,37 +9,29 @@ use Rattle.plan_file_write.proofs.put_bits.Lts as lts
 use Rattle.plan_file_write.proofs.put4.Reads as put4-reads
 use Rattle.plan_file_write.proofs.put8.Reads as put8-reads
 
--- src/lib.rt:63:30
 cast-put4 : tie.Need-cast-put4
 cast-put4 c = search needs
 
--- src/lib.rt:63:9
 put4-requires : tie.Need-put4-requires
 put4-requires c κs = search needs
 
--- src/lib.rt:63:9
 same-length : tie.Need-same-length
 same-length c = search needs
 
--- src/lib.rt:63:9
 returns : tie.Need-returns
 unfolding putBits
 returns c = rw (c .before .before .before .before .if1 .taken) (c .before .before .put4 .ensures)
 
--- src/lib.rt:66:9
 put8-requires : tie.Need-put8-requires
 put8-requires c κs = search needs
 
--- src/lib.rt:66:9
 same-length-2 : tie.Need-same-length-2
 same-length-2 c = search needs
 
--- src/lib.rt:66:9
 returns-2 : tie.Need-returns-2
 unfolding putBits
 returns-2 c = rw (c .before .before .before .before .if2 .taken) (c .before .before .put8 .ensures)
 
--- src/lib.rt:59:1
 returns-3 : tie.Need-returns-3
 unfolding putBits
 returns-3 c = rw (ne-eqb _ 4 (c .before .if1 .left), ne-eqb _ 8 (c .if2 .left)) (wrote-none _ _)

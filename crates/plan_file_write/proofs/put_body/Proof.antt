@@ -10,35 +10,27 @@ use Rattle.plan_file_write.proofs.put_bits.Reads as put-bits-reads
 use Rattle.plan_file_write.proofs.put_code.Reads as put-code-reads
 use Rattle.plan_file_write.proofs.put_word.Reads as put-word-reads
 
--- src/lib.rt:74:9
 put-code-requires : tie.Need-put-code-requires
 put-code-requires c κs = search needs
 
--- src/lib.rt:75:9
 put-word-requires : tie.Need-put-word-requires
 put-word-requires c κs = search needs
 
--- src/lib.rt:76:9
 put-word-requires-2 : tie.Need-put-word-requires-2
 put-word-requires-2 c κs = search needs
 
--- src/lib.rt:77:9
 put-word-requires-3 : tie.Need-put-word-requires-3
 put-word-requires-3 c κs = search needs
 
--- src/lib.rt:78:9
 put-word-requires-4 : tie.Need-put-word-requires-4
 put-word-requires-4 c κs = search needs
 
--- src/lib.rt:79:9
 put-code-requires-2 : tie.Need-put-code-requires-2
 put-code-requires-2 c κs = search needs
 
--- src/lib.rt:80:5
 put-bits-requires : tie.Need-put-bits-requires
 put-bits-requires c κs = search needs
 
--- src/lib.rt:71:1
 same-length : tie.Need-same-length
 same-length c =
     let at-put-code2 = c .before .before .before .before .before .before in
@@ -50,7 +42,6 @@ same-length c =
     c .before .before .put-bits .kept .0 ∙ at-put-code2 .put-code2 .kept .0 ∙ at-put-word4 .put-word4 .kept .0 ∙ at-put-word3 .put-word3 .kept .0
     ∙ at-put-word2 .put-word2 .kept .0 ∙ at-put-word .put-word .kept .0 ∙ at-put-code .put-code .kept .0
 
--- src/lib.rt:71:1
 returns : tie.Need-returns
 returns c =
     let at-put-code2 = c .before .before .before .before .before .before in

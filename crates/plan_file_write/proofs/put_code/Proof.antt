@@ -7,20 +7,16 @@ use Rattle.plan_file_write.proofs.put_code.Reads as reads
 use Rattle.plan_file_write.proofs.put_code.Lts as lts
 use Rattle.writing.proofs.byte.Reads as byte-reads
 
--- src/lib.rt:54:9
 byte-requires : tie.Need-byte-requires
 byte-requires c κs = search needs
 
--- src/lib.rt:54:9
 same-length : tie.Need-same-length
 same-length c = search needs
 
--- src/lib.rt:54:9
 returns : tie.Need-returns
 unfolding putCode
 returns c = rw (c .before .before .before .before .if1 .taken) (c .before .before .byte .ensures)
 
--- src/lib.rt:50:1
 returns-2 : tie.Need-returns-2
 unfolding putCode
 returns-2 c = rw (c .if1 .left) (wrote-none _ _)

@@ -7,23 +7,18 @@ use Rattle.lists.proofs.at16.Reads as at16-reads
 use Rattle.lists.proofs.at8.Reads as at8-reads
 use Rattle.plan_file_write.proofs.put_record.Reads as put-record-reads
 
--- src/lib.rt:147:19
 at8-requires : tie.Need-at8-requires
 at8-requires c κs = search needs
 
--- src/lib.rt:148:16
 at16-requires : tie.Need-at16-requires
 at16-requires c κs = search needs
 
--- src/lib.rt:142:5
 put-record-requires : tie.Need-put-record-requires
 put-record-requires c κs = search needs
 
--- src/lib.rt:139:1
 same-length : tie.Need-same-length
 same-length c = search needs
 
--- src/lib.rt:139:1
 returns : tie.Need-returns
 returns c = rw (c .before .before .before .before .at8 .ensures, c .before .before .before .at16 .ensures) at (c .before .before .put-record .ensures)
 

@@ -7,23 +7,18 @@ use Rattle.lists.proofs.at16.Reads as at16-reads
 use Rattle.plan.proofs.expr_record.Reads as expr-record-reads
 use Rattle.plan_file_write.proofs.put_listed.Reads as put-listed-reads
 
--- src/lib.rt:184:9
 expr-record-requires : tie.Need-expr-record-requires
 expr-record-requires c κs = search needs
 
--- src/lib.rt:185:9
 at16-requires : tie.Need-at16-requires
 at16-requires c κs = search needs
 
--- src/lib.rt:186:5
 put-listed-requires : tie.Need-put-listed-requires
 put-listed-requires c κs = search needs
 
--- src/lib.rt:169:1
 same-length : tie.Need-same-length
 same-length c = search needs
 
--- src/lib.rt:169:1
 returns : tie.Need-returns
 returns c =
     let at-at16 = c .before .before .before .before in

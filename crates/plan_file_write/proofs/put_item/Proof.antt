@@ -7,31 +7,24 @@ use Rattle.lists.proofs.at16.Reads as at16-reads
 use Rattle.plan_file_write.proofs.item_kind.Reads as item-kind-reads
 use Rattle.plan_file_write.proofs.put_record.Reads as put-record-reads
 
--- src/lib.rt:106:13
 add-i : tie.Need-add-i
 add-i c = search needs
 
--- src/lib.rt:111:19
 item-kind-requires : tie.Need-item-kind-requires
 item-kind-requires c κs = search needs
 
--- src/lib.rt:113:16
 at16-requires : tie.Need-at16-requires
 at16-requires c κs = search needs
 
--- src/lib.rt:114:16
 at16-requires-2 : tie.Need-at16-requires-2
 at16-requires-2 c κs = search needs
 
--- src/lib.rt:107:5
 put-record-requires : tie.Need-put-record-requires
 put-record-requires c κs = search needs
 
--- src/lib.rt:103:1
 same-length : tie.Need-same-length
 same-length c = search needs
 
--- src/lib.rt:103:1
 returns : tie.Need-returns
 returns c =
     let at-at162 = c .before .before .before in

@@ -25,48 +25,37 @@ Inv-loop out₀ at a b x st n p₀ k₀ out p k = (k ≤ n) × (length out ≡ l
 abbrev μ-loop : tie.MeasureT-loop
 μ-loop out₀ at a b x st n p₀ k₀ out p k = n - k
 
--- src/lib.rt:119:9
 row-of-requires : tie.Need-row-of-requires Inv-loop μ-loop
 row-of-requires c κs = search needs
 
--- src/lib.rt:120:13
 count-of-requires : tie.Need-count-of-requires Inv-loop μ-loop
 count-of-requires c κs = search needs
 
--- src/lib.rt:120:13
 cast-n : tie.Need-cast-n Inv-loop μ-loop
 cast-n c = search needs
 
--- src/lib.rt:120:46
 more-of-requires : tie.Need-more-of-requires Inv-loop μ-loop
 more-of-requires c κs = search needs
 
--- src/lib.rt:120:46
 cast-n-2 : tie.Need-cast-n-2 Inv-loop μ-loop
 cast-n-2 c = search needs
 
--- src/lib.rt:120:13
 add-n : tie.Need-add-n Inv-loop μ-loop
 add-n c = search needs
 
--- src/lib.rt:123:5
 loop-holds : tie.Need-loop-holds Inv-loop μ-loop
 unfolding lines
 loop-holds c = (omega arith, refl, wrote-none _ _)
 
--- src/lib.rt:124:9
 put-item-requires : tie.Need-put-item-requires Inv-loop μ-loop
 put-item-requires c κs = search needs
 
--- src/lib.rt:125:9
 add-k : tie.Need-add-k Inv-loop μ-loop
 add-k c = search needs
 
--- src/lib.rt:123:5
 loop-less : tie.Need-loop-less Inv-loop μ-loop
 loop-less c = search needs
 
--- src/lib.rt:123:5
 loop-again : tie.Need-loop-again Inv-loop μ-loop
 loop-again c =
     let at-loop = c .before .before .before .before .before in (
@@ -76,11 +65,9 @@ loop-again c =
           (wrote-then _ _ _ _ _ _ _ _ (at-loop .loop .inv .2) (at-loop .loop .inv .1) (c .before .before .put-item .ensures)),
     )
 
--- src/lib.rt:116:1
 same-length : tie.Need-same-length Inv-loop μ-loop
 same-length c = search needs
 
--- src/lib.rt:116:1
 returns : tie.Need-returns Inv-loop μ-loop
 unfolding itemsBytes
 returns c =

@@ -8,19 +8,15 @@ use Rattle.plan_file_write.proofs.put_listed.Lts as lts
 use Rattle.plan_file_write.proofs.put_items.Reads as put-items-reads
 use Rattle.plan_file_write.proofs.put_record.Reads as put-record-reads
 
--- src/lib.rt:133:9
 put-record-requires : tie.Need-put-record-requires
 put-record-requires c κs = search needs
 
--- src/lib.rt:134:5
 put-items-requires : tie.Need-put-items-requires
 put-items-requires c κs = search needs
 
--- src/lib.rt:130:1
 same-length : tie.Need-same-length
 same-length c = search needs
 
--- src/lib.rt:130:1
 returns : tie.Need-returns
 unfolding listedBytes
 returns c =

@@ -7,23 +7,18 @@ use Rattle.lists.proofs.at16.Reads as at16-reads
 use Rattle.plan.proofs.operator_record.Reads as operator-record-reads
 use Rattle.plan_file_write.proofs.put_listed.Reads as put-listed-reads
 
--- src/lib.rt:229:9
 operator-record-requires : tie.Need-operator-record-requires
 operator-record-requires c κs = search needs
 
--- src/lib.rt:230:9
 at16-requires : tie.Need-at16-requires
 at16-requires c κs = search needs
 
--- src/lib.rt:231:5
 put-listed-requires : tie.Need-put-listed-requires
 put-listed-requires c κs = search needs
 
--- src/lib.rt:213:1
 same-length : tie.Need-same-length
 same-length c = search needs
 
--- src/lib.rt:213:1
 returns : tie.Need-returns
 returns c =
     let at-at16 = c .before .before .before .before in

@@ -19,24 +19,19 @@ Inv-loop out₀ at kind code a b c d start first second n p₀ i₀ out p i = (i
 abbrev μ-loop : tie.MeasureT-loop
 μ-loop out₀ at kind code a b c d start first second n p₀ i₀ out p i = n - i
 
--- src/lib.rt:252:5
 loop-holds : tie.Need-loop-holds Inv-loop μ-loop
 unfolding lines
 loop-holds c = (omega arith, refl, wrote-none _ _)
 
--- src/lib.rt:253:9
 put-operator-requires : tie.Need-put-operator-requires Inv-loop μ-loop
 put-operator-requires c κs = search needs
 
--- src/lib.rt:254:9
 add-i : tie.Need-add-i Inv-loop μ-loop
 add-i c = search needs
 
--- src/lib.rt:252:5
 loop-less : tie.Need-loop-less Inv-loop μ-loop
 loop-less c = search needs
 
--- src/lib.rt:252:5
 loop-again : tie.Need-loop-again Inv-loop μ-loop
 loop-again c =
     let at-loop = c .before .before .before .before .before in (
@@ -46,11 +41,9 @@ loop-again c =
           (wrote-then _ _ _ _ _ _ _ _ (at-loop .loop .inv .2) (at-loop .loop .inv .1) (c .before .before .put-operator .ensures)),
     )
 
--- src/lib.rt:234:1
 same-length : tie.Need-same-length Inv-loop μ-loop
 same-length c = search needs
 
--- src/lib.rt:234:1
 returns : tie.Need-returns Inv-loop μ-loop
 returns c =
     let start = c .before .before .before .before .before .before .before .before .before .before .before .before in

@@ -9,23 +9,18 @@ use Rattle.plan_kinds.proofs.row_of.Reads as row-of-reads
 use Rattle.plan_file_write.proofs.put_body.Reads as put-body-reads
 use Rattle.writing.proofs.byte.Reads as byte-reads
 
--- src/lib.rt:86:9
 row-of-requires : tie.Need-row-of-requires
 row-of-requires c κs = search needs
 
--- src/lib.rt:87:9
 byte-requires : tie.Need-byte-requires
 byte-requires c κs = search needs
 
--- src/lib.rt:88:5
 put-body-requires : tie.Need-put-body-requires
 put-body-requires c κs = search needs
 
--- src/lib.rt:83:1
 same-length : tie.Need-same-length
 same-length c = search needs
 
--- src/lib.rt:83:1
 returns : tie.Need-returns
 unfolding recordBytes
 returns c =

@@ -8,20 +8,16 @@ use Rattle.plan_file_write.proofs.put_word.Reads as reads
 use Rattle.plan_file_write.proofs.put_word.Lts as lts
 use Rattle.plan_file_write.proofs.put2.Reads as put2-reads
 
--- src/lib.rt:45:9
 returns : tie.Need-returns
 unfolding putWord
 returns c = rw (c .if1 .taken) (wrote-none _ _)
 
--- src/lib.rt:47:5
 put2-requires : tie.Need-put2-requires
 put2-requires c κs = search needs
 
--- src/lib.rt:41:1
 same-length : tie.Need-same-length
 same-length c = search needs
 
--- src/lib.rt:41:1
 returns-2 : tie.Need-returns-2
 unfolding putWord
 returns-2 c = rw (ne-eqb _ 0 (c .before .before .before .before .if1 .left)) (c .before .before .put2 .ensures)

@@ -10,19 +10,15 @@ use Rattle.plan_file_write.proofs.put_columns.Reads as put-columns-read
 use Rattle.plan_file_write.proofs.put_exprs.Reads as put-exprs-reads
 use Rattle.plan_file_write.proofs.put_operators.Reads as put-operators-reads
 
--- src/lib.rt:267:9
 put-columns-requires : tie.Need-put-columns-requires
 put-columns-requires c κs = search needs
 
--- src/lib.rt:268:9
 put-exprs-requires : tie.Need-put-exprs-requires
 put-exprs-requires c κs = search needs
 
--- src/lib.rt:269:5
 put-operators-requires : tie.Need-put-operators-requires
 put-operators-requires c κs = search needs
 
--- src/lib.rt:260:1
 same-length : tie.Need-same-length
 same-length c =
     let at-put-exprs = c .before .before .before .before .before .before .before .before .before .before .before .before .before .before .before .before
@@ -31,7 +27,6 @@ same-length c =
     .before .before .before .before .before .before .before in
     c .before .before .put-operators .kept .0 ∙ at-put-exprs .put-exprs .kept .0 ∙ at-put-columns .put-columns .kept .0
 
--- src/lib.rt:260:1
 returns : tie.Need-returns
 unfolding writtenOf
 returns c =

@@ -4,43 +4,33 @@ use Rattle.refusals.proofs.standing.Tie as tie
 use Rattle.refusals.proofs.standing.Reads as reads
 use Rattle.refusals.proofs.standing.Lts as lts
 
--- src/lib.rt:90:26
 enum-told : tie.Need-enum-told
 enum-told c = search needs
 
--- src/lib.rt:91:26
 enum-known-w : tie.Need-enum-known-w
 enum-known-w c = search needs
 
--- src/lib.rt:91:32
 cast-result : tie.Need-cast-result
 cast-result c = search needs
 
--- src/lib.rt:91:32
 add-result : tie.Need-add-result
 add-result c = search needs
 
--- src/lib.rt:92:26
 enum-told-2 : tie.Need-enum-told-2
 enum-told-2 c = search needs
 
--- src/lib.rt:93:28
 enum-told-3 : tie.Need-enum-told-3
 enum-told-3 c = search needs
 
--- src/lib.rt:86:1
 returns : tie.Need-returns
 returns c = search needs
 
--- src/lib.rt:86:1
 returns-2 : tie.Need-returns-2
 returns-2 c = rw (c .before .before .w .given .1)
 
--- src/lib.rt:86:1
 returns-3 : tie.Need-returns-3
 returns-3 c = search needs
 
--- src/lib.rt:86:1
 returns-4 : tie.Need-returns-4
 returns-4 c = search needs
 

@@ -12,31 +12,24 @@ Inv-loop lineage c₀ c = c ≤ 64
 abbrev μ-loop : tie.MeasureT-loop
 μ-loop lineage c₀ c = 64 - c
 
--- src/main.rt:231:5
 loop-holds : tie.Need-loop-holds Inv-loop μ-loop
 loop-holds c = search needs
 
--- src/main.rt:232:25
 array-read-list-lineage : tie.Need-array-read-list-lineage Inv-loop μ-loop
 array-read-list-lineage c = search needs
 
--- src/main.rt:232:9
 list-lineage-requires : tie.Need-list-lineage-requires Inv-loop μ-loop
 list-lineage-requires c κs = search needs
 
--- src/main.rt:233:9
 add-c : tie.Need-add-c Inv-loop μ-loop
 add-c c = search needs
 
--- src/main.rt:231:5
 loop-less : tie.Need-loop-less Inv-loop μ-loop
 loop-less c = search needs
 
--- src/main.rt:231:5
 loop-again : tie.Need-loop-again Inv-loop μ-loop
 loop-again c = search needs
 
--- src/main.rt:229:1
 returns : tie.Need-returns Inv-loop μ-loop
 returns c = search needs
 

@@ -12,27 +12,21 @@ Inv-loop n e q₀ counter₀ q counter = counter ≤ n
 abbrev μ-loop : tie.MeasureT-loop
 μ-loop n e q₀ counter₀ q counter = n - counter
 
--- src/main.rt:102:5
 loop-holds : tie.Need-loop-holds Inv-loop μ-loop
 loop-holds c = search needs
 
--- src/main.rt:103:9
 with-and-requires : tie.Need-with-and-requires Inv-loop μ-loop
 with-and-requires c κs = search needs
 
--- src/main.rt:102:9
 add-counter : tie.Need-add-counter Inv-loop μ-loop
 add-counter c = search needs
 
--- src/main.rt:102:5
 loop-less : tie.Need-loop-less Inv-loop μ-loop
 loop-less c = search needs
 
--- src/main.rt:102:5
 loop-again : tie.Need-loop-again Inv-loop μ-loop
 loop-again c = search needs
 
--- src/main.rt:100:1
 returns : tie.Need-returns Inv-loop μ-loop
 returns c = search needs
 

@@ -7,23 +7,18 @@ use Rattle.value_classes.proofs.ValueEquivalenceClasses.join_roots.Tie 
 use Rattle.value_classes.proofs.ValueEquivalenceClasses.join_roots.Reads as reads
 use Rattle.value_classes.proofs.ValueEquivalenceClasses.join_roots.Lts as lts
 
--- src/lib.rt:102:13
 returns : tie.Need-returns
 returns c = let args = c .before .args in low-out (args .self) (args .low) (args .high) (c .if1 .taken)
 
--- src/lib.rt:105:13
 returns-2 : tie.Need-returns-2
 returns-2 c = let args = c .before .before .args in high-out (args .self) (args .low) (args .high) (omega arith) (c .if2 .taken)
 
--- src/lib.rt:108:33
 cast-classes : tie.Need-cast-classes
 cast-classes c = search needs
 
--- src/lib.rt:108:9
 element-write-classes : tie.Need-element-write-classes
 element-write-classes c = search needs
 
--- src/lib.rt:98:5
 returns-3 : tie.Need-returns-3
 returns-3 c = let args = c .before .before .args in sym (roots-answered (args .self) (args .low) (args .high) (omega arith) (omega arith))
 

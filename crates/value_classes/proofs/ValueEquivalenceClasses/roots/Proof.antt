@@ -23,51 +23,39 @@ Inv-loop self ok of₀ i₀ of i = (i ≤ 128) × (length of ≡ 128) × (take i
 abbrev μ-loop : tie.MeasureT-loop
 μ-loop self ok of₀ i₀ of i = 128 - i
 
--- src/lib.rt:135:13
 parents-ok-requires : tie.Need-parents-ok-requires Inv-loop μ-loop
 parents-ok-requires c κs = search needs
 
--- src/lib.rt:138:9
 loop-holds : tie.Need-loop-holds Inv-loop μ-loop
 loop-holds c = (omega arith, refl, unfold each in refl)
 
--- src/lib.rt:139:26
 element-copy-out-parent : tie.Need-element-copy-out-parent Inv-loop μ-loop
 element-copy-out-parent c = search needs
 
--- src/lib.rt:139:26
 cast-parent : tie.Need-cast-parent Inv-loop μ-loop
 cast-parent c = search needs
 
--- src/lib.rt:141:25
 array-read-of : tie.Need-array-read-of Inv-loop μ-loop
 array-read-of c = parent-low (c .before .before .before .before .parents-ok .result) _ _ 128 (c .if1 .taken) (omega arith)
 
--- src/lib.rt:141:17
 array-write-of : tie.Need-array-write-of Inv-loop μ-loop
 array-write-of c = search needs
 
--- src/lib.rt:143:25
 canonical-requires : tie.Need-canonical-requires Inv-loop μ-loop
 canonical-requires c κs = search needs
 
--- src/lib.rt:143:25
 cast-of : tie.Need-cast-of Inv-loop μ-loop
 cast-of c = let h = root-below _ 128 _ _ (search needs) (c .canonical .ensures) (omega arith) in search needs
 
--- src/lib.rt:143:17
 array-write-of-2 : tie.Need-array-write-of-2 Inv-loop μ-loop
 array-write-of-2 c = search needs
 
--- src/lib.rt:145:13
 add-i : tie.Need-add-i Inv-loop μ-loop
 add-i c = search needs
 
--- src/lib.rt:138:9
 loop-less : tie.Need-loop-less Inv-loop μ-loop
 loop-less c = search needs
 
--- src/lib.rt:138:9
 loop-again : tie.Need-loop-again Inv-loop μ-loop
 loop-again c =
     let at-loop = c .before .before .before in
@@ -88,7 +76,6 @@ loop-again c =
           (w .1 .ensures) (v .2),
     )) (c .if1 .came)
 
--- src/lib.rt:132:5
 returns : tie.Need-returns Inv-loop μ-loop
 unfolding rootsOf
 returns c =
