@@ -36,7 +36,7 @@ acted (Literal i v) s h = done (addLiteral s i v)
 acted (Bound i op x) s h = done (addBound s i op x)
 acted (Entry i) s h = addResidual (layRange (putNonNull s (canonicalAt s i)) (canonicalAt s i) unboundedRange) h
 
--- ---- which action a conjunct is, beside the definitions of predicates/specs/Apply.antt. A number past the identities records nothing
+-- ---- which action a conjunct is, beside the definitions of apply_spec/specs/Apply.antt. A number past the identities records nothing
 unfoldable pub sameAction : ℕ → ℕ → Bool → Action
 sameAction i j both = cond (ltb i 128) (cond (ltb j 128) (Same i j both) (Same i i both)) Nothing
 
