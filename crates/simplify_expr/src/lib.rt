@@ -304,11 +304,7 @@ fn reserve(
     let u = s.used as usize;
     let n = k as usize;
     if 2048 < u + n {
-        return Ran {
-            done: refused(s),
-            base: 0,
-            list: false,
-        };
+        return plain(refused(s));
     }
     let more = Done {
         at: 0,

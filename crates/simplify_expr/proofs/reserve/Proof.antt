@@ -1,11 +1,12 @@
 -- `simplify_expr::reserve` meets its contract. Assumes nothing.
 use Rattle.simplify_expr.proofs.StepAnswers.{off, added-way, reserve-off, reserve-on}
-use Rattle.simplify_expr.specs.Passage.{tablesOf, resultOf}
+use Rattle.simplify_expr.specs.Passage.{tablesOf, resultOf, outOf}
 use Rattle.plan_data.specs.Nodes.{runOf, recordOfExpr}
 use Rattle.plan_data.specs.declared.ExprData.the-variants.{Nary}
 use Prim.Native.Nat.{_+_}
 use mathlib.Core.Bool.{true}
 use denote.Ref.{now}
+use mathlib.Core.Path.{ap, _∙_}
 use borrow.Author.Needs.{needs}
 use Rattle.simplify_expr.proofs.reserve.Statement.{statement}
 use Rattle.simplify_expr.proofs.reserve.Tie as tie
@@ -19,13 +20,17 @@ add-if1 c = search needs
 refused-requires : tie.Need-refused-requires
 refused-requires c κs = search needs
 
+plain-requires : tie.Need-plain-requires
+plain-requires c κs = search needs
+
 returns : tie.Need-returns
 returns c =
-    let start = c .before .before .before in
+    let start = c .before .before .before .before in
     let a = start .args in
-    λ ia ib. reserve-off (a .all) (tablesOf (now (a .kind)) (now (a .code)) (now (a .a)) (now (a .b)) (now (a .start)) (now (a .bits)) ia ib (a .s)) (a .k)
-    (c .before .if1 .taken) (resultOf (now (a .kind)) (now (a .code)) (now (a .a)) (now (a .b)) (now (a .start)) (now (a .bits)) ia ib (c .refused .result))
-    (off (now (a .kind)) (now (a .code)) (now (a .a)) (now (a .b)) (now (a .start)) (now (a .bits)) ia ib (c .refused .result) (a .s) (c .refused .ensures))
+    λ ia ib. ap (outOf (now (a .kind)) (now (a .code)) (now (a .a)) (now (a .b)) (now (a .start)) (now (a .bits)) ia ib) (c .plain .ensures)
+    ∙ reserve-off (a .all) (tablesOf (now (a .kind)) (now (a .code)) (now (a .a)) (now (a .b)) (now (a .start)) (now (a .bits)) ia ib (a .s)) (a .k)
+    (c .before .before .if1 .taken) (resultOf (now (a .kind)) (now (a .code)) (now (a .a)) (now (a .b)) (now (a .start)) (now (a .bits)) ia ib (c .before .refused .result))
+    (off (now (a .kind)) (now (a .code)) (now (a .a)) (now (a .b)) (now (a .start)) (now (a .bits)) ia ib (c .before .refused .result) (a .s) (c .before .refused .ensures))
 
 add-t19 : tie.Need-add-t19
 add-t19 c = search needs
@@ -60,6 +65,7 @@ reserve-spec =
     cast-u
     add-if1
     refused-requires
+    plain-requires
     returns
     add-t19
     nary-op-for-requires
