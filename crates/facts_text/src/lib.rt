@@ -1,5 +1,4 @@
 // What the program `facts` writes of a file: the listing of its last operator, or the refusal.
-ghost use mathlib.Core.Path.{_≡_};
 ghost use Rattle.plan_file.specs.Steps.{readOf};
 ghost use Rattle.writing.specs.Text.{Wrote};
 ghost use Rattle.facts_text.specs.FactsText.{factsText};

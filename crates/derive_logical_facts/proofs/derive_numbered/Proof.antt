@@ -1,4 +1,3 @@
-use mathlib.Core.Path.{ap, _∙_}
 use borrow.Author.Needs.{needs}
 use Rattle.derive_logical_facts.proofs.derive_numbered.Statement.{statement}
 use Rattle.derive_logical_facts.proofs.derive_numbered.Tie as tie

@@ -1,5 +1,5 @@
 use native.Mathlib.Omega.{arith}
-use mathlib.Core.Path.{_≡_, refl, sym, ap, _∙_}
+use mathlib.Core.Path.{sym, _∙_}
 use borrow.Author.Tests.{not-true, not-false}
 use Rattle.derive_logical_facts.proofs.Entering.{derive-broken, derive-past, derive-done}
 use Rattle.derive_logical_facts.proofs.Holding.{few-operators}
