@@ -9,8 +9,11 @@ use lib.Dec.{eqb, leb}
 use lib.ListN.{getD}
 use Rattle.lists.proofs.RangeLaws.{count-same}
 use Rattle.plan_identities.specs.declared.Identities.{Identities}
-use Rattle.value_classes.specs.Parents.{each}
-use Rattle.value_classes.proofs.RootLaws.{each-at}
+use Rattle.value_classes.specs.Classes.{canonicalOf}
+use Rattle.value_classes.specs.Listed.{rootsOf}
+use Rattle.value_classes.specs.declared.ValueEquivalenceClasses.{ValueEquivalenceClasses}
+use Rattle.value_classes.specs.declared.Roots.{Roots}
+use Rattle.value_classes.proofs.MemberLaws.{roots-at}
 use Rattle.writing.specs.Text.{Wrote, lines}
 use Rattle.writing.proofs.Wrotes.{wrote-none}
 use Rattle.listing_lines.specs.Lines.{memberText}
@@ -48,9 +51,10 @@ module _ (ids : Identities) (f g : ℕ → ℕ) (same : (i : ℕ) → i < 128 �
   all-same = lines-same 128 _ _ (λ k l. line-same k)
 
 -- a table that has the representative of each identity serves
-pub table-same : (ids : Identities) (root : ℕ → ℕ) (roots : List ℕ) → roots ≡ each root 128 → classLines ids (λ (i : ℕ). getD roots i 0) ≡ classLines ids root
-table-same ids root roots e = all-same ids (λ (i : ℕ). getD roots i 0) root (λ i l. ap (λ (t : List ℕ). getD t i 0) e ∙ each-at root 128 i l)
+pub table-same : (ids : Identities) (k : ValueEquivalenceClasses) (t : Roots) → t ≡ rootsOf k
+    → classLines ids (λ (i : ℕ). getD (t .of) i 0) ≡ classLines ids (canonicalOf k)
+table-same ids k t e = all-same ids (λ (i : ℕ). getD (t .of) i 0) (canonicalOf k) (λ i l. ap (λ (r : Roots). getD (r .of) i 0) e ∙ roots-at k i l)
 
-pub table-wrote : (ids : Identities) (root : ℕ → ℕ) (roots : List ℕ) (o : List ℕ) (a : ℕ) (q : List ℕ) (c : ℕ) → roots ≡ each root 128
-    → Wrote o a q c (classLines ids (λ (i : ℕ). getD roots i 0)) → Wrote o a q c (classLines ids root)
-table-wrote ids root roots o a q c e w = subst (λ (t : List ℕ). Wrote o a q c t) (table-same ids root roots e) w
+pub table-wrote : (ids : Identities) (k : ValueEquivalenceClasses) (t : Roots) (o : List ℕ) (a : ℕ) (q : List ℕ) (c : ℕ) → t ≡ rootsOf k
+    → Wrote o a q c (classLines ids (λ (i : ℕ). getD (t .of) i 0)) → Wrote o a q c (classLines ids (canonicalOf k))
+table-wrote ids k t o a q c e w = subst (λ (x : List ℕ). Wrote o a q c x) (table-same ids k t e) w

@@ -4,14 +4,11 @@ use constraint_spec::ConstraintSet;
 use constraint_spec::Entry;
 use constraint_spec::Holder;
 use plan_identities::Identities;
-use value_classes::ValueEquivalenceClasses;
 ghost use mathlib.Core.Path.{_≡_};
 ghost use Prim.Native.Nat.{ℕ, _≤_};
 ghost use lib.Dec.{eqb};
 ghost use lib.ListN.{getD, length};
 ghost use Rattle.lists.specs.Ranges.{countFrom};
-ghost use Rattle.value_classes.specs.Parents.{each};
-ghost use Rattle.value_classes.specs.Classes.{canonicalOf};
 ghost use Rattle.writing.specs.Text.{Wrote};
 ghost use Rattle.listing.specs.Listing.{columnLines, defineLines, membersIn, membersText, classLine, classLines, nonnullLines, literalLines};
 ghost use Rattle.listing.specs.Listing.{rangeLines, residualLines, setText, listingText, refusedLine};
@@ -38,20 +35,6 @@ fn define_lines(out: &mut [u8], at: usize, definitions: [u16; 64]) -> usize
         c += 1;
     }
     p
-}
-
-// The representative of each identity, found once for all lines.
-fn roots_of(classes: ValueEquivalenceClasses) -> [u8; 128]
-    ensures { λ r. ⌜ r ≡ each (canonicalOf classes) 128 ⌝ }
-{
-    let mut roots = [0u8; 128];
-    let mut i: usize = 0;
-    while i < 128 {
-        let r = classes.canonical(i);
-        roots[i] = r as u8;
-        i += 1;
-    }
-    roots
 }
 
 fn members_in(roots: [u8; 128], r: u8) -> usize
@@ -164,7 +147,8 @@ fn set_text(out: &mut [u8], at: usize, ids: Identities, s: ConstraintSet) -> usi
     let ranges = s.ranges;
     let list = s.residual_predicates;
     let n = s.residuals;
-    let roots = roots_of(classes);
+    let table = classes.roots();
+    let roots = table.of;
     let p1 = class_lines(out, at, ids, roots);
     let p2 = nonnull_lines(out, p1, ids, flags);
     let p3 = literal_lines(out, p2, ids, held);

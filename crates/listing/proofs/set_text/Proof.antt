@@ -1,13 +1,13 @@
 use Rattle.listing.proofs.Classes.{table-wrote}
 use Rattle.listing.specs.Listing.{setText}
-use Rattle.constraint_spec.specs.Sets.{canonicalAt}
+use Rattle.constraint_spec.specs.Sets.{classesOf}
 use Rattle.writing.proofs.Wrotes.{wrote-then}
 use borrow.Author.Needs.{needs}
 use Rattle.listing.proofs.set_text.Statement.{statement}
 use Rattle.listing.proofs.set_text.Tie as tie
 
-roots-of-requires : tie.Need-roots-of-requires
-roots-of-requires c κs = search needs
+roots-requires : tie.Need-roots-requires
+roots-requires c κs = search needs
 
 class-lines-requires : tie.Need-class-lines-requires
 class-lines-requires c κs = search needs
@@ -34,9 +34,9 @@ returns c =
     let at-literal-lines = at-range-lines .before .before .before .before in
     let at-nonnull-lines = at-literal-lines .before .before .before .before in
     let at-class-lines = at-nonnull-lines .before .before .before .before in
-    let at-roots-of = at-class-lines .before .before in
-    let start = at-roots-of .before .before .before .before .before .before .before in
-    wrote-then _ _ _ _ _ _ _ _ (table-wrote (start .args .ids) (canonicalAt (start .args .s)) _ _ _ _ _ (at-roots-of .roots-of .ensures)
+    let at-roots = at-class-lines .before .before .before in
+    let start = at-roots .before .before .before .before .before .before .before in
+    wrote-then _ _ _ _ _ _ _ _ (table-wrote (start .args .ids) (classesOf (start .args .s)) (at-roots .roots .result) _ _ _ _ (at-roots .roots .ensures)
     (at-class-lines .class-lines .ensures)) (at-class-lines .class-lines .kept .0)
     (wrote-then _ _ _ _ _ _ _ _ (at-nonnull-lines .nonnull-lines .ensures) (at-nonnull-lines .nonnull-lines .kept .0)
     (wrote-then _ _ _ _ _ _ _ _ (at-literal-lines .literal-lines .ensures) (at-literal-lines .literal-lines .kept .0)
@@ -47,7 +47,7 @@ pub set-text-spec : {M : Type 1} → statement M
 set-text-spec =
     tie.close
     (tie.spec
-    roots-of-requires
+    roots-requires
     class-lines-requires
     nonnull-lines-requires
     literal-lines-requires
