@@ -2,27 +2,23 @@
 -- set. Assumes nothing.
 use Prim.Native.Nat.{ℕ, _<_}
 use mathlib.Core.Path.{_≡_}
-use mathlib.Core.Bool.{Bool, true, false, cond, _&&_, _||_}
+use mathlib.Core.Bool.{Bool, true, false, cond}
 use mathlib.Core.List.{List}
 use lib.Dec.{ltb}
 use Rattle.scalar.specs.Kinds.{isNull}
 use Rattle.scalar.specs.Scalars.{scalarToF64}
 use Rattle.scalar.specs.declared.ScalarValue.{ScalarValue}
-use Rattle.scalar.specs.declared.ScalarValue.the-variants as S
 use Rattle.scalar.specs.declared.Number.{Number}
 use Rattle.scalar.specs.declared.Number.the-variants as M
 use Rattle.value_range.specs.Ranges.{unboundedRange}
-use Rattle.comparison.specs.Operators.{ordinary, bounding}
+use Rattle.comparison.specs.Operators.{bounding}
 use Rattle.comparison.specs.declared.BinaryOp.{BinaryOp}
-use Rattle.comparison.specs.declared.BinaryOp.the-variants.{Eq, NotEq, Lt, LtEq, Gt, GtEq, IsNotDistinctFrom}
 use Rattle.constraint_spec.specs.Sets.{canonicalAt, withFlag, putNonNull, layRange, unionValues, addNonNull, addLiteral, addBound, addResidual, done}
 use Rattle.constraint_spec.specs.declared.ConstraintSet.{ConstraintSet}
 use Rattle.constraint_spec.specs.declared.Applied.{Applied}
 use Rattle.plan_data.specs.declared.ExprData.{ExprData}
-use Rattle.plan_data.specs.declared.ExprData.the-variants as E
-use Rattle.apply_spec.specs.Apply.{seenOf, isNullLiteral}
+use Rattle.apply_spec.specs.Apply.{Recording, pairBy, boundBy, reversedBy, operandsBy, comparisonBy, literalBy, nodeBy}
 use Rattle.apply_spec.specs.declared.Seen.{Seen}
-use Rattle.apply_spec.specs.declared.Seen.the-variants.{Identity, Constant, Unseen}
 use Rattle.apply_action.specs.declared.Action.{Action}
 use Rattle.apply_action.specs.declared.Action.the-variants.{Nothing, Contradiction, Residual, Same, Literal, Bound, Entry}
 
@@ -36,18 +32,9 @@ acted (Literal i v) s h = done (addLiteral s i v)
 acted (Bound i op x) s h = done (addBound s i op x)
 acted (Entry i) s h = addResidual (layRange (putNonNull s (canonicalAt s i)) (canonicalAt s i) unboundedRange) h
 
--- ---- which action a conjunct is, beside the definitions of apply_spec/specs/Apply.antt. A number past the identities records nothing
+-- ---- which action a conjunct is. A number past the identities records nothing
 unfoldable pub sameAction : ℕ → ℕ → Bool → Action
 sameAction i j both = cond (ltb i 128) (cond (ltb j 128) (Same i j both) (Same i i both)) Nothing
-
-abbrev pub pairAction : BinaryOp → ℕ → ℕ → Action
-pairAction Eq i j = sameAction i j true
-pairAction NotEq i j = Residual
-pairAction Lt i j = Residual
-pairAction LtEq i j = Residual
-pairAction Gt i j = Residual
-pairAction GtEq i j = Residual
-pairAction IsNotDistinctFrom i j = sameAction i j false
 
 -- a comparison with a number: one that bounds is recorded, any other makes an entry and is residual
 unfoldable pub boundedBy : BinaryOp → ℕ → Number → Action
@@ -60,53 +47,37 @@ rangeAction op i v = boundedBy op i (scalarToF64 v)
 unfoldable pub literalAction : ℕ → ScalarValue → Action
 literalAction i v = cond (ltb i 128) (cond (isNull v) Contradiction (Literal i v)) Nothing
 
+-- the table of apply_spec/specs/Apply.antt, with an action for each way
+abbrev pub actions : Recording Action
+actions = record {
+  nothing = Nothing;
+  contradiction = Contradiction;
+  residual = Residual;
+  same = sameAction;
+  literal = literalAction;
+  range = rangeAction;
+}
+
+abbrev pub pairAction : BinaryOp → ℕ → ℕ → Action
+pairAction = pairBy actions
+
 abbrev pub boundAction : BinaryOp → ℕ → ScalarValue → Action
-boundAction Eq i v = literalAction i v
-boundAction NotEq i v = rangeAction NotEq i v
-boundAction Lt i v = rangeAction Lt i v
-boundAction LtEq i v = rangeAction LtEq i v
-boundAction Gt i v = rangeAction Gt i v
-boundAction GtEq i v = rangeAction GtEq i v
-boundAction IsNotDistinctFrom i v = rangeAction IsNotDistinctFrom i v
+boundAction = boundBy actions
 
 abbrev pub reversedAction : BinaryOp → ℕ → ScalarValue → Action
-reversedAction Eq i v = literalAction i v
-reversedAction NotEq i v = Residual
-reversedAction Lt i v = rangeAction Gt i v
-reversedAction LtEq i v = rangeAction GtEq i v
-reversedAction Gt i v = rangeAction Lt i v
-reversedAction GtEq i v = rangeAction LtEq i v
-reversedAction IsNotDistinctFrom i v = Residual
+reversedAction = reversedBy actions
 
 abbrev pub operandsAction : BinaryOp → Seen → Seen → Action
-operandsAction op (Identity i) (Identity j) = pairAction op i j
-operandsAction op (Identity i) (Constant v) = boundAction op i v
-operandsAction op (Identity i) Unseen = Residual
-operandsAction op (Constant v) (Identity j) = reversedAction op j v
-operandsAction op (Constant v) (Constant w) = Residual
-operandsAction op (Constant v) Unseen = Residual
-operandsAction op Unseen (Identity j) = Residual
-operandsAction op Unseen (Constant w) = Residual
-operandsAction op Unseen Unseen = Residual
+operandsAction = operandsBy actions
 
-unfoldable pub comparisonAction : BinaryOp → Seen → Seen → Action
-comparisonAction op l r = cond (ordinary op && (isNullLiteral l || isNullLiteral r)) Contradiction (operandsAction op l r)
+abbrev pub comparisonAction : BinaryOp → Seen → Seen → Action
+comparisonAction = comparisonBy actions
 
 abbrev pub constantAction : ScalarValue → Action
-constantAction (S.Null k) = Contradiction
-constantAction (S.Boolean true) = Nothing
-constantAction (S.Boolean false) = Contradiction
-constantAction (S.Int32 n) = Residual
-constantAction (S.Int64 n) = Residual
-constantAction (S.Float64 x) = Residual
-constantAction (S.Date32 n) = Residual
+constantAction = literalBy actions
 
 abbrev pub nodeAction : List ℕ → (ℕ → ExprData) → ExprData → Action
-nodeAction lineage node (E.Literal v) = constantAction v
-nodeAction lineage node (E.ColumnRef c) = Residual
-nodeAction lineage node (E.Unary op e) = Residual
-nodeAction lineage node (E.Binary op l r) = comparisonAction op (seenOf lineage (node (l .0))) (seenOf lineage (node (r .0)))
-nodeAction lineage node (E.Nary op r) = Residual
+nodeAction = nodeBy actions
 
 unfoldable pub actionOf : List ℕ → (ℕ → ExprData) → ℕ → Action
 actionOf lineage node h = nodeAction lineage node (node h)

@@ -38,7 +38,7 @@ use Rattle.plan_data.specs.declared.ExprData.{ExprData}
 use Rattle.plan_data.specs.declared.ExprData.the-variants.{Literal, ColumnRef, Unary, Binary, Nary}
 use Rattle.apply_spec.specs.Facts.{hasLineage, identityOf}
 use Rattle.apply_spec.specs.Apply.{seenOf, isNullLiteral, pairApplied, rangeApplied, boundApplied, boundReversed, operandsApplied}
-use Rattle.apply_spec.specs.Apply.{comparisonApplied, literalApplied, nodeApplied, conjunctApplied, allApplied}
+use Rattle.apply_spec.specs.Apply.{comparisonBy, comparisonApplied, literalApplied, nodeApplied, conjunctApplied, allApplied}
 use Rattle.apply_spec.specs.declared.Seen.{Seen}
 use Rattle.apply_spec.specs.declared.Seen.the-variants.{Identity, Constant, Unseen}
 use Rattle.rows_spec.specs.Compare.{compareOf, truthOf}
@@ -308,7 +308,7 @@ module _ (node : ℕ → ExprData) (items : List ℕ) (typed : (h : ℕ) → Typ
 
     comparison-step : (op : BinaryOp) (A B : Seen) (a b : ScalarValue) → Sees A a → Sees B b → Says op a b
         → T (not (comparisonApplied s h op A B .refused)) → Step s (comparisonApplied s h op A B .constraints) (O h) (ExactSeen v op A B)
-    unfolding comparisonApplied
+    unfolding comparisonBy
     comparison-step op A B a b x y q =
         let n = isNullLiteral A || isNullLiteral B in
         pick (ordinary op && n) (done (withFlag s true)) (operandsApplied s h op A B) s (O h) (ExactSeen v op A B)

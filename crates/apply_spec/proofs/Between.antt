@@ -22,7 +22,7 @@ use Rattle.plan_rules.specs.Rules.{recordOk, itemOk, listsOk, exprOkOf, operato
 use Rattle.plan_data.specs.Nodes.{exprData}
 use Rattle.apply_spec.specs.Facts.{lineageOk, definitionOk, factsOk}
 use Rattle.apply_spec.specs.Conjuncts.{joinedOf, conjunctsTo}
-use Rattle.apply_spec.specs.Apply.{comparisonApplied, conjunctApplied, allApplied}
+use Rattle.apply_spec.specs.Apply.{comparisonBy, conjunctApplied, allApplied}
 use Rattle.apply_spec.specs.Entries.{predicateApplied, applyPredicate}
 use Rattle.apply_spec.specs.declared.LogicalFacts.{LogicalFacts}
 use Rattle.apply_spec.specs.declared.Outcome.the-variants.{Accepted}
@@ -77,7 +77,7 @@ pub between-clear : (applyPredicate plan fresh above .outcome ≡ Accepted)
     × ((applyPredicate plan once below .outcome ≡ Accepted) × (twice .constraints .contradictory ≡ false))
 unfolding applyPredicate planOk countsWithin allFrom exprOkOf recordOk listsOk rowOf lineOf bitsOk handleOk countOf moreOf itemOk operatorOkOf scansOf anyFrom
     countFrom factsOk lineageOk definitionOk setOk parentsOk each emptySet emptyClasses predicateApplied allApplied conjunctsTo joinedOf conjunctApplied
-    comparisonApplied exprData addRange addBound putNonNull putRange layRange crossCheck rootOf climb parentIn lt eq ofInt
+    comparisonBy exprData addRange addBound putNonNull putRange layRange crossCheck rootOf climb parentIn lt eq ofInt
 between-clear = (refl, (refl, refl))
 
 gap : (n : ℤ) → T (ltZ (pos 3) n) → T (ltZ n (pos 4)) → ⊥

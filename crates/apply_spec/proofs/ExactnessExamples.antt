@@ -30,7 +30,7 @@ use Rattle.plan_rules.specs.Rules.{recordOk, itemOk, listsOk, exprOkOf, operato
 use Rattle.plan_data.specs.Nodes.{exprData, nodeAt}
 use Rattle.apply_spec.specs.Facts.{hasLineage, lineageOk, definitionOk, factsOk}
 use Rattle.apply_spec.specs.Conjuncts.{joinedOf, conjunctsTo}
-use Rattle.apply_spec.specs.Apply.{comparisonApplied, conjunctApplied, allApplied}
+use Rattle.apply_spec.specs.Apply.{comparisonBy, conjunctApplied, allApplied}
 use Rattle.apply_spec.specs.Entries.{predicateApplied, applyPredicate}
 use Rattle.apply_spec.specs.declared.LogicalFacts.{LogicalFacts}
 use Rattle.apply_spec.specs.declared.Outcome.the-variants.{Accepted}
@@ -89,13 +89,13 @@ selfPlan = planOf 4 0 0 0
 self-accepted : applyPredicate selfPlan fresh comparison .outcome ≡ Accepted
 unfolding applyPredicate planOk countsWithin allFrom exprOkOf recordOk listsOk rowOf lineOf bitsOk handleOk countOf moreOf itemOk operatorOkOf scansOf anyFrom
     countFrom factsOk lineageOk definitionOk setOk parentsOk each emptySet emptyClasses predicateApplied allApplied conjunctsTo joinedOf conjunctApplied
-    comparisonApplied exprData
+    comparisonBy exprData
 self-accepted = refl
 
 self-facts : applyPredicate selfPlan fresh comparison .facts .constraints ≡ addNonNull (unionValues emptySet 0 0) 0
 unfolding applyPredicate planOk countsWithin allFrom exprOkOf recordOk listsOk rowOf lineOf bitsOk handleOk countOf moreOf itemOk operatorOkOf scansOf anyFrom
     countFrom factsOk lineageOk definitionOk setOk parentsOk each emptySet emptyClasses predicateApplied allApplied conjunctsTo joinedOf conjunctApplied
-    comparisonApplied exprData
+    comparisonBy exprData
 self-facts = refl
 
 self-meets : MeetsFacts selfPlan (everywhere (S.Float64 nan)) (applyPredicate selfPlan fresh comparison .facts)
@@ -117,13 +117,13 @@ mixedPlan = planOf 3 5 2 1
 mixed-accepted : applyPredicate mixedPlan fresh comparison .outcome ≡ Accepted
 unfolding applyPredicate planOk countsWithin allFrom exprOkOf recordOk listsOk rowOf lineOf bitsOk handleOk countOf moreOf itemOk operatorOkOf scansOf anyFrom
     countFrom factsOk lineageOk definitionOk setOk parentsOk each emptySet emptyClasses predicateApplied allApplied conjunctsTo joinedOf conjunctApplied
-    comparisonApplied exprData addRange
+    comparisonBy exprData addRange
 mixed-accepted = refl
 
 mixed-facts : applyPredicate mixedPlan fresh comparison .facts .constraints ≡ addBound emptySet 0 Lt (ofInt binary64 (pos 5))
 unfolding applyPredicate planOk countsWithin allFrom exprOkOf recordOk listsOk rowOf lineOf bitsOk handleOk countOf moreOf itemOk operatorOkOf scansOf anyFrom
     countFrom factsOk lineageOk definitionOk setOk parentsOk each emptySet emptyClasses predicateApplied allApplied conjunctsTo joinedOf conjunctApplied
-    comparisonApplied exprData addRange
+    comparisonBy exprData addRange
 mixed-facts = refl
 
 mixed-truth : truthOf (valueAt (λ c. S.Int64 (pos 3)) (nodeAt mixedPlan) (mixedPlan .items .a) 2) ≡ 1
@@ -149,7 +149,7 @@ plainPlan = planOf 2 7 2 1
 plain-accepted : applyPredicate plainPlan fresh comparison .outcome ≡ Accepted
 unfolding applyPredicate planOk countsWithin allFrom exprOkOf recordOk listsOk rowOf lineOf bitsOk handleOk countOf moreOf itemOk operatorOkOf scansOf anyFrom
     countFrom factsOk lineageOk definitionOk setOk parentsOk each emptySet emptyClasses predicateApplied allApplied conjunctsTo joinedOf conjunctApplied
-    comparisonApplied exprData addRange
+    comparisonBy exprData addRange
 plain-accepted = refl
 
 plain-wide : Wide plainPlan

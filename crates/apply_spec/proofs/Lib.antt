@@ -14,3 +14,4 @@ pub mod ExactnessExamples
 pub mod Evaluations
 pub mod Between
 pub mod Refusals
+pub mod Recordings

@@ -10,7 +10,7 @@ use Rattle.comparison.specs.declared.BinaryOp.the-variants.{Eq, NotEq, Lt, LtEq
 use Rattle.constraint_spec.specs.Sets.{withFlag, unionValues, addNonNull, addLiteral, addRange, addResidual, done, refusedWith}
 use Rattle.constraint_spec.specs.declared.ConstraintSet.{ConstraintSet}
 use Rattle.constraint_spec.specs.declared.Applied.{Applied}
-use Rattle.apply_spec.specs.Apply.{literalApplied, comparisonApplied, rangeApplied, allApplied}
+use Rattle.apply_spec.specs.Apply.{literalApplied, comparisonBy, comparisonApplied, rangeApplied, allApplied}
 use Rattle.apply_spec.specs.declared.Seen.the-variants.{Identity, Constant, Unseen}
 
 module _ (s : ConstraintSet) (h : ℕ) where
@@ -26,38 +26,38 @@ module _ (s : ConstraintSet) (h : ℕ) where
 
   -- x = y joins the classes and records non-null, x IS NOT DISTINCT FROM y joins them alone
   pair-equal : (i j : ℕ) → comparisonApplied s h Eq (Identity i) (Identity j) ≡ done (addNonNull (unionValues s i j) i)
-  unfolding comparisonApplied
+  unfolding comparisonBy
   pair-equal i j = refl
 
   pair-null-safe : (i j : ℕ) → comparisonApplied s h IsNotDistinctFrom (Identity i) (Identity j) ≡ done (unionValues s i j)
-  unfolding comparisonApplied
+  unfolding comparisonBy
   pair-null-safe i j = refl
 
   -- an ordinary comparison with a Null literal on either side sets the flag and records nothing more; a null-safe one is residual
   eq-null-right : (i : ℕ) (k : Kind) → comparisonApplied s h Eq (Identity i) (Constant (S.Null k)) ≡ done (withFlag s true)
-  unfolding comparisonApplied
+  unfolding comparisonBy
   eq-null-right i k = refl
 
   gt-null-left : (k : Kind) → comparisonApplied s h Gt (Constant (S.Null k)) Unseen ≡ done (withFlag s true)
-  unfolding comparisonApplied
+  unfolding comparisonBy
   gt-null-left k = refl
 
   null-safe : (k : Kind) → comparisonApplied s h IsNotDistinctFrom (Constant (S.Null k)) Unseen ≡ addResidual s h
-  unfolding comparisonApplied
+  unfolding comparisonBy
   null-safe k = refl
 
   -- a literal that gives bounds under NotEq: on the right non-null and an entry without bounds are recorded too, on the left it is residual only
   unequal-right : (i : ℕ) (b : _) → comparisonApplied s h NotEq (Identity i) (Constant (S.Int32 b)) ≡ rangeApplied h (addRange s i NotEq (S.Int32 b))
-  unfolding comparisonApplied
+  unfolding comparisonBy
   unequal-right i b = refl
 
   unequal-left : (i : ℕ) (b : _) → comparisonApplied s h NotEq (Constant (S.Int32 b)) (Identity i) ≡ addResidual s h
-  unfolding comparisonApplied
+  unfolding comparisonBy
   unequal-left i b = refl
 
   -- 5 < x bounds x as x > 5 does
   turned-round : (i : ℕ) (v : _) → comparisonApplied s h Lt (Constant (S.Int32 v)) (Identity i) ≡ rangeApplied h (addRange s i Gt (S.Int32 v))
-  unfolding comparisonApplied
+  unfolding comparisonBy
   turned-round i v = refl
 
 -- And applies its operands in order, and goes on to the last, whatever the flag says

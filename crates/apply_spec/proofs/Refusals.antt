@@ -38,7 +38,7 @@ use Rattle.plan_data.specs.declared.ExprData.{ExprData}
 use Rattle.plan_data.specs.declared.ExprData.the-variants.{Literal, ColumnRef, Unary, Binary, Nary}
 use Rattle.apply_spec.specs.Facts.{withConstraints, lineageOk, definitionOk, factsOk}
 use Rattle.apply_spec.specs.Conjuncts.{conjunctsOf}
-use Rattle.apply_spec.specs.Apply.{seenOf, isNullLiteral, rangeApplied, operandsApplied, comparisonApplied, literalApplied, nodeApplied}
+use Rattle.apply_spec.specs.Apply.{seenOf, isNullLiteral, rangeApplied, operandsApplied, comparisonBy, comparisonApplied, literalApplied, nodeApplied}
 use Rattle.apply_spec.specs.Apply.{conjunctApplied, allApplied}
 use Rattle.apply_spec.specs.Entries.{accepted, refused, answered, predicateApplied, applyPredicate}
 use Rattle.apply_spec.specs.Wanted.{gives, operandsRecorded, comparisonRecorded, constantRecorded, nodeRecorded, conjunctRecorded, wantedBy}
@@ -148,7 +148,7 @@ module _ (s : ConstraintSet) (r : Roomy s) (h : ℕ) where
   operands op Unseen Unseen = residual
 
   comparison : (op : BinaryOp) (l q : Seen) → Leaves s h (comparisonRecorded op l q) (comparisonApplied s h op l q)
-  unfolding comparisonApplied comparisonRecorded
+  unfolding comparisonBy comparisonRecorded
   comparison op l q = go (ordinary op && (isNullLiteral l || isNullLiteral q))
     where
       go : (b : Bool) → Leaves s h (b || operandsRecorded op l q) (cond b (done (withFlag s true)) (operandsApplied s h op l q))

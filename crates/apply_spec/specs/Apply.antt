@@ -1,4 +1,4 @@
--- `apply_predicate`, to be read beside the Rust: what one conjunct records, and a run of them. Assumes nothing.
+-- `apply_predicate`, to be read beside the Rust: the table of what one conjunct records, what that makes of a set, and a run of conjuncts. Assumes nothing.
 use Prim.Native.Nat.{ℕ}
 use mathlib.Core.Bool.{Bool, true, false, cond, not, _&&_, _||_}
 use mathlib.Core.List.{List, [], _∷_}
@@ -32,73 +32,115 @@ isNullLiteral (Identity i) = false
 isNullLiteral (Constant v) = isNull v
 isNullLiteral Unseen = false
 
--- two columns with lineage: Eq joins their classes and records non-null, IsNotDistinctFrom joins them only
-abbrev pub pairApplied : ConstraintSet → ℕ → BinaryOp → ℕ → ℕ → Applied
-pairApplied s h Eq i j = done (addNonNull (unionValues s i j) i)
-pairApplied s h NotEq i j = addResidual s h
-pairApplied s h Lt i j = addResidual s h
-pairApplied s h LtEq i j = addResidual s h
-pairApplied s h Gt i j = addResidual s h
-pairApplied s h GtEq i j = addResidual s h
-pairApplied s h IsNotDistinctFrom i j = done (unionValues s i j)
+-- ---- the table: in which way a conjunct is recorded, whatever a way makes of it
+pub record Recording (R : Type 0) : Type 0 where
+  pub nothing : R
+  pub contradiction : R
+  pub residual : R
+  -- two identities in one class, and not NULL where the flag says so
+  pub same : ℕ → ℕ → Bool → R
+  pub literal : ℕ → ScalarValue → R
+  pub range : BinaryOp → ℕ → ScalarValue → R
 
+module _ {R : Type 0} (ways : Recording R) where
+  -- two columns with lineage: Eq joins their classes and records non-null, IsNotDistinctFrom joins them only
+  abbrev pub pairBy : BinaryOp → ℕ → ℕ → R
+  pairBy Eq i j = ways .same i j true
+  pairBy NotEq i j = ways .residual
+  pairBy Lt i j = ways .residual
+  pairBy LtEq i j = ways .residual
+  pairBy Gt i j = ways .residual
+  pairBy GtEq i j = ways .residual
+  pairBy IsNotDistinctFrom i j = ways .same i j false
+
+  -- a column with lineage on the left of a literal
+  abbrev pub boundBy : BinaryOp → ℕ → ScalarValue → R
+  boundBy Eq i v = ways .literal i v
+  boundBy NotEq i v = ways .range NotEq i v
+  boundBy Lt i v = ways .range Lt i v
+  boundBy LtEq i v = ways .range LtEq i v
+  boundBy Gt i v = ways .range Gt i v
+  boundBy GtEq i v = ways .range GtEq i v
+  boundBy IsNotDistinctFrom i v = ways .range IsNotDistinctFrom i v
+
+  -- and on its right: only the four that bound are turned round
+  abbrev pub reversedBy : BinaryOp → ℕ → ScalarValue → R
+  reversedBy Eq i v = ways .literal i v
+  reversedBy NotEq i v = ways .residual
+  reversedBy Lt i v = ways .range Gt i v
+  reversedBy LtEq i v = ways .range GtEq i v
+  reversedBy Gt i v = ways .range Lt i v
+  reversedBy GtEq i v = ways .range LtEq i v
+  reversedBy IsNotDistinctFrom i v = ways .residual
+
+  abbrev pub operandsBy : BinaryOp → Seen → Seen → R
+  operandsBy op (Identity i) (Identity j) = pairBy op i j
+  operandsBy op (Identity i) (Constant v) = boundBy op i v
+  operandsBy op (Identity i) Unseen = ways .residual
+  operandsBy op (Constant v) (Identity j) = reversedBy op j v
+  operandsBy op (Constant v) (Constant w) = ways .residual
+  operandsBy op (Constant v) Unseen = ways .residual
+  operandsBy op Unseen (Identity j) = ways .residual
+  operandsBy op Unseen (Constant w) = ways .residual
+  operandsBy op Unseen Unseen = ways .residual
+
+  -- one of the six ordinary comparisons with a Null literal on either side sets the flag and records nothing more
+  unfoldable pub comparisonBy : BinaryOp → Seen → Seen → R
+  comparisonBy op l r = cond (ordinary op && (isNullLiteral l || isNullLiteral r)) (ways .contradiction) (operandsBy op l r)
+
+  -- a literal: true records nothing, false or Null sets the flag, any other is residual
+  abbrev pub literalBy : ScalarValue → R
+  literalBy (S.Null k) = ways .contradiction
+  literalBy (S.Boolean true) = ways .nothing
+  literalBy (S.Boolean false) = ways .contradiction
+  literalBy (S.Int32 n) = ways .residual
+  literalBy (S.Int64 n) = ways .residual
+  literalBy (S.Float64 x) = ways .residual
+  literalBy (S.Date32 n) = ways .residual
+
+  -- one conjunct; anything not recorded otherwise is residual
+  abbrev pub nodeBy : List ℕ → (ℕ → ExprData) → ExprData → R
+  nodeBy lineage node (Literal v) = literalBy v
+  nodeBy lineage node (ColumnRef c) = ways .residual
+  nodeBy lineage node (Unary op e) = ways .residual
+  nodeBy lineage node (Binary op l r) = comparisonBy op (seenOf lineage (node (l .0))) (seenOf lineage (node (r .0)))
+  nodeBy lineage node (Nary op r) = ways .residual
+
+-- ---- what each way makes of a set, for the conjunct of the handle h
 -- `add_range` answers whether the comparison is recorded; else it is residual
 abbrev pub rangeApplied : ℕ → Ranged → Applied
 rangeApplied h r = cond (r .recorded) (done (r .constraints)) (addResidual (r .constraints) h)
 
--- a column with lineage on the left of a literal
-abbrev pub boundApplied : ConstraintSet → ℕ → BinaryOp → ℕ → ScalarValue → Applied
-boundApplied s h Eq i v = done (addLiteral s i v)
-boundApplied s h NotEq i v = rangeApplied h (addRange s i NotEq v)
-boundApplied s h Lt i v = rangeApplied h (addRange s i Lt v)
-boundApplied s h LtEq i v = rangeApplied h (addRange s i LtEq v)
-boundApplied s h Gt i v = rangeApplied h (addRange s i Gt v)
-boundApplied s h GtEq i v = rangeApplied h (addRange s i GtEq v)
-boundApplied s h IsNotDistinctFrom i v = rangeApplied h (addRange s i IsNotDistinctFrom v)
+abbrev pub recorded : ConstraintSet → ℕ → Recording Applied
+recorded s h = record {
+  nothing = done s;
+  contradiction = done (withFlag s true);
+  residual = addResidual s h;
+  same = λ i j both. done (cond both (addNonNull (unionValues s i j) i) (unionValues s i j));
+  literal = λ i v. done (addLiteral s i v);
+  range = λ op i v. rangeApplied h (addRange s i op v);
+}
 
--- and on its right: only the four that bound are turned round
+abbrev pub pairApplied : ConstraintSet → ℕ → BinaryOp → ℕ → ℕ → Applied
+pairApplied s h = pairBy (recorded s h)
+
+abbrev pub boundApplied : ConstraintSet → ℕ → BinaryOp → ℕ → ScalarValue → Applied
+boundApplied s h = boundBy (recorded s h)
+
 abbrev pub boundReversed : ConstraintSet → ℕ → BinaryOp → ℕ → ScalarValue → Applied
-boundReversed s h Eq i v = done (addLiteral s i v)
-boundReversed s h NotEq i v = addResidual s h
-boundReversed s h Lt i v = rangeApplied h (addRange s i Gt v)
-boundReversed s h LtEq i v = rangeApplied h (addRange s i GtEq v)
-boundReversed s h Gt i v = rangeApplied h (addRange s i Lt v)
-boundReversed s h GtEq i v = rangeApplied h (addRange s i LtEq v)
-boundReversed s h IsNotDistinctFrom i v = addResidual s h
+boundReversed s h = reversedBy (recorded s h)
 
 abbrev pub operandsApplied : ConstraintSet → ℕ → BinaryOp → Seen → Seen → Applied
-operandsApplied s h op (Identity i) (Identity j) = pairApplied s h op i j
-operandsApplied s h op (Identity i) (Constant v) = boundApplied s h op i v
-operandsApplied s h op (Identity i) Unseen = addResidual s h
-operandsApplied s h op (Constant v) (Identity j) = boundReversed s h op j v
-operandsApplied s h op (Constant v) (Constant w) = addResidual s h
-operandsApplied s h op (Constant v) Unseen = addResidual s h
-operandsApplied s h op Unseen (Identity j) = addResidual s h
-operandsApplied s h op Unseen (Constant w) = addResidual s h
-operandsApplied s h op Unseen Unseen = addResidual s h
+operandsApplied s h = operandsBy (recorded s h)
 
--- one of the six ordinary comparisons with a Null literal on either side sets the flag and records nothing more
-unfoldable pub comparisonApplied : ConstraintSet → ℕ → BinaryOp → Seen → Seen → Applied
-comparisonApplied s h op l r =
-    cond (ordinary op && (isNullLiteral l || isNullLiteral r)) (done (withFlag s true)) (operandsApplied s h op l r)
+abbrev pub comparisonApplied : ConstraintSet → ℕ → BinaryOp → Seen → Seen → Applied
+comparisonApplied s h = comparisonBy (recorded s h)
 
--- a literal: true records nothing, false or Null sets the flag, any other is residual
 abbrev pub literalApplied : ConstraintSet → ℕ → ScalarValue → Applied
-literalApplied s h (S.Null k) = done (withFlag s true)
-literalApplied s h (S.Boolean true) = done s
-literalApplied s h (S.Boolean false) = done (withFlag s true)
-literalApplied s h (S.Int32 n) = addResidual s h
-literalApplied s h (S.Int64 n) = addResidual s h
-literalApplied s h (S.Float64 x) = addResidual s h
-literalApplied s h (S.Date32 n) = addResidual s h
+literalApplied s h = literalBy (recorded s h)
 
--- one conjunct, the handle h; anything not recorded otherwise is residual
 abbrev pub nodeApplied : List ℕ → (ℕ → ExprData) → ConstraintSet → ℕ → ExprData → Applied
-nodeApplied lineage node s h (Literal v) = literalApplied s h v
-nodeApplied lineage node s h (ColumnRef c) = addResidual s h
-nodeApplied lineage node s h (Unary op e) = addResidual s h
-nodeApplied lineage node s h (Binary op l r) = comparisonApplied s h op (seenOf lineage (node (l .0))) (seenOf lineage (node (r .0)))
-nodeApplied lineage node s h (Nary op r) = addResidual s h
+nodeApplied lineage node s h = nodeBy (recorded s h) lineage node
 
 unfoldable pub conjunctApplied : List ℕ → (ℕ → ExprData) → ConstraintSet → ℕ → Applied
 conjunctApplied lineage node s h = nodeApplied lineage node s h (node h)

@@ -14,7 +14,7 @@ use Rattle.plan_rules.specs.Rules.{recordOk, itemOk, listsOk, exprOkOf, operato
 use Rattle.plan_data.specs.Nodes.{exprData}
 use Rattle.apply_spec.specs.Facts.{lineageOk, definitionOk, factsOk}
 use Rattle.apply_spec.specs.Conjuncts.{joinedOf, conjunctsTo}
-use Rattle.apply_spec.specs.Apply.{comparisonApplied, conjunctApplied, allApplied}
+use Rattle.apply_spec.specs.Apply.{comparisonBy, conjunctApplied, allApplied}
 use Rattle.apply_spec.specs.Entries.{predicateApplied, applyPredicate}
 use Rattle.apply_spec.specs.Meaning.{AllOf}
 use Rattle.simplify_spec.specs.OneExpression.{operandsFrom, rebuilt, naryOf, simplifyBelow, simplifyAt}
@@ -24,7 +24,7 @@ use Rattle.cases.specs.CaseTable.{cases, Holds}
 pub cases-hold : AllOf Holds cases
 unfolding applyPredicate planOk countsWithin allFrom exprOkOf recordOk listsOk rowOf lineOf bitsOk handleOk countOf moreOf itemOk operatorOkOf scansOf anyFrom
     countFrom factsOk lineageOk definitionOk setOk parentsOk each emptySet emptyClasses predicateApplied allApplied conjunctsTo joinedOf conjunctApplied
-    comparisonApplied exprData addRange addNonNull putNonNull addLiteral putLiteral addBound putRange layRange crossCheck unionValues normalized nonNullsMoved
+    comparisonBy exprData addRange addNonNull putNonNull addLiteral putLiteral addBound putRange layRange crossCheck unionValues normalized nonNullsMoved
     literalsMoved rangesMoved stepsTo addResidual pushResidual unionOf joined rootOf climb parentIn lt eq ofInt simplifyAt simplifyBelow operandsFrom naryOf
     rebuilt
 cases-hold = (

@@ -31,7 +31,7 @@ use Rattle.plan_identities.specs.Identities.{tableIn, byKey, baseOf, numberBy, 
 use Rattle.apply_spec.specs.Facts.{emptyFacts, withConstraints}
 use Rattle.apply_spec.specs.Meaning.{freshFacts}
 use Rattle.apply_spec.specs.Conjuncts.{joinedOf, conjunctsTo}
-use Rattle.apply_spec.specs.Apply.{comparisonApplied, conjunctApplied, allApplied}
+use Rattle.apply_spec.specs.Apply.{comparisonBy, conjunctApplied, allApplied}
 use Rattle.apply_spec.specs.Entries.{predicateApplied, overridden, inputsMerged}
 use Rattle.derive_spec.specs.Columns.{lineageEntry, definitionEntry, assigned, defined, carried, computed, keyColumn, scanned, derivedColumns}
 use Rattle.derive_spec.specs.Columns.{projected, renamed, mapped, keysOk, keysOf}
@@ -102,7 +102,7 @@ worked-case : deriveOf worked 1 ≡ factsOf (1 ∷ 2 ∷ []) [] (setOf (rootsJoi
 unfolding deriveOf planOk countsWithin allFrom exprOkOf recordOk listsOk rowOf lineOf bitsOk handleOk countOf moreOf itemOk operatorOkOf scansOf anyFrom
     countFrom answerOf answersTo operatorData identitiesOf filled baseOf byKey tableIn firstFrom numberBy lineageEntry definitionEntry scanned derivedColumns
     projected renamed mapped computed carried keysOk keysOf keyColumn grouped stepsTo assigned defined given filtered emptyFacts predicateApplied allApplied
-    conjunctsTo joinedOf conjunctApplied comparisonApplied exprData inputsMerged overridden addRange addBound addNonNull addLiteral addResidual pushResidual
+    conjunctsTo joinedOf conjunctApplied comparisonBy exprData inputsMerged overridden addRange addBound addNonNull addLiteral addResidual pushResidual
     unionValues unionOf joined normalized nonNullsMoved literalsMoved rangesMoved putNonNull putLiteral putRange layRange crossCheck emptySet emptyClasses
     each rootOf climb parentIn lt eq ofInt
 worked-case = refl
@@ -118,7 +118,7 @@ case-1 : deriveOf (lessPlan 9007199254740992) 1 ≡ factsOf (1 ∷ []) [] (setOf
 unfolding deriveOf planOk countsWithin allFrom exprOkOf recordOk listsOk rowOf lineOf bitsOk handleOk countOf moreOf itemOk operatorOkOf scansOf anyFrom
     countFrom answerOf answersTo operatorData identitiesOf filled baseOf byKey tableIn firstFrom numberBy lineageEntry definitionEntry scanned derivedColumns
     projected renamed mapped computed carried keysOk keysOf keyColumn grouped stepsTo assigned defined given filtered emptyFacts predicateApplied allApplied
-    conjunctsTo joinedOf conjunctApplied comparisonApplied exprData inputsMerged overridden addRange addBound addNonNull addLiteral addResidual pushResidual
+    conjunctsTo joinedOf conjunctApplied comparisonBy exprData inputsMerged overridden addRange addBound addNonNull addLiteral addResidual pushResidual
     unionValues unionOf joined normalized nonNullsMoved literalsMoved rangesMoved putNonNull putLiteral putRange layRange crossCheck emptySet emptyClasses
     each rootOf climb parentIn lt eq ofInt
 case-1 = refl
@@ -128,7 +128,7 @@ case-2 : deriveOf (lessPlan 9007199254740993) 1 ≡ factsOf (1 ∷ []) [] (setOf
 unfolding deriveOf planOk countsWithin allFrom exprOkOf recordOk listsOk rowOf lineOf bitsOk handleOk countOf moreOf itemOk operatorOkOf scansOf anyFrom
     countFrom answerOf answersTo operatorData identitiesOf filled baseOf byKey tableIn firstFrom numberBy lineageEntry definitionEntry scanned derivedColumns
     projected renamed mapped computed carried keysOk keysOf keyColumn grouped stepsTo assigned defined given filtered emptyFacts predicateApplied allApplied
-    conjunctsTo joinedOf conjunctApplied comparisonApplied exprData inputsMerged overridden addRange addBound addNonNull addLiteral addResidual pushResidual
+    conjunctsTo joinedOf conjunctApplied comparisonBy exprData inputsMerged overridden addRange addBound addNonNull addLiteral addResidual pushResidual
     unionValues unionOf joined normalized nonNullsMoved literalsMoved rangesMoved putNonNull putLiteral putRange layRange crossCheck emptySet emptyClasses
     each rootOf climb parentIn lt eq ofInt
 case-2 = refl
@@ -143,7 +143,7 @@ case-9 : deriveOf twicePlan 2 ≡ factsOf (1 ∷ []) [] (setOf alone true (held 
 unfolding deriveOf planOk countsWithin allFrom exprOkOf recordOk listsOk rowOf lineOf bitsOk handleOk countOf moreOf itemOk operatorOkOf scansOf anyFrom
     countFrom answerOf answersTo operatorData identitiesOf filled baseOf byKey tableIn firstFrom numberBy lineageEntry definitionEntry scanned derivedColumns
     projected renamed mapped computed carried keysOk keysOf keyColumn grouped stepsTo assigned defined given filtered emptyFacts predicateApplied allApplied
-    conjunctsTo joinedOf conjunctApplied comparisonApplied exprData inputsMerged overridden addRange addBound addNonNull addLiteral addResidual pushResidual
+    conjunctsTo joinedOf conjunctApplied comparisonBy exprData inputsMerged overridden addRange addBound addNonNull addLiteral addResidual pushResidual
     unionValues unionOf joined normalized nonNullsMoved literalsMoved rangesMoved putNonNull putLiteral putRange layRange crossCheck emptySet emptyClasses
     each rootOf climb parentIn lt eq ofInt
 case-9 = refl
@@ -152,7 +152,7 @@ before-9 : deriveOf twicePlan 1 ≡ factsOf (1 ∷ []) [] (setOf alone true (hel
 unfolding deriveOf planOk countsWithin allFrom exprOkOf recordOk listsOk rowOf lineOf bitsOk handleOk countOf moreOf itemOk operatorOkOf scansOf anyFrom
     countFrom answerOf answersTo operatorData identitiesOf filled baseOf byKey tableIn firstFrom numberBy lineageEntry definitionEntry scanned derivedColumns
     projected renamed mapped computed carried keysOk keysOf keyColumn grouped stepsTo assigned defined given filtered emptyFacts predicateApplied allApplied
-    conjunctsTo joinedOf conjunctApplied comparisonApplied exprData inputsMerged overridden addRange addBound addNonNull addLiteral addResidual pushResidual
+    conjunctsTo joinedOf conjunctApplied comparisonBy exprData inputsMerged overridden addRange addBound addNonNull addLiteral addResidual pushResidual
     unionValues unionOf joined normalized nonNullsMoved literalsMoved rangesMoved putNonNull putLiteral putRange layRange crossCheck emptySet emptyClasses
     each rootOf climb parentIn lt eq ofInt
 before-9 = refl
@@ -170,7 +170,7 @@ map-case : deriveOf mapPlan 1 ≡ factsOf (1 ∷ 1 ∷ 1 ∷ 1 ∷ []) (0 ∷ 0 
 unfolding deriveOf planOk countsWithin allFrom exprOkOf recordOk listsOk rowOf lineOf bitsOk handleOk countOf moreOf itemOk operatorOkOf scansOf anyFrom
     countFrom answerOf answersTo operatorData identitiesOf filled baseOf byKey tableIn firstFrom numberBy lineageEntry definitionEntry scanned derivedColumns
     projected renamed mapped computed carried keysOk keysOf keyColumn grouped stepsTo assigned defined given filtered emptyFacts predicateApplied allApplied
-    conjunctsTo joinedOf conjunctApplied comparisonApplied exprData inputsMerged overridden addRange addBound addNonNull addLiteral addResidual pushResidual
+    conjunctsTo joinedOf conjunctApplied comparisonBy exprData inputsMerged overridden addRange addBound addNonNull addLiteral addResidual pushResidual
     unionValues unionOf joined normalized nonNullsMoved literalsMoved rangesMoved putNonNull putLiteral putRange layRange crossCheck emptySet emptyClasses
     each rootOf climb parentIn lt eq ofInt
 map-case = refl
@@ -189,7 +189,7 @@ rename-case : deriveOf keepPlan 2 ≡ factsOf (0 ∷ 1 ∷ []) [] (setOf alone t
 unfolding deriveOf planOk countsWithin allFrom exprOkOf recordOk listsOk rowOf lineOf bitsOk handleOk countOf moreOf itemOk operatorOkOf scansOf anyFrom
     countFrom answerOf answersTo operatorData identitiesOf filled baseOf byKey tableIn firstFrom numberBy lineageEntry definitionEntry scanned derivedColumns
     projected renamed mapped computed carried keysOk keysOf keyColumn grouped stepsTo assigned defined given filtered emptyFacts predicateApplied allApplied
-    conjunctsTo joinedOf conjunctApplied comparisonApplied exprData inputsMerged overridden addRange addBound addNonNull addLiteral addResidual pushResidual
+    conjunctsTo joinedOf conjunctApplied comparisonBy exprData inputsMerged overridden addRange addBound addNonNull addLiteral addResidual pushResidual
     unionValues unionOf joined normalized nonNullsMoved literalsMoved rangesMoved putNonNull putLiteral putRange layRange crossCheck emptySet emptyClasses
     each rootOf climb parentIn lt eq ofInt
 rename-case = refl
@@ -199,7 +199,7 @@ aggregation-case : deriveOf keepPlan 3 ≡ factsOf (1 ∷ 66 ∷ []) [] emptySet
 unfolding deriveOf planOk countsWithin allFrom exprOkOf recordOk listsOk rowOf lineOf bitsOk handleOk countOf moreOf itemOk operatorOkOf scansOf anyFrom
     countFrom answerOf answersTo operatorData identitiesOf filled baseOf byKey tableIn firstFrom numberBy lineageEntry definitionEntry scanned derivedColumns
     projected renamed mapped computed carried keysOk keysOf keyColumn grouped stepsTo assigned defined given filtered emptyFacts predicateApplied allApplied
-    conjunctsTo joinedOf conjunctApplied comparisonApplied exprData inputsMerged overridden addRange addBound addNonNull addLiteral addResidual pushResidual
+    conjunctsTo joinedOf conjunctApplied comparisonBy exprData inputsMerged overridden addRange addBound addNonNull addLiteral addResidual pushResidual
     unionValues unionOf joined normalized nonNullsMoved literalsMoved rangesMoved putNonNull putLiteral putRange layRange crossCheck emptySet emptyClasses
     each rootOf climb parentIn lt eq ofInt
 aggregation-case = refl
@@ -209,7 +209,7 @@ outer-case : deriveOf keepPlan 5 ≡ factsOf (1 ∷ 66 ∷ []) [] emptySet
 unfolding deriveOf planOk countsWithin allFrom exprOkOf recordOk listsOk rowOf lineOf bitsOk handleOk countOf moreOf itemOk operatorOkOf scansOf anyFrom
     countFrom answerOf answersTo operatorData identitiesOf filled baseOf byKey tableIn firstFrom numberBy lineageEntry definitionEntry scanned derivedColumns
     projected renamed mapped computed carried keysOk keysOf keyColumn grouped stepsTo assigned defined given filtered emptyFacts predicateApplied allApplied
-    conjunctsTo joinedOf conjunctApplied comparisonApplied exprData inputsMerged overridden addRange addBound addNonNull addLiteral addResidual pushResidual
+    conjunctsTo joinedOf conjunctApplied comparisonBy exprData inputsMerged overridden addRange addBound addNonNull addLiteral addResidual pushResidual
     unionValues unionOf joined normalized nonNullsMoved literalsMoved rangesMoved putNonNull putLiteral putRange layRange crossCheck emptySet emptyClasses
     each rootOf climb parentIn lt eq ofInt
 outer-case = refl
@@ -226,7 +226,7 @@ key-refused : deriveOf refusePlan 1 ≡ refused (UnsupportedKey (record { 0 = 1 
 unfolding deriveOf planOk countsWithin allFrom exprOkOf recordOk listsOk rowOf lineOf bitsOk handleOk countOf moreOf itemOk operatorOkOf scansOf anyFrom
     countFrom answerOf answersTo operatorData identitiesOf filled baseOf byKey tableIn firstFrom numberBy lineageEntry definitionEntry scanned derivedColumns
     projected renamed mapped computed carried keysOk keysOf keyColumn grouped stepsTo assigned defined given filtered emptyFacts predicateApplied allApplied
-    conjunctsTo joinedOf conjunctApplied comparisonApplied exprData inputsMerged overridden addRange addBound addNonNull addLiteral addResidual pushResidual
+    conjunctsTo joinedOf conjunctApplied comparisonBy exprData inputsMerged overridden addRange addBound addNonNull addLiteral addResidual pushResidual
     unionValues unionOf joined normalized nonNullsMoved literalsMoved rangesMoved putNonNull putLiteral putRange layRange crossCheck emptySet emptyClasses
     each rootOf climb parentIn lt eq ofInt
 key-refused = refl
@@ -236,7 +236,7 @@ outer-refused : deriveOf refusePlan 3 ≡ refused (UnsupportedKey (record { 0 = 
 unfolding deriveOf planOk countsWithin allFrom exprOkOf recordOk listsOk rowOf lineOf bitsOk handleOk countOf moreOf itemOk operatorOkOf scansOf anyFrom
     countFrom answerOf answersTo operatorData identitiesOf filled baseOf byKey tableIn firstFrom numberBy lineageEntry definitionEntry scanned derivedColumns
     projected renamed mapped computed carried keysOk keysOf keyColumn grouped stepsTo assigned defined given filtered emptyFacts predicateApplied allApplied
-    conjunctsTo joinedOf conjunctApplied comparisonApplied exprData inputsMerged overridden addRange addBound addNonNull addLiteral addResidual pushResidual
+    conjunctsTo joinedOf conjunctApplied comparisonBy exprData inputsMerged overridden addRange addBound addNonNull addLiteral addResidual pushResidual
     unionValues unionOf joined normalized nonNullsMoved literalsMoved rangesMoved putNonNull putLiteral putRange layRange crossCheck emptySet emptyClasses
     each rootOf climb parentIn lt eq ofInt
 outer-refused = refl
@@ -246,7 +246,7 @@ unreached : deriveOf refusePlan 4 ≡ factsOf (1 ∷ []) [] emptySet
 unfolding deriveOf planOk countsWithin allFrom exprOkOf recordOk listsOk rowOf lineOf bitsOk handleOk countOf moreOf itemOk operatorOkOf scansOf anyFrom
     countFrom answerOf answersTo operatorData identitiesOf filled baseOf byKey tableIn firstFrom numberBy lineageEntry definitionEntry scanned derivedColumns
     projected renamed mapped computed carried keysOk keysOf keyColumn grouped stepsTo assigned defined given filtered emptyFacts predicateApplied allApplied
-    conjunctsTo joinedOf conjunctApplied comparisonApplied exprData inputsMerged overridden addRange addBound addNonNull addLiteral addResidual pushResidual
+    conjunctsTo joinedOf conjunctApplied comparisonBy exprData inputsMerged overridden addRange addBound addNonNull addLiteral addResidual pushResidual
     unionValues unionOf joined normalized nonNullsMoved literalsMoved rangesMoved putNonNull putLiteral putRange layRange crossCheck emptySet emptyClasses
     each rootOf climb parentIn lt eq ofInt
 unreached = refl
@@ -256,7 +256,7 @@ no-such : deriveOf refusePlan 5 ≡ refused (NoSuch (record { 0 = 5 }))
 unfolding deriveOf planOk countsWithin allFrom exprOkOf recordOk listsOk rowOf lineOf bitsOk handleOk countOf moreOf itemOk operatorOkOf scansOf anyFrom
     countFrom answerOf answersTo operatorData identitiesOf filled baseOf byKey tableIn firstFrom numberBy lineageEntry definitionEntry scanned derivedColumns
     projected renamed mapped computed carried keysOk keysOf keyColumn grouped stepsTo assigned defined given filtered emptyFacts predicateApplied allApplied
-    conjunctsTo joinedOf conjunctApplied comparisonApplied exprData inputsMerged overridden addRange addBound addNonNull addLiteral addResidual pushResidual
+    conjunctsTo joinedOf conjunctApplied comparisonBy exprData inputsMerged overridden addRange addBound addNonNull addLiteral addResidual pushResidual
     unionValues unionOf joined normalized nonNullsMoved literalsMoved rangesMoved putNonNull putLiteral putRange layRange crossCheck emptySet emptyClasses
     each rootOf climb parentIn lt eq ofInt
 no-such = refl
@@ -293,7 +293,7 @@ right-case : deriveOf joinPlan 3 ≡ factsOf (1 ∷ []) [] (setOf alone true non
 unfolding deriveOf planOk countsWithin allFrom exprOkOf recordOk listsOk rowOf lineOf bitsOk handleOk countOf moreOf itemOk operatorOkOf scansOf anyFrom
     countFrom answerOf answersTo operatorData identitiesOf filled baseOf byKey tableIn firstFrom numberBy lineageEntry definitionEntry scanned derivedColumns
     projected renamed mapped computed carried keysOk keysOf keyColumn grouped stepsTo assigned defined given filtered emptyFacts predicateApplied allApplied
-    conjunctsTo joinedOf conjunctApplied comparisonApplied exprData inputsMerged overridden addRange addBound addNonNull addLiteral addResidual pushResidual
+    conjunctsTo joinedOf conjunctApplied comparisonBy exprData inputsMerged overridden addRange addBound addNonNull addLiteral addResidual pushResidual
     unionValues unionOf joined normalized nonNullsMoved literalsMoved rangesMoved putNonNull putLiteral putRange layRange crossCheck emptySet emptyClasses
     each rootOf climb parentIn lt eq ofInt
 right-case = refl
@@ -302,7 +302,7 @@ full-case : deriveOf joinPlan 4 ≡ factsOf (1 ∷ []) [] emptySet
 unfolding deriveOf planOk countsWithin allFrom exprOkOf recordOk listsOk rowOf lineOf bitsOk handleOk countOf moreOf itemOk operatorOkOf scansOf anyFrom
     countFrom answerOf answersTo operatorData identitiesOf filled baseOf byKey tableIn firstFrom numberBy lineageEntry definitionEntry scanned derivedColumns
     projected renamed mapped computed carried keysOk keysOf keyColumn grouped stepsTo assigned defined given filtered emptyFacts predicateApplied allApplied
-    conjunctsTo joinedOf conjunctApplied comparisonApplied exprData inputsMerged overridden addRange addBound addNonNull addLiteral addResidual pushResidual
+    conjunctsTo joinedOf conjunctApplied comparisonBy exprData inputsMerged overridden addRange addBound addNonNull addLiteral addResidual pushResidual
     unionValues unionOf joined normalized nonNullsMoved literalsMoved rangesMoved putNonNull putLiteral putRange layRange crossCheck emptySet emptyClasses
     each rootOf climb parentIn lt eq ofInt
 full-case = refl
@@ -312,7 +312,7 @@ mark-case : deriveOf joinPlan 5 ≡ factsOf (65 ∷ 66 ∷ []) [] emptySet
 unfolding deriveOf planOk countsWithin allFrom exprOkOf recordOk listsOk rowOf lineOf bitsOk handleOk countOf moreOf itemOk operatorOkOf scansOf anyFrom
     countFrom answerOf answersTo operatorData identitiesOf filled baseOf byKey tableIn firstFrom numberBy lineageEntry definitionEntry scanned derivedColumns
     projected renamed mapped computed carried keysOk keysOf keyColumn grouped stepsTo assigned defined given filtered emptyFacts predicateApplied allApplied
-    conjunctsTo joinedOf conjunctApplied comparisonApplied exprData inputsMerged overridden addRange addBound addNonNull addLiteral addResidual pushResidual
+    conjunctsTo joinedOf conjunctApplied comparisonBy exprData inputsMerged overridden addRange addBound addNonNull addLiteral addResidual pushResidual
     unionValues unionOf joined normalized nonNullsMoved literalsMoved rangesMoved putNonNull putLiteral putRange layRange crossCheck emptySet emptyClasses
     each rootOf climb parentIn lt eq ofInt
 mark-case = refl

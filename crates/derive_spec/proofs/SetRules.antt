@@ -33,7 +33,7 @@ use Rattle.plan_data.specs.declared.ExprData.{ExprData}
 use Rattle.plan_data.specs.declared.ExprData.the-variants.{Literal, ColumnRef, Unary, Binary, Nary}
 use Rattle.apply_spec.specs.Facts.{hasLineage, identityOf}
 use Rattle.apply_spec.specs.Conjuncts.{conjunctsOf}
-use Rattle.apply_spec.specs.Apply.{seenOf, isNullLiteral, rangeApplied, operandsApplied, comparisonApplied, literalApplied, nodeApplied}
+use Rattle.apply_spec.specs.Apply.{seenOf, isNullLiteral, rangeApplied, operandsApplied, comparisonBy, comparisonApplied, literalApplied, nodeApplied}
 use Rattle.apply_spec.specs.Apply.{conjunctApplied, allApplied}
 use Rattle.apply_spec.specs.Entries.{predicateApplied}
 use Rattle.apply_spec.specs.Meaning.{AllOf}
@@ -153,7 +153,7 @@ module _ (ne : ℕ) where
     operands op Unseen Unseen x y = residual h hl s r
 
     comparison : (op : BinaryOp) (a b : Seen) → Small a → Small b → Kept (comparisonApplied s h op a b)
-    unfolding comparisonApplied
+    unfolding comparisonBy
     comparison op a b x y =
         cond-T-elim Kept (ordinary op && (isNullLiteral a || isNullLiteral b)) (done (withFlag s true)) (operandsApplied s h op a b) (λ t. flagged)
         (operands op a b x y)

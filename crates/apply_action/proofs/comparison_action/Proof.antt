@@ -1,4 +1,4 @@
-use Rattle.apply_action.specs.Actions.{comparisonAction}
+use Rattle.apply_spec.specs.Apply.{comparisonBy}
 use borrow.Author.Needs.{needs}
 use Rattle.apply_action.proofs.comparison_action.Statement.{statement}
 use Rattle.apply_action.proofs.comparison_action.Tie as tie
@@ -18,7 +18,7 @@ is-null-literal-requires-2 : tie.Need-is-null-literal-requires-2
 is-null-literal-requires-2 c κs = search needs
 
 returns : tie.Need-returns
-unfolding comparisonAction
+unfolding comparisonBy
 returns c =
     let at-is-ordinary = c .before .before .before in
     rw (← at-is-ordinary .is-ordinary .ensures, ← c .before .before .is-null-literal .ensures, ← c .before .is-null-literal2 .ensures, c .if1 .taken)
@@ -27,7 +27,7 @@ operands-action-requires : tie.Need-operands-action-requires
 operands-action-requires c κs = search needs
 
 returns-2 : tie.Need-returns-2
-unfolding comparisonAction
+unfolding comparisonBy
 returns-2 c =
     let at-is-null-literal = c .before .before .before in
     let at-is-ordinary = at-is-null-literal .before in
