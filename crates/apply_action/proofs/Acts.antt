@@ -1,5 +1,5 @@
 -- The action that a conjunct is makes of a set what the definition of applying says. Assumes nothing.
-use Prim.Native.Nat.{ℕ, _<_, _≤_}
+use Prim.Native.Nat.{ℕ}
 use mathlib.Core.Path.{_≡_, refl, sym, ap, _∙_}
 use mathlib.Core.Bool.{Bool, true, false, cond}
 use mathlib.Core.List.{List}
@@ -13,15 +13,13 @@ use Rattle.scalar.specs.declared.ScalarValue.{ScalarValue}
 use Rattle.scalar.specs.declared.Number.{Number}
 use Rattle.scalar.specs.declared.Number.the-variants as M
 use Rattle.value_range.specs.Ranges.{unboundedRange}
-use Rattle.value_range.specs.declared.ValueRange.{ValueRange}
 use Rattle.value_classes.proofs.Unions.{left-out, right-out}
 use Rattle.comparison.specs.Operators.{bounding}
 use Rattle.comparison.specs.declared.BinaryOp.{BinaryOp}
 use Rattle.comparison.specs.declared.BinaryOp.the-variants.{Eq, NotEq, Lt, LtEq, Gt, GtEq, IsNotDistinctFrom}
-use Rattle.constraint_spec.specs.Sets.{canonicalAt, withFlag, putNonNull, putRange, layRange, crossCheck, boundsBy, unionValues, addNonNull}
+use Rattle.constraint_spec.specs.Sets.{canonicalAt, putNonNull, layRange, boundsBy, unionValues, addNonNull}
 use Rattle.constraint_spec.specs.Sets.{addLiteral, addBound, rangedBy, addRange, addResidual, done}
 use Rattle.constraint_spec.specs.declared.ConstraintSet.{ConstraintSet}
-use Rattle.constraint_spec.specs.declared.Applied.{Applied}
 use Rattle.constraint_spec.proofs.Operations.{union-one}
 use Rattle.plan_data.specs.declared.ExprData.{ExprData}
 use Rattle.apply_spec.specs.Apply.{rangeApplied, recorded, conjunctApplied}

@@ -5,7 +5,6 @@ use mathlib.Core.Bool.{Bool, true, false, cond, not, _&&_, _||_, or-false}
 use mathlib.Core.List.{List}
 use native.Mathlib.Decide.{ℕ-discrete}
 use native.Mathlib.Omega.{arith}
-use lib.Dec.{ltb}
 use lib.Ieee.{Float}
 use lib.ListN.{length, getD, set}
 use lib.Seq.{set-getD, getD-set-same, getD-set-other}
@@ -27,7 +26,6 @@ use Rattle.constraint_spec.specs.Sets.{addResidual, appliedOf, done}
 use Rattle.constraint_spec.specs.declared.Holder.{Holder}
 use Rattle.constraint_spec.specs.declared.Entry as En
 use Rattle.constraint_spec.specs.declared.ConstraintSet.{ConstraintSet}
-use Rattle.constraint_spec.specs.declared.Applied.{Applied}
 use Rattle.constraint_spec.proofs.Operations.{union-one}
 use Rattle.constraint_set.specs.Checked.{Checked}
 use Rattle.constraint_set.specs.Kept.{keptBy}
@@ -38,7 +36,6 @@ use Rattle.apply_action.specs.Actions.{acted, firstOf, secondOf, isCheck
 use Rattle.apply_action.specs.Cells.{cellOf, withCell, flaggedCell, nonNullCell, literalCell, boundCell, entryCell, cellAfter}
 use Rattle.apply_action.specs.declared.Action.{Action}
 use Rattle.apply_action.specs.declared.Action.the-variants.{Nothing, Contradiction, Residual, Same, Literal, Bound, Entry}
-use Rattle.apply_action.specs.declared.Cell.{Cell}
 
 -- the lists of a set have an entry for each identity
 abbrev pub Long : ConstraintSet → Type 0

@@ -1,10 +1,10 @@
 -- What is recorded of one representative, and what each action makes of it where the rest of the set was held against its literals before. Assumes nothing.
 use Prim.Native.Nat.{ℕ}
-use mathlib.Core.Bool.{Bool, true, false, cond, _||_}
+use mathlib.Core.Bool.{true, cond, _||_}
 use lib.Ieee.{Float}
 use lib.ListN.{set}
 use Rattle.scalar.specs.declared.ScalarValue.{ScalarValue}
-use Rattle.value_range.specs.Ranges.{unboundedRange, emptyRange}
+use Rattle.value_range.specs.Ranges.{emptyRange}
 use Rattle.value_range.specs.declared.ValueRange.{ValueRange}
 use Rattle.comparison.specs.declared.BinaryOp.{BinaryOp}
 use Rattle.constraint_spec.specs.Sets.{held, entryOf, classesOf, nonNulls, literals, nonNullAt, literalAt, entryAt, withValues, clashes, rangeIn, tightenBy}

@@ -5,8 +5,7 @@ use mathlib.Core.Bool.{true}
 use native.Mathlib.Omega.{arith}
 use Rattle.value_classes.specs.Classes.{Whole, classesOk, joinedClasses, rootsJoined}
 use Rattle.value_classes.specs.declared.ValueEquivalenceClasses.{ValueEquivalenceClasses}
-use Rattle.value_classes.proofs.ClassLaws.{falling, canonical-small, canonical-idempotent, joined-whole, rootsAnswered, roots-answered}
-use Rattle.value_classes.proofs.ClassLaws.{joined-to-left, joined-to-right}
+use Rattle.value_classes.proofs.ClassLaws.{canonical-small, joined-whole, rootsAnswered, roots-answered}
 use Rattle.constraint_spec.specs.Sets.{none, noEntry, classesOf, canonicalAt, withClasses, normalized, unionValues}
 use Rattle.constraint_spec.specs.declared.Holder.{Holder}
 use Rattle.constraint_spec.specs.declared.Entry.{Entry}

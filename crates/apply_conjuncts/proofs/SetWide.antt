@@ -3,8 +3,6 @@ use mathlib.Core.List.{List}
 use denote.Shadow.{shadow}
 use denote.Struct.Declared.{row}
 use mir.Val.{Val}
-use Rattle.value_classes.specs.Classes.{Whole}
-use Rattle.constraint_spec.specs.Sets.{classesOf}
 use Rattle.constraint_spec.specs.declared.ConstraintSet.{ConstraintSet}
 use Rattle.constraint_spec.proofs.ConstraintSet as C
 use Rattle.constraint_set.proofs.SetLists.{classes-whole, literals-long, ranges-long}

@@ -2,14 +2,12 @@
 use Prim.Native.Nat.{ℕ, _<_}
 use mathlib.Core.Path.{_≡_, refl, sym, ap, _∙_, subst}
 use mathlib.Core.Bool.{true, false, false≢true}
-use mathlib.Core.List.{List}
 use mathlib.Core.Logic.{inl}
 use native.Mathlib.Decide.{decLt, ℕ-discrete}
 use native.Mathlib.Omega.{arith}
-use lib.ListN.{length, set}
 use Rattle.value_classes.specs.Classes.{Whole, Falling, canonicalOf, joinedClasses, rootsJoined}
 use Rattle.value_classes.specs.declared.ValueEquivalenceClasses.{ValueEquivalenceClasses}
-use Rattle.value_classes.proofs.ClassLaws.{falling, canonical-small, canonical-idempotent, joined-met, joined-to-left, joined-to-right}
+use Rattle.value_classes.proofs.ClassLaws.{falling, canonical-idempotent, joined-met, joined-to-left}
 use Rattle.constraint_spec.specs.Sets.{none, noEntry, blank, classesOf, nonNulls, literals, nonNullAt, literalAt, entryAt, canonicalAt}
 use Rattle.constraint_spec.specs.Sets.{unionValues}
 use Rattle.laws.proofs.Bools.{or-inl}

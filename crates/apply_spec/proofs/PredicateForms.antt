@@ -1,13 +1,12 @@
 -- What the rules say of each form of predicate, on every set and every handle. Assumes nothing.
 use Prim.Native.Nat.{ℕ}
 use mathlib.Core.Path.{_≡_, refl}
-use mathlib.Core.Bool.{true, false, cond}
-use mathlib.Core.List.{List, [], _∷_}
+use mathlib.Core.Bool.{true, false}
+use mathlib.Core.List.{[], _∷_}
 use Rattle.scalar.specs.declared.Kind.{Kind}
-use Rattle.scalar.specs.declared.ScalarValue.{ScalarValue}
 use Rattle.scalar.specs.declared.ScalarValue.the-variants as S
-use Rattle.comparison.specs.declared.BinaryOp.the-variants.{Eq, NotEq, Lt, LtEq, Gt, GtEq, IsNotDistinctFrom}
-use Rattle.constraint_spec.specs.Sets.{withFlag, unionValues, addNonNull, addLiteral, addRange, addResidual, done, refusedWith}
+use Rattle.comparison.specs.declared.BinaryOp.the-variants.{Eq, NotEq, Lt, Gt, IsNotDistinctFrom}
+use Rattle.constraint_spec.specs.Sets.{withFlag, unionValues, addNonNull, addRange, addResidual, done}
 use Rattle.constraint_spec.specs.declared.ConstraintSet.{ConstraintSet}
 use Rattle.constraint_spec.specs.declared.Applied.{Applied}
 use Rattle.apply_spec.specs.Apply.{literalApplied, comparisonBy, comparisonApplied, rangeApplied, allApplied}

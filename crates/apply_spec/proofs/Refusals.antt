@@ -3,7 +3,7 @@ use Prim.Native.Nat.{ℕ, zero, suc, _+_, _≤_, _<_}
 use mathlib.Core.Path.{_≡_, refl, sym, ap, subst, _∙_}
 use mathlib.Core.Bool.{Bool, true, false, cond, not, _&&_, _||_}
 use mathlib.Core.List.{List, [], _∷_, _++_}
-use mathlib.Core.Logic.{_⊎_, inl, inr, ⊎-elim}
+use mathlib.Core.Logic.{inl, inr, ⊎-elim}
 use native.Mathlib.Nat.{eq-or-lt-of-le}
 use native.Mathlib.Omega.{arith}
 use lib.Dec.{T, ltb, leb, eqb, ltb→lt}
@@ -54,10 +54,10 @@ pub record Roomy (s : ConstraintSet) : Type 0 where
   pub few : s .residuals ≤ 64
   pub long : length (handles s) ≡ 64
 
-same-roomy : (s t : ConstraintSet) → SameList s t → Roomy s → Roomy t
+pub same-roomy : (s t : ConstraintSet) → SameList s t → Roomy s → Roomy t
 same-roomy s t e r = record { few = subst (λ (n : ℕ). n ≤ 64) (sym (e .count)) (r .few); long = ap length (e .handles) ∙ r .long }
 
-push-roomy : (s : ConstraintSet) → Roomy s → (h : ℕ) → Roomy (pushResidual s h)
+pub push-roomy : (s : ConstraintSet) → Roomy s → (h : ℕ) → Roomy (pushResidual s h)
 unfolding pushResidual
 push-roomy s r h = go (hasHandle s h) (ltb (s .residuals) 64) (ltb→lt (s .residuals) 64)
   where

@@ -1,15 +1,14 @@
 -- `apply_predicate`, to be read beside the Rust: the table of what one conjunct records, what that makes of a set, and a run of conjuncts. Assumes nothing.
 use Prim.Native.Nat.{ℕ}
-use mathlib.Core.Bool.{Bool, true, false, cond, not, _&&_, _||_}
+use mathlib.Core.Bool.{Bool, true, false, cond, _&&_, _||_}
 use mathlib.Core.List.{List, [], _∷_}
-use lib.ListN.{getD}
 use Rattle.scalar.specs.Kinds.{isNull}
 use Rattle.scalar.specs.declared.ScalarValue.{ScalarValue}
 use Rattle.scalar.specs.declared.ScalarValue.the-variants as S
-use Rattle.comparison.specs.Operators.{ordinary, bounding, reversedOp}
+use Rattle.comparison.specs.Operators.{ordinary}
 use Rattle.comparison.specs.declared.BinaryOp.{BinaryOp}
 use Rattle.comparison.specs.declared.BinaryOp.the-variants.{Eq, NotEq, Lt, LtEq, Gt, GtEq, IsNotDistinctFrom}
-use Rattle.constraint_spec.specs.Sets.{withFlag, unionValues, addNonNull, addLiteral, addRange, addResidual, done, refusedWith}
+use Rattle.constraint_spec.specs.Sets.{withFlag, unionValues, addNonNull, addLiteral, addRange, addResidual, done}
 use Rattle.constraint_spec.specs.declared.ConstraintSet.{ConstraintSet}
 use Rattle.constraint_spec.specs.declared.Ranged.{Ranged}
 use Rattle.constraint_spec.specs.declared.Applied.{Applied}

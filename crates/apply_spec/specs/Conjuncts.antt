@@ -3,7 +3,6 @@ use Prim.Native.Nat.{ℕ, zero, suc}
 use mathlib.Core.List.{List, [], _∷_, _++_}
 use lib.ListN.{getD}
 use Rattle.plan_data.specs.Nodes.{operandsOf}
-use Rattle.plan_data.specs.declared.NaryOp.{NaryOp}
 use Rattle.plan_data.specs.declared.NaryOp.the-variants as N
 use Rattle.plan_data.specs.declared.ExprData.{ExprData}
 use Rattle.plan_data.specs.declared.ExprData.the-variants.{Literal, ColumnRef, Unary, Binary, Nary}

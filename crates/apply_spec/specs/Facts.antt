@@ -1,9 +1,9 @@
 -- Facts: which identity a column has, which expression defines it, and the rules of facts that come from outside. Assumes nothing.
-use Prim.Native.Nat.{ℕ, _+_, _-_, min}
-use mathlib.Core.Bool.{Bool, true, false, cond, not, _&&_, _||_}
+use Prim.Native.Nat.{ℕ, _+_, _-_}
+use mathlib.Core.Bool.{Bool, not, _&&_, _||_}
 use mathlib.Core.List.{List}
 use lib.Dec.{ltb, leb, eqb}
-use lib.ListN.{getD, set, replicate}
+use lib.ListN.{getD, replicate}
 use Rattle.lists.specs.Ranges.{allFrom}
 use Rattle.constraint_spec.specs.Sets.{handleAt, setOk, emptySet}
 use Rattle.constraint_spec.specs.declared.ConstraintSet.{ConstraintSet}

@@ -4,7 +4,6 @@ use lib.Ieee.{ofInt, lt, eq}
 use Rattle.lists.specs.Ranges.{allFrom, anyFrom, countFrom}
 use Rattle.plan_kinds.specs.Rows.{lineOf, rowOf}
 use Rattle.plan_kinds.specs.Records.{bitsOk, handleOk, countOf, moreOf}
-use Rattle.scalar.specs.declared.ScalarValue.the-variants as S
 use Rattle.value_classes.specs.Parents.{parentIn, climb, rootOf, parentsOk, joined, each}
 use Rattle.value_classes.specs.Classes.{emptyClasses, unionOf}
 use Rattle.constraint_spec.specs.Sets.{emptySet, setOk, putNonNull, putLiteral, layRange, putRange, crossCheck, stepsTo, nonNullsMoved}

@@ -12,7 +12,7 @@ use Rattle.laws.proofs.Bools.{and-left, and-right}
 use Rattle.value_classes.specs.declared.ValueEquivalenceClasses.{ValueEquivalenceClasses}
 use Rattle.value_classes.specs.declared.United.{United}
 use Rattle.value_classes.specs.declared.Members.{Members}
-use Rattle.value_classes.proofs.ClassLaws.{falling, canonical-small, canonical-idempotent, rootsAnswered, roots-answered, joined-roots}
+use Rattle.value_classes.proofs.ClassLaws.{rootsAnswered, roots-answered, joined-roots}
 use Rattle.value_classes.proofs.ClassLaws.{joined-to-left, joined-to-right}
 use Rattle.value_classes.proofs.Unions.{union-joined, union-same}
 use Rattle.constraint_spec.specs.Sets.{none, noEntry, classesOf, canonicalAt, withClasses, normalized, unionBy, unionValues}

@@ -4,11 +4,11 @@ use mathlib.Core.Bool.{Bool, true, false, not, _||_, and-true}
 use Prim.Native.Nat.{ℕ, _≤_, _^_}
 use native.Mathlib.Decide.{decLt}
 use native.Mathlib.Omega.{arith}
-use lib.Dec.{T, leb, ltb, eqb, leb→le, le→leb, lt→ltb, eqb→eq, eqb-refl}
+use lib.Dec.{T, ltb, eqb, leb→le, le→leb, lt→ltb, eqb→eq, eqb-refl}
 use lib.Pow.{pow-pos}
 use lib.IntN.{ℤ, pos, negsuc}
 use lib.Signed.{ltZ, leZ}
-use lib.Ieee.{Float, nan, inf, fin, binary64, low, lt, eq, fits}
+use lib.Ieee.{Float, nan, inf, fin, binary64, low, lt, fits}
 use lib.Ieee.Fits.{eq→eqb}
 use Rattle.laws.proofs.Bools.{T-or-elim, T-or-inl, T-or-inr}
 use Rattle.scalar.specs.Exact.{eqZ, exactIn, wholeIn}
@@ -17,12 +17,10 @@ use Rattle.scalar.specs.Scalars.{pairwise, scalarToF64, sameScalar, lessScalar,
 use Rattle.scalar.specs.declared.Kind.{Kind}
 use Rattle.scalar.specs.declared.ScalarValue.{ScalarValue}
 use Rattle.scalar.specs.declared.ScalarValue.the-variants as S
-use Rattle.scalar.specs.declared.Number.{Number}
-use Rattle.scalar.specs.declared.Number.the-variants.{Of, Nothing}
+use Rattle.scalar.specs.declared.Number.the-variants.{Of}
 use Rattle.scalar.proofs.ExactLaws.{lt-exact, ltZ-scale, eqZ-scale}
-use Rattle.scalar.proofs.NumberLaws.{Converts, converts}
+use Rattle.scalar.proofs.NumberLaws.{converts}
 use Rattle.scalar.proofs.WholeLaws.{iff, eqZ→eq, eq→eqZ, lt→le}
-use Rattle.value_range.specs.Ranges.{upTo}
 use Rattle.comparison.specs.declared.BinaryOp.the-variants.{Lt, LtEq, Gt, GtEq}
 use Rattle.constraint_spec.specs.Values.{Place, nowhere, lowest, highest, point, placeOfFloat, placeOf, samePlace, belowP, aboveP, okRange, isNaN}
 use Rattle.constraint_spec.specs.Sets.{boundsBy}

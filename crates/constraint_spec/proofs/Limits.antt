@@ -5,10 +5,10 @@ use mathlib.Core.Logic.{inl}
 use Prim.Native.Nat.{ℕ}
 use native.Mathlib.Omega.{arith}
 use lib.Dec.{T}
-use lib.IntN.{ℤ, pos, negsuc}
-use lib.Ieee.{Float, nan, binary64, fits, ofInt, eq}
+use lib.IntN.{pos}
+use lib.Ieee.{nan, binary64, fits, ofInt, eq}
 use Rattle.scalar.specs.Exact.{exactAt}
-use Rattle.scalar.specs.Scalars.{Typed, scalarToF64}
+use Rattle.scalar.specs.Scalars.{Typed}
 use Rattle.scalar.specs.declared.ScalarValue.{ScalarValue}
 use Rattle.scalar.specs.declared.ScalarValue.the-variants as S
 use Rattle.scalar.proofs.NumberLaws.{converts}

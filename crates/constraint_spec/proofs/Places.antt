@@ -5,16 +5,15 @@ use mathlib.Core.Bool.{Bool, true, false, not, _&&_, _||_, cond, and-true, and-f
 use Prim.Native.Nat.{ℕ}
 use native.Mathlib.Omega.{arith}
 use lib.Dec.{T}
-use lib.IntN.{ℤ, pos}
+use lib.IntN.{ℤ}
 use lib.Signed.{ltZ}
 use lib.Ieee.{Float, nan, inf, fin, binary64, lt, eq, fits}
-use lib.Ieee.Bits.{is-true, is-false}
-use lib.Ieee.Fits.{and-i, and-l, and-r}
+use lib.Ieee.Bits.{is-true}
+use lib.Ieee.Fits.{and-l, and-r}
 use Rattle.laws.proofs.Bools.{T-or-neg-resolve-left, T-or-elim}
-use Rattle.scalar.specs.Exact.{eqZ, finite, exactIn, wholeIn}
-use Rattle.scalar.specs.Scalars.{scalarToF64, sameScalar, Typed, valueOf}
-use Rattle.value_range.specs.Ranges.{Sound, boundAt, unboundedRange, takesLower, takesUpper, tightenLower, tightenUpper, emptyRange, upTo}
-use Rattle.value_range.specs.Ranges.{meetsUpper, meetsLower, within}
+use Rattle.scalar.specs.Exact.{eqZ, finite, exactIn}
+use Rattle.scalar.specs.Scalars.{scalarToF64, sameScalar, Typed}
+use Rattle.value_range.specs.Ranges.{Sound, boundAt, takesLower, takesUpper, tightenLower, tightenUpper, emptyRange, upTo}
 use Rattle.value_range.specs.declared.Bound.{Bound}
 use Rattle.value_range.specs.declared.ValueRange.{ValueRange}
 use Rattle.scalar.specs.declared.ScalarValue.{ScalarValue}
@@ -22,10 +21,10 @@ use Rattle.scalar.specs.declared.ScalarValue.the-variants as S
 use Rattle.scalar.specs.declared.Number.{Number}
 use Rattle.scalar.specs.declared.Number.the-variants.{Of, Nothing}
 use Rattle.value_range.proofs.RangeLaws.{upTo-le, upper-tightened, upper-keeps, upper-end-sound, lower-tightened, lower-keeps, lower-end-sound, nothing-within}
-use Rattle.scalar.proofs.NumberLaws.{Converts, converts}
+use Rattle.scalar.proofs.NumberLaws.{converts}
 use Rattle.scalar.proofs.ExactLaws.{lt-exact, eq-exact}
 use Rattle.scalar.proofs.WholeLaws.{eqZ→eq, le-lt, lt-le, irrefl}
-use Rattle.constraint_spec.specs.Values.{Place, nowhere, lowest, highest, point, placeOfFloat, placeOf, belowP, aboveP, okUpper, okLower, okRange}
+use Rattle.constraint_spec.specs.Values.{Place, nowhere, lowest, highest, point, placeOf, belowP, aboveP, okUpper, okLower, okRange}
 use Rattle.constraint_spec.specs.Sets.{lowerBy, upperBy, tightenBy, outside}
 use Rattle.constraint_spec.specs.Meets.{SoundRange}
 use Rattle.constraint_spec.proofs.ValueLaws.{same-place}

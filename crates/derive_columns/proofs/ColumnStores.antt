@@ -1,9 +1,9 @@
 -- What the loops and stores come to, on plain values. Assumes nothing.
-use Prim.Native.Nat.{ℕ, _-_, _≤_}
-use mathlib.Core.Path.{_≡_, refl, sym, ap, _∙_}
+use Prim.Native.Nat.{ℕ, _≤_}
+use mathlib.Core.Path.{_≡_, refl, sym, _∙_}
 use mathlib.Core.List.{List}
 use native.Mathlib.Omega.{arith}
-use lib.ListN.{length, getD, set, List·getD-eq-default}
+use lib.ListN.{length, getD, List·getD-eq-default}
 use lib.Seq.{set-out}
 use Rattle.constraint_spec.specs.Sets.{stepsTo}
 use Rattle.derive_spec.specs.Columns.{withLineage, withDefinitions, assigned, defined, inserted, carried}

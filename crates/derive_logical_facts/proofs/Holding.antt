@@ -1,10 +1,9 @@
 -- The local table of 128 answers holds what the definition's table has, and nothing past it. Assumes nothing.
-use Prim.Native.Nat.{ℕ, zero, suc, _+_, _<_, _≤_, min}
-use mathlib.Core.Path.{_≡_, refl, sym, ap, _∙_}
-use mathlib.Core.Bool.{Bool, true, false}
+use Prim.Native.Nat.{ℕ, _+_, _<_, _≤_, min}
+use mathlib.Core.Path.{_≡_, refl, sym, _∙_}
+use mathlib.Core.Bool.{true, false}
 use mathlib.Core.List.{List, []}
 use native.Mathlib.Decide.{decLt, ℕ-discrete}
-use native.Mathlib.Numerals.{add-one}
 use native.Mathlib.Omega.{arith}
 use lib.Dec.{leb}
 use lib.ListN.{getD, set, length, replicate, length-set, getD-replicate}
@@ -15,7 +14,7 @@ use Rattle.constraint_spec.specs.Sets.{withValues, withResiduals, emptySet}
 use Rattle.laws.proofs.Bools.{and-left, and-right}
 use Rattle.plan.specs.declared.Plan.{Plan}
 use Rattle.plan_rules.specs.Rules.{planOk, countsWithin}
-use Rattle.plan_rules.proofs.RuleLaws.{Rules, rules}
+use Rattle.plan_rules.proofs.RuleLaws.{rules}
 use Rattle.plan_data.specs.declared.OperatorData.{OperatorData}
 use Rattle.plan_data.specs.Nodes.{operatorAt}
 use Rattle.plan_identities.specs.Identities.{identitiesOf}

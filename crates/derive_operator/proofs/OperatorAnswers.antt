@@ -1,6 +1,6 @@
 -- What each way out of an operator's function comes to, on plain values. Assumes nothing.
-use mathlib.Core.Path.{_≡_, refl, sym, ap, _∙_}
-use mathlib.Core.Bool.{Bool, true, false, cond, _&&_}
+use mathlib.Core.Path.{_≡_, sym, _∙_}
+use mathlib.Core.Bool.{Bool, true, false}
 use Rattle.constraint_spec.specs.Sets.{emptySet}
 use Rattle.constraint_spec.specs.declared.ConstraintSet.{ConstraintSet}
 use Rattle.plan.specs.declared.Plan.{Plan}

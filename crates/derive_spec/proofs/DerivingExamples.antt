@@ -4,16 +4,14 @@ use Prim.Native.Nat.{ℕ, _-_}
 use mathlib.Core.Path.{_≡_, refl}
 use mathlib.Core.Bool.{Bool, true, false}
 use mathlib.Core.List.{List, [], _∷_, _++_}
-use lib.IntN.{ℤ, pos}
+use lib.IntN.{pos}
 use lib.ListN.{length, replicate}
-use lib.Ieee.{Float, binary64, ofInt, lt, eq}
+use lib.Ieee.{binary64, ofInt, lt, eq}
 use Rattle.lists.specs.Ranges.{allFrom, anyFrom, countFrom}
 use Rattle.plan_kinds.specs.Rows.{lineOf, rowOf}
 use Rattle.plan_kinds.specs.Records.{bitsOk, handleOk, countOf, moreOf}
-use Rattle.scalar.specs.declared.ScalarValue.{ScalarValue}
 use Rattle.scalar.specs.declared.ScalarValue.the-variants as S
 use Rattle.value_range.specs.Ranges.{noBound, boundAt}
-use Rattle.value_range.specs.declared.ValueRange.{ValueRange}
 use Rattle.value_classes.specs.Parents.{parentIn, climb, rootOf, joined, each}
 use Rattle.value_classes.specs.Classes.{emptyClasses, rootsJoined, unionOf}
 use Rattle.value_classes.specs.declared.ValueEquivalenceClasses.{ValueEquivalenceClasses}
@@ -38,7 +36,7 @@ use Rattle.derive_spec.specs.Columns.{projected, renamed, mapped, keysOk
 use Rattle.derive_spec.specs.Operators.{accepted, refused, given, filtered, grouped}
 use Rattle.derive_spec.specs.Deriving.{answersTo, answerOf, deriveOf}
 use Rattle.derive_spec.specs.declared.DeriveAnswer.{DeriveAnswer}
-use Rattle.derive_spec.specs.declared.DeriveOutcome.the-variants.{Accepted, UnsupportedKey, Residuals, NoSuch}
+use Rattle.derive_spec.specs.declared.DeriveOutcome.the-variants.{UnsupportedKey, NoSuch}
 
 -- ---- a plan from the parts of its tables that are used
 abbrev padded : ℕ → List ℕ → List ℕ

@@ -1,14 +1,12 @@
 -- What the rules say of each kind of operator, for all facts. Assumes nothing.
 use Prim.Native.Nat.{ℕ, zero, suc, _<_}
-use mathlib.Core.Path.{_≡_, refl, sym, ap, _∙_}
+use mathlib.Core.Path.{_≡_, refl, _∙_}
 use mathlib.Core.Bool.{Bool, true, false, cond}
 use mathlib.Core.List.{List}
-use native.Mathlib.Decide.{ℕ-discrete}
 use native.Mathlib.Omega.{arith}
 use lib.Dec.{eqb}
 use lib.ListN.{getD, set, replicate}
 use lib.Seq.{getD-set-other}
-use borrow.Author.Tests.{ne-eqb}
 use Rattle.laws.proofs.Lists.{getD-replicate-self}
 use Rattle.constraint_spec.specs.Sets.{stepsTo, emptySet}
 use Rattle.plan.specs.declared.Plan.{Plan}
@@ -19,18 +17,18 @@ use Rattle.plan_data.specs.Nodes.{nodeAt}
 use Rattle.plan_data.specs.declared.Run.{Run}
 use Rattle.plan_data.specs.declared.ExprData.{ExprData}
 use Rattle.plan_data.specs.declared.ExprData.the-variants.{Literal, ColumnRef, Unary, Binary, Nary}
-use Rattle.plan_data.specs.declared.JoinType.the-variants.{Inner, LeftSemi, LeftAnti, LeftOuter, Single, RightOuter, FullOuter, LeftMark}
+use Rattle.plan_data.specs.declared.JoinType.the-variants.{LeftSemi, LeftAnti, LeftOuter, Single, RightOuter, FullOuter, LeftMark}
 use Rattle.plan_identities.specs.declared.Identities.{Identities}
 use Rattle.plan_identities.specs.declared.ValueId.the-variants.{Derived}
 use Rattle.apply_spec.specs.Facts.{emptyFacts}
 use Rattle.apply_spec.specs.Entries.{overlaid, inputsMerged}
 use Rattle.apply_spec.specs.declared.LogicalFacts.{LogicalFacts}
 use Rattle.derive_spec.specs.Columns.{itemAt, lineageEntry, noColumns, columnsIn, factsWith, inserted, assigned, carried, computed, keyColumn}
-use Rattle.derive_spec.specs.Columns.{keyed, keysOk, derivedColumns, keyStep, keysOf, derivedStep, projected, projectStep, renamed, renameStep}
+use Rattle.derive_spec.specs.Columns.{keyed, keysOk, derivedColumns, keyStep, keysOf, derivedStep, projected, renamed, renameStep}
 use Rattle.derive_spec.specs.Columns.{aggregated}
 use Rattle.derive_spec.specs.Operators.{accepted, refused, joined, grouped}
 use Rattle.derive_spec.specs.declared.ColumnFacts.{ColumnFacts}
-use Rattle.derive_spec.specs.declared.DeriveOutcome.the-variants.{Accepted, UnsupportedKey}
+use Rattle.derive_spec.specs.declared.DeriveOutcome.the-variants.{UnsupportedKey}
 
 -- ---- joins: whose constraints stay
 module _ (p : Plan) (ids : Identities) (h : Operator) (on : Expr) (f g : LogicalFacts) where

@@ -8,9 +8,8 @@ use native.Mathlib.Omega.{arith}
 use lib.Dec.{ltb}
 use lib.ListN.{getD, length}
 use borrow.Author.Tests.{lt-ltb, ltb-true}
-use Rattle.constraint_spec.specs.Sets.{emptySet, mergeFrom, done}
-use Rattle.constraint_spec.specs.Room.{listed, jointList}
-use Rattle.constraint_spec.specs.declared.ConstraintSet.{ConstraintSet}
+use Rattle.constraint_spec.specs.Sets.{emptySet, mergeFrom}
+use Rattle.constraint_spec.specs.Room.{jointList}
 use Rattle.constraint_spec.specs.declared.Applied.{Applied}
 use Rattle.plan.specs.declared.Plan.{Plan}
 use Rattle.plan.specs.declared.Expr.{Expr}
@@ -35,10 +34,10 @@ use Rattle.apply_spec.proofs.Refusals.{Roomy}
 use Rattle.derive_spec.specs.Columns.{columnsIn, factsWith, keysOk, aggregated}
 use Rattle.derive_spec.specs.Operators.{refusalOf, refuserOf, isAccepted, accepted, refused, given, fitted, filtered, joined, grouped}
 use Rattle.derive_spec.specs.Operators.{operatorDerived, outerOf, innerOf}
-use Rattle.derive_spec.specs.Deriving.{missing, answerFrom, answersTo, answerOf, deriveOf}
-use Rattle.derive_spec.specs.Residuals.{predicateList, joinList, operatorList, residualsAt, keysFine, IsInput, Reached, here, through}
+use Rattle.derive_spec.specs.Deriving.{missing, answersTo, answerOf, deriveOf}
+use Rattle.derive_spec.specs.Residuals.{predicateList, operatorList, residualsAt, keysFine, IsInput, Reached, here, through}
 use Rattle.derive_spec.specs.declared.DeriveOutcome.{DeriveOutcome}
-use Rattle.derive_spec.specs.declared.DeriveOutcome.the-variants.{Accepted, UnsupportedKey, Residuals, NoSuch}
+use Rattle.derive_spec.specs.declared.DeriveOutcome.the-variants.{Accepted, UnsupportedKey, Residuals}
 use Rattle.derive_spec.specs.declared.DeriveAnswer.{DeriveAnswer}
 use Rattle.derive_spec.proofs.Answers.{answer-made, answer-at}
 use Rattle.derive_spec.proofs.Before.{inputs-before}

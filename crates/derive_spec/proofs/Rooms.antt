@@ -3,18 +3,17 @@ use mathlib.Core.Path.{_≡_, refl, sym, ap, ap₂, subst, _∙_}
 use mathlib.Core.Bool.{Bool, true, false, cond, not, _&&_}
 use mathlib.Core.List.{List, [], _∷_}
 use mathlib.Core.Logic.{_⊎_, inl, inr}
-use Prim.Native.Nat.{ℕ, zero, suc, _+_, _<_, _≤_, min}
+use Prim.Native.Nat.{ℕ, zero, suc, _<_, _≤_, min}
 use native.Mathlib.Omega.{arith}
-use lib.Dec.{T, ltb}
-use lib.ListN.{getD, set, length, length-set}
-use borrow.Author.Tests.{ltb-true}
-use Rattle.constraint_spec.specs.Sets.{handles, withResiduals, emptySet, stepsTo, hasHandle, roomFor, pushResidual, done, normalized, mergeResidual}
+use lib.Dec.{T}
+use lib.ListN.{getD, length}
+use Rattle.constraint_spec.specs.Sets.{handles, emptySet, stepsTo, roomFor, pushResidual, done, normalized, mergeResidual}
 use Rattle.constraint_spec.specs.Sets.{mergeResiduals}
 use Rattle.constraint_spec.specs.Sets.{mergeValues, mergedSet, roomTo, mergeRoom, mergeFrom}
 use Rattle.constraint_spec.specs.Room.{listed, pushed, pushTo, jointList}
 use Rattle.constraint_spec.specs.declared.ConstraintSet.{ConstraintSet}
 use Rattle.constraint_spec.specs.declared.Applied.{Applied}
-use Rattle.constraint_spec.proofs.RoomLaws.{SameList, same-normalized, same-listed, same-values, pushed-grows, length-listed, room-noted, room-full, Fits}
+use Rattle.constraint_spec.proofs.RoomLaws.{same-normalized, same-listed, same-values, pushed-grows, length-listed, room-noted, room-full, Fits}
 use Rattle.constraint_spec.proofs.Merge.{merge-done, merge-refused}
 use Rattle.plan.specs.declared.Plan.{Plan}
 use Rattle.plan_data.specs.Nodes.{nodeAt}
@@ -23,28 +22,13 @@ use Rattle.apply_spec.specs.Conjuncts.{conjunctsOf}
 use Rattle.apply_spec.specs.Apply.{conjunctApplied, allApplied}
 use Rattle.apply_spec.specs.Entries.{predicateApplied}
 use Rattle.apply_spec.specs.Wanted.{conjunctRecorded, wantedBy}
-use Rattle.apply_spec.proofs.Refusals.{Roomy, Leaves, conjunct-leaves}
+use Rattle.apply_spec.proofs.Refusals.{Roomy, same-roomy, push-roomy, conjunct-leaves}
 use Rattle.derive_spec.specs.Residuals.{predicateList}
 
 -- ---- sets with 64 places for residuals, of which they use no more
-roomy-same : (s t : ConstraintSet) → SameList s t → Roomy s → Roomy t
-roomy-same s t m r = record { few = subst (λ (n : ℕ). n ≤ 64) (sym (m .count)) (r .few); long = ap length (m .handles) ∙ r .long }
-
 pub roomy-empty : Roomy emptySet
 unfolding emptySet
 roomy-empty = record { few = omega arith; long = refl }
-
-roomy-push : (s : ConstraintSet) (h : ℕ) → Roomy s → Roomy (pushResidual s h)
-unfolding pushResidual
-roomy-push s h r = go (hasHandle s h) (ltb (s .residuals) 64) refl
-  where
-    pushedSet : ConstraintSet
-    pushedSet = withResiduals s (set (handles s) (s .residuals) h) (s .residuals + 1)
-
-    go : (a b : Bool) → ltb (s .residuals) 64 ≡ b → Roomy (cond a s (cond b pushedSet s))
-    go true b e = r
-    go false true e = record { few = omega (arith, ltb-true (s .residuals) 64 e); long = length-set (handles s) (s .residuals) h ∙ r .long }
-    go false false e = r
 
 -- ---- what became of a list that should be w
 abbrev pub Kept : Applied → List ℕ → Type 0
@@ -102,7 +86,7 @@ module _ (b t : ConstraintSet) (r : Roomy t) where
   after-roomy : (k : ℕ) → Roomy (after k)
   unfolding stepsTo
   after-roomy zero = r
-  after-roomy (suc k) = roomy-push (after k) (getD (handles b) k 0) (after-roomy k)
+  after-roomy (suc k) = push-roomy (after k) (after-roomy k) (getD (handles b) k 0)
 
   abbrev MergedTo : ℕ → Type 0
   MergedTo k =
@@ -150,7 +134,7 @@ merge-kept a b ra rb = go (merged-to b t rt n)
     t = mergeValues a b
 
     rt : Roomy t
-    rt = roomy-same a t (same-values b a) ra
+    rt = same-roomy a t (same-values b a) ra
 
     n : ℕ
     n = min (b .residuals) 64
@@ -171,7 +155,7 @@ merge-kept a b ra rb = go (merged-to b t rt n)
         subst (λ (x : Applied). Kept x (jointList a b)) (sym (merge-done a b (m .0)))
         (inl (
           refl,
-          roomy-same u (normalized u) (same-normalized u) (after-roomy b t rt n),
+          same-roomy u (normalized u) (same-normalized u) (after-roomy b t rt n),
           same-listed u (normalized u) (same-normalized u) ∙ m .1 ∙ e,
           subst
               (λ (l : List ℕ). length l ≤ 64) e (m .2),

@@ -1,7 +1,7 @@
 -- Deriving: the operators of a plan in handle order, each from the answers of those before it. An operator used twice is derived once, and an
 -- operator that the asked one does not reach is not looked at by any that it reaches. Assumes nothing.
 use Prim.Native.Nat.{ℕ, zero, suc}
-use mathlib.Core.Bool.{Bool, cond, _&&_}
+use mathlib.Core.Bool.{cond, _&&_}
 use mathlib.Core.List.{List, [], _∷_, _++_}
 use lib.Dec.{ltb}
 use lib.ListN.{getD}

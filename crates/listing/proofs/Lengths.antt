@@ -2,7 +2,7 @@
 use Prim.Native.Nat.{ℕ, zero, suc, _+_, _-_, _*_, _^_, _≤_, _<_, min}
 use mathlib.Core.Bool.{Bool, true, false, cond, _&&_, _||_, false≢true}
 use mathlib.Core.List.{List, [], _∷_, _++_}
-use mathlib.Core.Path.{_≡_, refl, sym, ap, _∙_}
+use mathlib.Core.Path.{_≡_, refl, ap, _∙_}
 use native.Mathlib.Decide.{decLt, decLe}
 use native.Mathlib.Nat.{le-trans, mul-le-mul-right}
 use native.Mathlib.Omega.{arith}
@@ -18,15 +18,14 @@ use Rattle.plan_rules.proofs.RuleLaws.{rules}
 use Rattle.plan_rules.proofs.AppendRules.{Within, counts-within}
 use Rattle.scalar.specs.Scalars.{Typed}
 use Rattle.constraint_spec.specs.Sets.{setOk, canonicalAt, nonNulls, literals, handles, literalAt, handleAt}
-use Rattle.constraint_spec.specs.declared.ConstraintSet.{ConstraintSet}
 use Rattle.plan_identities.specs.declared.Identities.{Identities}
 use Rattle.apply_spec.specs.Facts.{lineageOk, definitionOk, residualOk, factsOk}
 use Rattle.apply_spec.specs.declared.LogicalFacts.{LogicalFacts}
 use Rattle.writing.specs.Text.{lines}
-use Rattle.listing_lines.specs.Lines.{headerLine, columnLine, defineLine, memberText, nonnullLine, literalLine, rangeLine, residualLine}
+use Rattle.listing_lines.specs.Lines.{headerLine, memberText}
 use Rattle.listing_lines.proofs.Lengths.{header-length, column-length, define-length, member-length, nonnull-length, literal-length, range-length}
 use Rattle.listing_lines.proofs.Lengths.{residual-length}
-use Rattle.listing.specs.Listing.{columnLines, defineLines, classWord, membersIn, membersText, classLine, classLines, nonnullLines}
+use Rattle.listing.specs.Listing.{columnLines, defineLines, membersIn, membersText, classLine, classLines, nonnullLines}
 use Rattle.listing.specs.Listing.{literalLines, rangeLines, residualLines, setText, listingText}
 use Rattle.listing.specs.Typed.{TypedFacts}
 

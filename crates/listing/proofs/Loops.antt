@@ -1,6 +1,6 @@
 -- A loop that writes line after line: one more line, and the end. Assumes nothing.
 use Prim.Native.Nat.{ℕ, _+_}
-use mathlib.Core.List.{List, []}
+use mathlib.Core.List.{List}
 use mathlib.Core.Path.{_≡_, subst}
 use lib.ListN.{length}
 use Rattle.writing.specs.Text.{Wrote, lines}

@@ -2,18 +2,17 @@
 use Prim.Native.Nat.{ℕ, zero, suc, _+_, _-_, _*_, _/_, _%_, _^_, _≤_, _<_, min}
 use mathlib.Core.Bool.{Bool, true, false, cond}
 use mathlib.Core.List.{List, [], _∷_, _++_}
-use mathlib.Core.Path.{_≡_, refl, sym, ap, subst, _∙_}
+use mathlib.Core.Path.{_≡_, refl, ap, _∙_}
 use native.Mathlib.Decide.{decLt}
 use native.Mathlib.Omega.{arith}
 use borrow.Author.Tests.{lt-ltb, le-ltb}
-use lib.Dec.{ltb, eqb}
+use lib.Dec.{eqb}
 use lib.IntN.{ℤ, pos, negsuc}
 use lib.Ieee.{Float, binary64, toBits}
 use lib.ListN.{getD, length, length-append}
 use mir.Syntax.{w32, w64}
 use mir.Val.{SFits}
 use Rattle.io.specs.Digits.{digits}
-use Rattle.scalar.specs.Kinds.{kindOf}
 use Rattle.scalar.specs.Scalars.{Typed}
 use Rattle.scalar.specs.declared.Kind.{Kind}
 use Rattle.scalar.specs.declared.Kind.the-variants as K
@@ -27,7 +26,7 @@ use Rattle.plan_identities.specs.Identities.{valueBy}
 use Rattle.plan_identities.specs.declared.Identities.{Identities}
 use Rattle.writing.specs.Text.{decimalOf, signedOf}
 use Rattle.writing.proofs.Wrotes.{decimal-low, decimal-high}
-use Rattle.listing_lines.specs.Lines.{flagText, nameText, headerLine, columnLine, defineLine, memberText, nonnullLine, kindWord, payloadText}
+use Rattle.listing_lines.specs.Lines.{nameText, headerLine, columnLine, defineLine, memberText, nonnullLine, kindWord}
 use Rattle.listing_lines.specs.Lines.{valueText, literalLine, formText, boundText, rangeLine, residualLine}
 
 -- a number below 10 to the k, k not 0, has at most k digits

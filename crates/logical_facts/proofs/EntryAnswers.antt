@@ -1,5 +1,5 @@
 -- The public entries, one law for each way out: a test that fails, and the answer where all pass. Assumes nothing.
-use mathlib.Core.Path.{_≡_, refl, sym, ap, _∙_}
+use mathlib.Core.Path.{_≡_, _∙_}
 use mathlib.Core.Bool.{Bool, true, false, cond}
 use Rattle.lists.specs.Ranges.{allFrom}
 use Rattle.constraint_spec.specs.Sets.{setOk, mergeFrom, done}

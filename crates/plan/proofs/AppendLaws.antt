@@ -1,20 +1,19 @@
 -- Appending leaves what was there as it was: every earlier column, node, list and item reads as before, a refused call hands back the very plan,
 -- and the new entry reads as what was appended. Assumes nothing.
 use Prim.Native.Nat.{ℕ, _+_, _≤_, _<_}
-use mathlib.Core.Path.{_≡_, refl, sym, ap, _∙_}
+use mathlib.Core.Path.{_≡_, refl, _∙_}
 use mathlib.Core.Bool.{Bool, true, false, cond}
 use mathlib.Core.List.{List}
 use native.Mathlib.Nat.{le-refl, le-trans, lt-of-lt-of-le}
 use native.Mathlib.Omega.{arith}
 use lib.Dec.{leb}
-use lib.ListN.{length, getD, set, length-set, replicate, length-replicate}
+use lib.ListN.{length, getD, set, length-set}
 use lib.Seq.{getD-set-same, getD-set-other}
 use Rattle.plan_kinds.specs.declared.Record.{Record}
 use Rattle.plan.specs.declared.Plan.{Plan}
 use Rattle.plan.specs.declared.Appended.{Appended}
-use Rattle.plan.specs.Plans.{emptyPlan, columnPushed, expressionPushed, operatorPushed, itemPushed}
 use Rattle.plan.specs.declared.Items.{Items}
-use Rattle.plan.specs.Append.{noRoom, addedAt, withColumn, withExpr, withOperator, withItem, appendColumn, appendExpr, appendOperator, appendItem}
+use Rattle.plan.specs.Append.{withColumn, withExpr, withOperator, withItem, appendColumn, appendExpr, appendOperator, appendItem}
 use Rattle.plan.specs.Records.{columnRecord, exprRecord, exprStart, operatorRecord, operatorStart, itemRecord}
 use Rattle.plan.specs.Extends.{Extends, Sized}
 

@@ -2,11 +2,10 @@
 use Prim.Native.Nat.{ℕ, zero, suc, _+_, _<_, _≤_}
 use mathlib.Core.Bool.{true, cond}
 use mathlib.Core.List.{List, [], _∷_, _++_}
-use mathlib.Core.Path.{_≡_, refl, sym, ap, subst, _∙_}
+use mathlib.Core.Path.{_≡_, refl, sym, subst, _∙_}
 use native.Mathlib.Omega.{arith}
 use borrow.Author.Tests.{ltb-true}
 use lib.Dec.{eqb, ltb}
-use lib.ListN.{getD}
 use Rattle.laws.proofs.Bools.{and-left, and-right}
 use Rattle.plan_kinds.specs.declared.Record.{Record}
 use Rattle.plan_kinds.specs.Rows.{rowOf, expressions}
@@ -14,15 +13,15 @@ use Rattle.plan_kinds.specs.Records.{codeOk, bitsOk}
 use Rattle.plan.specs.declared.Plan.{Plan}
 use Rattle.plan.specs.Records.{columnRecord, exprRecord, exprStart, operatorRecord, operatorStart}
 use Rattle.plan_rules.specs.Rules.{planOk, recordOk, exprOkOf}
-use Rattle.plan_rules.proofs.RuleLaws.{Rules, rules}
+use Rattle.plan_rules.proofs.RuleLaws.{rules}
 use Rattle.plan_file_laws.specs.ListItems.{firstOf, secondOf}
 use Rattle.plan_file_laws.specs.Writing.{putRecord, putRecords}
-use Rattle.plan_file_laws.specs.PlanRecords.{itemOf, itemsOf, withItems, columnsTo, exprsTo, operatorsTo, planRecords, writeOf}
+use Rattle.plan_file_laws.specs.PlanRecords.{itemOf, itemsOf, withItems, columnsTo, exprsTo, operatorsTo, writeOf}
 use Rattle.plan_file_laws.proofs.Sequences.{put-snoc}
 use Rattle.plan_file_laws.proofs.Cuts.{put-rest}
 use Rattle.plan_file_laws.proofs.Written.{put-append}
 use Rattle.writing.specs.Text.{lines}
-use Rattle.plan_file_write.specs.Written.{recordBytes, itemIn, itemsBytes, listedBytes, columnIn, columnsBytes, exprBytes}
+use Rattle.plan_file_write.specs.Written.{recordBytes, itemIn, itemsBytes, listedBytes, columnsBytes, exprBytes}
 use Rattle.plan_file_write.specs.Written.{operatorBytes, writtenOf}
 use Rattle.plan_file_write.proofs.WriteLaws.{same-bits}
 

@@ -1,7 +1,7 @@
 -- The bytes of a plan, from its tables: columns, then expressions with their items, then operators with theirs. Assumes nothing.
 use Prim.Native.Nat.{ℕ, _+_, _%_}
 use mathlib.Core.Bool.{cond}
-use mathlib.Core.List.{List, [], _∷_, _++_}
+use mathlib.Core.List.{List, [], _++_}
 use lib.Dec.{eqb}
 use lib.ListN.{getD}
 use Rattle.writing.specs.Text.{lines}
@@ -9,7 +9,7 @@ use Rattle.plan_kinds.specs.declared.Record.{Record}
 use Rattle.plan_kinds.specs.declared.Row.{Row}
 use Rattle.plan_kinds.specs.Rows.{rowOf}
 use Rattle.plan.specs.declared.Plan.{Plan}
-use Rattle.plan.specs.Records.{exprRecordOf, operatorRecordOf, itemRecordOf}
+use Rattle.plan.specs.Records.{exprRecordOf, operatorRecordOf}
 use Rattle.plan_file_laws.specs.ListItems.{firstOf, secondOf, itemKind}
 use Rattle.plan_file_laws.specs.Writing.{putRecord}
 

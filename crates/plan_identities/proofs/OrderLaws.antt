@@ -7,7 +7,7 @@ use native.Mathlib.Omega.{arith}
 use lib.Dec.{ltb, eqb}
 use borrow.Author.Tests.{ltb-true, ltb-false, lt-ltb, le-ltb, eqb-true, eq-eqb}
 use Rattle.plan.specs.declared.Plan.{Plan}
-use Rattle.plan_identities.specs.Identities.{tableOf, nameOf, byKey, before}
+use Rattle.plan_identities.specs.Identities.{byKey, before}
 use Rattle.plan_identities.proofs.PlaceLaws.{by-test}
 
 -- a test of two numbers that is a strict total order: none comes before itself, what comes before what comes before c comes before c, and of two

@@ -1,12 +1,12 @@
 -- Appending keeps the rules: a column of a listed kind, an item, an expression and an operator that are right where they come to stand.
 -- Assumes nothing.
-use Prim.Native.Nat.{ℕ, suc, _+_, _≤_, _<_}
+use Prim.Native.Nat.{ℕ, _+_, _≤_, _<_}
 use mathlib.Core.Path.{_≡_, refl, sym, subst, ap, _∙_}
-use mathlib.Core.Bool.{Bool, true, false, cond, _&&_}
+use mathlib.Core.Bool.{Bool, true, false, _&&_}
 use mathlib.Core.List.{List}
 use mathlib.Core.Logic.{⊎-elim}
 use native.Mathlib.Omega.{arith}
-use lib.Dec.{ltb, leb, eqb}
+use lib.Dec.{leb, eqb}
 use lib.ListN.{getD}
 use borrow.Author.Tests.{leb-true, ltb-true, le-leb, eqb-true, ne-eqb}
 use native.Mathlib.Nat.{not-le-of-lt}
@@ -16,14 +16,14 @@ use Rattle.lists.specs.Ranges.{allFrom, anyFrom, countFrom}
 use Rattle.lists.proofs.RangeLaws.{below-or-not, all-at, any-same, any-none, count-same, count-none}
 use Rattle.plan_kinds.specs.declared.Record.{Record}
 use Rattle.plan_kinds.specs.Rows.{rowOf, lineOf}
-use Rattle.plan_kinds.specs.Records.{handleOk, handlesOk, countOf, moreOf}
+use Rattle.plan_kinds.specs.Records.{handleOk, countOf, moreOf}
 use Rattle.plan.specs.declared.Plan.{Plan}
 use Rattle.plan.specs.Append.{withColumn, withExpr, withOperator, withItem}
-use Rattle.plan.specs.Records.{itemRecordOf, exprRecord, exprStart, operatorRecord, operatorStart, itemRecord}
+use Rattle.plan.specs.Records.{operatorRecord, operatorStart}
 use Rattle.plan.specs.Extends.{Extends, Sized}
 use Rattle.plan.proofs.AppendLaws.{column-longer, expr-longer, operator-longer, item-longer, new-column}
-use Rattle.plan_rules.specs.Rules.{recordOk, itemOk, listsOk, columnOk, exprOk, operatorOkOf, operatorOk, scansOf, scans, onceOf, scannedOnce}
-use Rattle.plan_rules.specs.Rules.{countsWithin, countsOk, planOk}
+use Rattle.plan_rules.specs.Rules.{recordOk, itemOk, listsOk, columnOk, exprOk, operatorOkOf, operatorOk, scansOf, scans, scannedOnce}
+use Rattle.plan_rules.specs.Rules.{countsWithin}
 use Rattle.plan_rules.proofs.RuleLaws.{Rules, grown}
 
 -- ---- a Scan's list is whole, and its items are columns

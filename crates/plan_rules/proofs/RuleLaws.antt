@@ -1,26 +1,25 @@
 -- The rules of a plan part by part, and that a plan that grows by right entries keeps them. Assumes nothing.
 use Prim.Native.Nat.{ℕ, suc, _+_, _≤_, _<_}
-use mathlib.Core.Path.{_≡_, refl, sym, subst, ap, _∙_}
+use mathlib.Core.Path.{_≡_, sym, subst}
 use mathlib.Core.Bool.{Bool, true, false, cond, _&&_}
 use mathlib.Core.List.{List}
-use mathlib.Core.Logic.{⊎-elim, _⊎_}
+use mathlib.Core.Logic.{⊎-elim}
 use native.Mathlib.Nat.{le-refl}
 use native.Mathlib.Omega.{arith}
 use lib.Dec.{ltb, leb, eqb}
-use lib.ListN.{getD}
 use borrow.Author.Tests.{leb-true, ltb-true, le-leb, lt-ltb}
 use Rattle.laws.proofs.Bools.{and-left, and-right, and-both}
-use Rattle.lists.specs.Ranges.{allFrom, anyFrom, countFrom}
-use Rattle.lists.proofs.RangeLaws.{below-or-not, all-of, all-mono, any-same, count-same, table}
+use Rattle.lists.specs.Ranges.{allFrom}
+use Rattle.lists.proofs.RangeLaws.{below-or-not, all-of, all-mono, table}
 use Rattle.plan_kinds.specs.declared.Record.{Record}
 use Rattle.plan_kinds.specs.declared.Row.{Row}
 use Rattle.plan_kinds.specs.Rows.{rowOf}
 use Rattle.plan_kinds.specs.Records.{codeOk, bitsOk, handleOk, handlesOk, countOf, moreOf}
 use Rattle.plan.specs.declared.Plan.{Plan}
-use Rattle.plan.specs.Records.{itemRecordOf, exprRecord, exprStart, operatorRecord, operatorStart, itemRecord}
+use Rattle.plan.specs.Records.{itemRecordOf, exprRecord, exprStart, operatorRecord, operatorStart}
 use Rattle.plan.specs.Extends.{Extends}
-use Rattle.plan_rules.specs.Rules.{recordOk, itemOk, listsOk, columnOk, exprOkOf, exprOk, operatorOkOf, operatorOk, scansOf, scans}
-use Rattle.plan_rules.specs.Rules.{scannedOnce, countsWithin, countsOk, planOk}
+use Rattle.plan_rules.specs.Rules.{recordOk, itemOk, listsOk, columnOk, exprOkOf, exprOk, operatorOkOf, operatorOk}
+use Rattle.plan_rules.specs.Rules.{scannedOnce, countsOk, planOk}
 
 -- ---- the rules, part by part
 pub record Rules (p : Plan) : Type 0 where

@@ -5,7 +5,7 @@ use mathlib.Core.List.{List}
 use Prim.Native.Nat.{ℕ, _+_, _<_, _≤_}
 use lib.Dec.{eqb, ltb}
 use lib.ListN.{set}
-use borrow.Author.Tests.{eq-eqb, ne-eqb, lt-ltb, le-ltb, le-leb, lt-leb}
+use borrow.Author.Tests.{eq-eqb, ne-eqb, le-leb, lt-leb}
 use Rattle.comparison.specs.declared.BinaryOp.{BinaryOp}
 use Rattle.plan_kinds.specs.declared.Record.{Record}
 use Rattle.plan.specs.Plans.{expressionPushed}
@@ -17,7 +17,6 @@ use Rattle.plan_append.specs.declared.Grown.{Grown}
 use Rattle.plan_data.specs.Nodes.{runOf, recordOfExpr}
 use Rattle.plan_data.specs.declared.UnaryOp.the-variants as U
 use Rattle.plan_data.specs.declared.NaryOp.{NaryOp}
-use Rattle.plan_data.specs.declared.ExprData.{ExprData}
 use Rattle.plan_data.specs.declared.ExprData.the-variants.{Unary, Binary, Nary}
 use Rattle.simplify_spec.specs.Shapes.{naryOpFor}
 use Rattle.simplify_spec.specs.OneExpression.{stOf, withNode, handle, shapeIn, kept, failed, took, addRecord, addNode, addLiteral, notOther, notStep, notOf}

@@ -1,10 +1,10 @@
 -- How the code comes to what the definitions say: the tables as arrays lent one by one, and how it goes through the operands of an And or Or. It counts
 -- on the way in, makes the node at the end, and writes each operand that is kept on the way back. Assumes nothing.
-use Prim.Native.Nat.{ℕ, zero, suc, _+_}
+use Prim.Native.Nat.{ℕ, _+_}
 use mathlib.Core.Bool.{Bool, true, false, not, cond, _&&_, _||_}
 use mathlib.Core.List.{List, [], _∷_}
 use lib.Dec.{eqb}
-use lib.ListN.{length, set}
+use lib.ListN.{length}
 use Rattle.plan.specs.declared.Items.{Items}
 use Rattle.plan.specs.declared.Added.{Added}
 use Rattle.plan.specs.declared.Added.the-variants.{At, Room}
@@ -12,7 +12,7 @@ use Rattle.plan_append.specs.Appending.{exprsOf, itemsOf}
 use Rattle.plan_data.specs.Nodes.{runOf, recordOfExpr}
 use Rattle.plan_data.specs.declared.ExprData.the-variants.{Nary}
 use Rattle.simplify_spec.specs.Shapes.{naryOpFor}
-use Rattle.simplify_spec.specs.OneExpression.{stOf, kept, failed, took, addRecord, addLiteral, Operands, itemSet, itemsPut, counted, withItems, roomFor}
+use Rattle.simplify_spec.specs.OneExpression.{kept, failed, took, addRecord, addLiteral, Operands, itemSet, itemsPut, counted, withItems, roomFor}
 use Rattle.simplify_spec.specs.declared.Tables.{Tables}
 use Rattle.simplify_spec.specs.declared.Simplified.{Simplified}
 use Rattle.simplify_expr.specs.declared.Done.{Done}

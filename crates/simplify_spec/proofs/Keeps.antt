@@ -21,7 +21,7 @@ use Rattle.rows_spec.specs.Typing.{kindOfNode, booleanAt, nodeTyped}
 use Rattle.rows_spec.specs.declared.Row.{Row}
 use Rattle.rows_spec.proofs.CompareLaws.{truth-code}
 use Rattle.simplify_spec.specs.Shapes.{shapeOf, naryOpFor}
-use Rattle.simplify_spec.specs.OneExpression.{nodeIn, shapeIn, handle, kept, failed, took, addRecord, addLiteral, addNary, notStep, notOf}
+use Rattle.simplify_spec.specs.OneExpression.{nodeIn, shapeIn, kept, failed, took, addRecord, addLiteral, addNary, notStep, notOf}
 use Rattle.simplify_spec.specs.OneExpression.{compareOf, enterOf, Operands, operandsFrom, itemsPut, counted, withItems, roomFor, rebuilt}
 use Rattle.simplify_spec.specs.OneExpression.{naryOf, stepBy, simplifyAt}
 use Rattle.simplify_spec.specs.OneOperator.{planWith}

@@ -22,7 +22,7 @@ use Rattle.plan_data.specs.declared.OperatorData.{OperatorData}
 use Rattle.plan_data.specs.declared.OperatorData.the-variants.{Scan, ConstScan, TableFunction, Selection, Projection, Rename, Map, Aggregation, Sort}
 use Rattle.plan_data.specs.declared.OperatorData.the-variants.{Limit, Output, CrossProduct, Join}
 use Rattle.simplify_spec.specs.Shapes.{isLiteral}
-use Rattle.simplify_spec.specs.OneExpression.{shapeIn, kept, enterOf, withItems, simplifyAt}
+use Rattle.simplify_spec.specs.OneExpression.{shapeIn, enterOf, withItems, simplifyAt}
 use Rattle.simplify_spec.specs.OneOperator.{heldOf, heldCount, heldAt, eachWith, eachTo, itemCount, itemFirst, itemSecond}
 use Rattle.simplify_spec.specs.OneOperator.{writeAll, withList, rebuiltOf, planWith, planAdded, addOperator, inputOr, rewriteOf, startOf}
 use Rattle.simplify_spec.specs.OneOperator.{eachOf, simplifyOf}

@@ -1,6 +1,6 @@
 -- Simplifying the expressions of one operator, as the Rust's `rewrite` and `simplify_operator_exprs` do, and the answer. Assumes nothing.
 use Prim.Native.Nat.{ℕ, zero, suc, _+_}
-use mathlib.Core.Bool.{Bool, true, false, cond, _&&_}
+use mathlib.Core.Bool.{true, false, cond, _&&_}
 use mathlib.Core.List.{List}
 use lib.Dec.{ltb, leb}
 use lib.ListN.{getD, set, replicate}

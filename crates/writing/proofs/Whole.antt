@@ -1,14 +1,14 @@
 -- What was written from the start of a buffer that has room for it is the whole of it. Assumes nothing.
-use Prim.Native.Nat.{ℕ, zero, suc, _+_, _≤_, _<_}
+use Prim.Native.Nat.{ℕ, suc, _+_, _≤_}
 use mathlib.Core.List.{List, [], _∷_, _++_, append-assoc, append-nil}
-use mathlib.Core.Path.{_≡_, refl, sym, ap, _∙_}
+use mathlib.Core.Path.{_≡_, sym, ap, _∙_}
 use native.Mathlib.Decide.{decLt, decLe}
 use native.Mathlib.Nat.{add-zero}
 use native.Mathlib.Omega.{arith}
 use lib.ListN.{length, take, set, length-set, length-take}
 use lib.Seq.{take-suc-set}
 use Rattle.io.specs.Counts.{Counts}
-use Rattle.writing.specs.Text.{stored, after, Wrote}
+use Rattle.writing.specs.Text.{stored, Wrote}
 use Rattle.writing.proofs.Wrotes.{stored-length, after-in, after-end, after-past}
 
 -- it ends in the buffer

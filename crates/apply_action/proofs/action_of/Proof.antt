@@ -2,12 +2,6 @@ use Rattle.apply_action.specs.Actions.{actionOf}
 use borrow.Author.Needs.{needs}
 use Rattle.apply_action.proofs.action_of.Statement.{statement}
 use Rattle.apply_action.proofs.action_of.Tie as tie
-use Rattle.apply_action.proofs.action_of.Reads as reads
-use Rattle.apply_action.proofs.action_of.Lts as lts
-use Rattle.apply_action.proofs.comparison_action.Reads as comparison-action-reads
-use Rattle.apply_action.proofs.constant_action.Reads as constant-action-reads
-use Rattle.apply_action.proofs.seen.Reads as seen-reads
-use Rattle.plan_data.proofs.node_at.Reads as node-at-reads
 
 node-at-requires : tie.Need-node-at-requires
 node-at-requires c κs = search needs

@@ -1,10 +1,6 @@
 use borrow.Author.Needs.{needs}
 use Rattle.apply_action.proofs.bound_action.Statement.{statement}
 use Rattle.apply_action.proofs.bound_action.Tie as tie
-use Rattle.apply_action.proofs.bound_action.Reads as reads
-use Rattle.apply_action.proofs.bound_action.Lts as lts
-use Rattle.apply_action.proofs.literal_action.Reads as literal-action-reads
-use Rattle.apply_action.proofs.range_action.Reads as range-action-reads
 
 enum-told : tie.Need-enum-told
 enum-told c = search needs

@@ -1,13 +1,6 @@
 use borrow.Author.Needs.{needs}
 use Rattle.apply_action.proofs.cell_after.Statement.{statement}
 use Rattle.apply_action.proofs.cell_after.Tie as tie
-use Rattle.apply_action.proofs.cell_after.Reads as reads
-use Rattle.apply_action.proofs.cell_after.Lts as lts
-use Rattle.apply_action.proofs.flagged.Reads as flagged-reads
-use Rattle.apply_action.proofs.not_null.Reads as not-null-reads
-use Rattle.apply_action.proofs.with_bound.Reads as with-bound-reads
-use Rattle.apply_action.proofs.with_entry.Reads as with-entry-reads
-use Rattle.apply_action.proofs.with_literal.Reads as with-literal-reads
 
 enum-told : tie.Need-enum-told
 enum-told c = search needs

@@ -2,9 +2,6 @@ use borrow.Author.Tests.{ne-eqb}
 use borrow.Author.Needs.{needs}
 use Rattle.apply_action.proofs.column_seen.Statement.{statement}
 use Rattle.apply_action.proofs.column_seen.Tie as tie
-use Rattle.apply_action.proofs.column_seen.Reads as reads
-use Rattle.apply_action.proofs.column_seen.Lts as lts
-use Rattle.lists.proofs.at8.Reads as at8-reads
 
 cast-at8 : tie.Need-cast-at8
 cast-at8 c = search needs

@@ -2,11 +2,6 @@ use Rattle.apply_spec.specs.Apply.{comparisonBy}
 use borrow.Author.Needs.{needs}
 use Rattle.apply_action.proofs.comparison_action.Statement.{statement}
 use Rattle.apply_action.proofs.comparison_action.Tie as tie
-use Rattle.apply_action.proofs.comparison_action.Reads as reads
-use Rattle.apply_action.proofs.comparison_action.Lts as lts
-use Rattle.comparison.proofs.is_ordinary.Reads as is-ordinary-reads
-use Rattle.apply_action.proofs.is_null_literal.Reads as is-null-literal-reads
-use Rattle.apply_action.proofs.operands_action.Reads as operands-action-reads
 
 is-ordinary-requires : tie.Need-is-ordinary-requires
 is-ordinary-requires c κs = search needs

@@ -1,10 +1,6 @@
 use borrow.Author.Needs.{needs}
 use Rattle.apply_action.proofs.left_action.Statement.{statement}
 use Rattle.apply_action.proofs.left_action.Tie as tie
-use Rattle.apply_action.proofs.left_action.Reads as reads
-use Rattle.apply_action.proofs.left_action.Lts as lts
-use Rattle.apply_action.proofs.bound_action.Reads as bound-action-reads
-use Rattle.apply_action.proofs.pair_action.Reads as pair-action-reads
 
 enum-known-r : tie.Need-enum-known-r
 enum-known-r c = search needs

@@ -3,9 +3,6 @@ use Rattle.apply_action.specs.Actions.{literalAction}
 use borrow.Author.Needs.{needs}
 use Rattle.apply_action.proofs.literal_action.Statement.{statement}
 use Rattle.apply_action.proofs.literal_action.Tie as tie
-use Rattle.apply_action.proofs.literal_action.Reads as reads
-use Rattle.apply_action.proofs.literal_action.Lts as lts
-use Rattle.scalar.proofs.is_null.Reads as is-null-reads
 
 returns : tie.Need-returns
 unfolding literalAction

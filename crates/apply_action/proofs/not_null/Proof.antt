@@ -1,8 +1,6 @@
 use borrow.Author.Needs.{needs}
 use Rattle.apply_action.proofs.not_null.Statement.{statement}
 use Rattle.apply_action.proofs.not_null.Tie as tie
-use Rattle.apply_action.proofs.not_null.Reads as reads
-use Rattle.apply_action.proofs.not_null.Lts as lts
 
 returns : tie.Need-returns
 returns c = rw (c .if1 .taken)

@@ -3,9 +3,6 @@ use Rattle.apply_action.specs.Actions.{boundedBy}
 use borrow.Author.Needs.{needs}
 use Rattle.apply_action.proofs.number_action.Statement.{statement}
 use Rattle.apply_action.proofs.number_action.Tie as tie
-use Rattle.apply_action.proofs.number_action.Reads as reads
-use Rattle.apply_action.proofs.number_action.Lts as lts
-use Rattle.comparison.proofs.is_bounding.Reads as is-bounding-reads
 
 is-bounding-requires : tie.Need-is-bounding-requires
 is-bounding-requires c κs = search needs

@@ -3,10 +3,6 @@ use Rattle.apply_action.proofs.Acts.{unseen-left}
 use borrow.Author.Needs.{needs}
 use Rattle.apply_action.proofs.operands_action.Statement.{statement}
 use Rattle.apply_action.proofs.operands_action.Tie as tie
-use Rattle.apply_action.proofs.operands_action.Reads as reads
-use Rattle.apply_action.proofs.operands_action.Lts as lts
-use Rattle.apply_action.proofs.left_action.Reads as left-action-reads
-use Rattle.apply_action.proofs.right_action.Reads as right-action-reads
 
 enum-known-l : tie.Need-enum-known-l
 enum-known-l c = search needs

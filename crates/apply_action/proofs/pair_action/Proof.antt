@@ -1,9 +1,6 @@
 use borrow.Author.Needs.{needs}
 use Rattle.apply_action.proofs.pair_action.Statement.{statement}
 use Rattle.apply_action.proofs.pair_action.Tie as tie
-use Rattle.apply_action.proofs.pair_action.Reads as reads
-use Rattle.apply_action.proofs.pair_action.Lts as lts
-use Rattle.apply_action.proofs.same.Reads as same-reads
 
 enum-told : tie.Need-enum-told
 enum-told c = search needs

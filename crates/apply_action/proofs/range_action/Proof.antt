@@ -2,10 +2,6 @@ use Rattle.apply_action.specs.Actions.{boundedBy}
 use borrow.Author.Needs.{needs}
 use Rattle.apply_action.proofs.range_action.Statement.{statement}
 use Rattle.apply_action.proofs.range_action.Tie as tie
-use Rattle.apply_action.proofs.range_action.Reads as reads
-use Rattle.apply_action.proofs.range_action.Lts as lts
-use Rattle.apply_action.proofs.number_action.Reads as number-action-reads
-use Rattle.scalar.proofs.scalar_to_f64.Reads as scalar-to-f64-reads
 
 scalar-to-f64-requires : tie.Need-scalar-to-f64-requires
 scalar-to-f64-requires c κs = search needs

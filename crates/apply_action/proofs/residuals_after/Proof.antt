@@ -1,9 +1,6 @@
 use borrow.Author.Needs.{needs}
 use Rattle.apply_action.proofs.residuals_after.Statement.{statement}
 use Rattle.apply_action.proofs.residuals_after.Tie as tie
-use Rattle.apply_action.proofs.residuals_after.Reads as reads
-use Rattle.apply_action.proofs.residuals_after.Lts as lts
-use Rattle.constraint_set.proofs.push_handle.Reads as push-handle-reads
 
 push-handle-requires : tie.Need-push-handle-requires
 push-handle-requires c κs = search needs

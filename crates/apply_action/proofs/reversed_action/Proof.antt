@@ -5,10 +5,6 @@ use Rattle.apply_action.specs.Actions.{rangeAction}
 use borrow.Author.Needs.{needs}
 use Rattle.apply_action.proofs.reversed_action.Statement.{statement}
 use Rattle.apply_action.proofs.reversed_action.Tie as tie
-use Rattle.apply_action.proofs.reversed_action.Reads as reads
-use Rattle.apply_action.proofs.reversed_action.Lts as lts
-use Rattle.apply_action.proofs.literal_action.Reads as literal-action-reads
-use Rattle.apply_action.proofs.range_action.Reads as range-action-reads
 
 reversed-requires : tie.Need-reversed-requires
 reversed-requires c κs = search needs

@@ -1,9 +1,6 @@
 use borrow.Author.Needs.{needs}
 use Rattle.apply_action.proofs.right_action.Statement.{statement}
 use Rattle.apply_action.proofs.right_action.Tie as tie
-use Rattle.apply_action.proofs.right_action.Reads as reads
-use Rattle.apply_action.proofs.right_action.Lts as lts
-use Rattle.apply_action.proofs.reversed_action.Reads as reversed-action-reads
 
 enum-known-r : tie.Need-enum-known-r
 enum-known-r c = search needs

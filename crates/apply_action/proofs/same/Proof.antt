@@ -1,10 +1,7 @@
 use borrow.Author.Tests.{lt-ltb, le-ltb}
 use Rattle.apply_action.specs.Actions.{sameAction}
-use borrow.Author.Needs.{needs}
 use Rattle.apply_action.proofs.same.Statement.{statement}
 use Rattle.apply_action.proofs.same.Tie as tie
-use Rattle.apply_action.proofs.same.Reads as reads
-use Rattle.apply_action.proofs.same.Lts as lts
 
 returns : tie.Need-returns
 unfolding sameAction

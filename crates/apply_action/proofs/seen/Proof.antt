@@ -1,9 +1,6 @@
 use borrow.Author.Needs.{needs}
 use Rattle.apply_action.proofs.seen.Statement.{statement}
 use Rattle.apply_action.proofs.seen.Tie as tie
-use Rattle.apply_action.proofs.seen.Reads as reads
-use Rattle.apply_action.proofs.seen.Lts as lts
-use Rattle.apply_action.proofs.column_seen.Reads as column-seen-reads
 
 enum-known-node : tie.Need-enum-known-node
 enum-known-node c = search needs

@@ -2,13 +2,6 @@ use Rattle.apply_action.specs.Cells.{boundCell}
 use borrow.Author.Needs.{needs}
 use Rattle.apply_action.proofs.with_bound.Statement.{statement}
 use Rattle.apply_action.proofs.with_bound.Tie as tie
-use Rattle.apply_action.proofs.with_bound.Reads as reads
-use Rattle.apply_action.proofs.with_bound.Lts as lts
-use Rattle.constraint_set.proofs.bounds_by.Reads as bounds-by-reads
-use Rattle.constraint_set.proofs.entry_of.Reads as entry-of-reads
-use Rattle.constraint_set.proofs.is_crossed.Reads as is-crossed-reads
-use Rattle.constraint_set.proofs.tightened.Reads as tightened-reads
-use Rattle.value_range.proofs.ValueRange.is_empty.Reads as is-empty-reads
 
 bounds-by-requires : tie.Need-bounds-by-requires
 bounds-by-requires c κs = search needs

@@ -2,10 +2,6 @@ use Rattle.apply_action.specs.Cells.{entryCell}
 use borrow.Author.Needs.{needs}
 use Rattle.apply_action.proofs.with_entry.Statement.{statement}
 use Rattle.apply_action.proofs.with_entry.Tie as tie
-use Rattle.apply_action.proofs.with_entry.Reads as reads
-use Rattle.apply_action.proofs.with_entry.Lts as lts
-use Rattle.constraint_set.proofs.entry_of.Reads as entry-of-reads
-use Rattle.constraint_set.proofs.range_in.Reads as range-in-reads
 
 range-in-requires : tie.Need-range-in-requires
 range-in-requires c κs = search needs

@@ -2,11 +2,6 @@ use Rattle.apply_action.specs.Cells.{literalCell}
 use borrow.Author.Needs.{needs}
 use Rattle.apply_action.proofs.with_literal.Statement.{statement}
 use Rattle.apply_action.proofs.with_literal.Tie as tie
-use Rattle.apply_action.proofs.with_literal.Reads as reads
-use Rattle.apply_action.proofs.with_literal.Lts as lts
-use Rattle.constraint_set.proofs.is_crossed.Reads as is-crossed-reads
-use Rattle.constraint_set.proofs.literal_clashes.Reads as literal-clashes-reads
-use Rattle.constraint_set.proofs.literal_kept.Reads as literal-kept-reads
 
 literal-clashes-requires : tie.Need-literal-clashes-requires
 literal-clashes-requires c κs = search needs

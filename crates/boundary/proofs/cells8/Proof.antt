@@ -3,13 +3,10 @@ use Rattle.boundary.proofs.ReplyLaws.{cells-none, cells-next}
 use lib.ListN.{length, length-set}
 use borrow.Author.Needs.{needs}
 use native.Mathlib.Omega.{arith}
-use Prim.Native.Nat.{ℕ, _≤_, _-_}
+use Prim.Native.Nat.{_≤_, _-_}
 use mathlib.Core.Path.{_≡_, refl, _∙_}
 use Rattle.boundary.proofs.cells8.Statement.{statement}
 use Rattle.boundary.proofs.cells8.Tie as tie
-use Rattle.boundary.proofs.cells8.Reads as reads
-use Rattle.boundary.proofs.cells8.Lts as lts
-use Rattle.lists.proofs.at8.Reads as at8-reads
 
 abbrev Inv-loop : tie.InvT-loop
 Inv-loop s a₀ i₀ a i = (i ≤ 64) × (length a ≡ 64) × (a ≡ cellsTo s i)

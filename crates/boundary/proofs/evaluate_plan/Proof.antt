@@ -3,12 +3,6 @@ use Rattle.boundary.proofs.ReplyLaws.{evaluate-said}
 use borrow.Author.Needs.{needs}
 use Rattle.boundary.proofs.evaluate_plan.Statement.{statement}
 use Rattle.boundary.proofs.evaluate_plan.Tie as tie
-use Rattle.boundary.proofs.evaluate_plan.Reads as reads
-use Rattle.boundary.proofs.evaluate_plan.Lts as lts
-use Rattle.boundary.proofs.head.Reads as head-reads
-use Rattle.refusals.proofs.evaluation_number.Reads as evaluation-number-reads
-use Rattle.refusals.proofs.truth_found.Reads as truth-found-reads
-use Rattle.rows.proofs.evaluate.Reads as evaluate-reads
 
 evaluate-requires : tie.Need-evaluate-requires
 evaluate-requires c κs = search needs

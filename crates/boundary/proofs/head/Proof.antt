@@ -3,10 +3,6 @@ use Rattle.writing.proofs.Wrotes.{wrote-then}
 use borrow.Author.Needs.{needs}
 use Rattle.boundary.proofs.head.Statement.{statement}
 use Rattle.boundary.proofs.head.Tie as tie
-use Rattle.boundary.proofs.head.Reads as reads
-use Rattle.boundary.proofs.head.Lts as lts
-use Rattle.plan_file_write.proofs.put8.Reads as put8-reads
-use Rattle.writing.proofs.byte.Reads as byte-reads
 
 byte-requires : tie.Need-byte-requires
 byte-requires c κs = search needs

@@ -3,14 +3,10 @@ use Rattle.boundary.proofs.ReplyLaws.{turn-done, turn-refused, turn-nex
 use lib.ListN.{length, drop}
 use borrow.Author.Needs.{needs}
 use native.Mathlib.Omega.{arith}
-use Prim.Native.Nat.{ℕ, _≤_, _-_}
+use Prim.Native.Nat.{_≤_, _-_}
 use mathlib.Core.Path.{_≡_, refl, _∙_}
 use Rattle.boundary.proofs.in_turn.Statement.{statement}
 use Rattle.boundary.proofs.in_turn.Tie as tie
-use Rattle.boundary.proofs.in_turn.Reads as reads
-use Rattle.boundary.proofs.in_turn.Lts as lts
-use Rattle.lists.proofs.at16.Reads as at16-reads
-use Rattle.refusals.proofs.outcome_number.Reads as outcome-number-reads
 
 abbrev Inv-loop : tie.InvT-loop
 Inv-loop p predicates facts₀ k₀ facts k = (k ≤ length predicates) × (inTurn p facts (drop k predicates) k ≡ inTurn p facts₀ predicates 0)

@@ -6,13 +6,6 @@ use mathlib.Core.Path.{ap}
 use borrow.Author.Needs.{needs}
 use Rattle.boundary.proofs.mossladder_evaluate.Statement.{statement}
 use Rattle.boundary.proofs.mossladder_evaluate.Tie as tie
-use Rattle.boundary.proofs.mossladder_evaluate.Reads as reads
-use Rattle.boundary.proofs.mossladder_evaluate.Lts as lts
-use Rattle.boundary.proofs.evaluate_plan.Reads as evaluate-plan-reads
-use Rattle.boundary.proofs.refused_reading.Reads as refused-reading-reads
-use Rattle.boundary.proofs.row_in.Reads as row-in-reads
-use Rattle.plan_file.proofs.read.Reads as read-reads
-use Rattle.refusals.proofs.reading_number.Reads as reading-number-reads
 
 read-requires : tie.Need-read-requires
 read-requires c κs = search needs

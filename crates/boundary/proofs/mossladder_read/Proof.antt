@@ -3,11 +3,6 @@ use Rattle.writing.proofs.Wrotes.{wrote-as, wrote-then}
 use borrow.Author.Needs.{needs}
 use Rattle.boundary.proofs.mossladder_read.Statement.{statement}
 use Rattle.boundary.proofs.mossladder_read.Tie as tie
-use Rattle.boundary.proofs.mossladder_read.Reads as reads
-use Rattle.boundary.proofs.mossladder_read.Lts as lts
-use Rattle.boundary.proofs.refused_reading.Reads as refused-reading-reads
-use Rattle.plan_file.proofs.read.Reads as read-reads
-use Rattle.plan_file_write.proofs.write.Reads as write-reads
 
 read-requires : tie.Need-read-requires
 read-requires c κs = search needs

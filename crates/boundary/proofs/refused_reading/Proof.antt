@@ -3,11 +3,6 @@ use Rattle.boundary.proofs.ReplyLaws.{head-same}
 use borrow.Author.Needs.{needs}
 use Rattle.boundary.proofs.refused_reading.Statement.{statement}
 use Rattle.boundary.proofs.refused_reading.Tie as tie
-use Rattle.boundary.proofs.refused_reading.Reads as reads
-use Rattle.boundary.proofs.refused_reading.Lts as lts
-use Rattle.boundary.proofs.head.Reads as head-reads
-use Rattle.refusals.proofs.reading_number.Reads as reading-number-reads
-use Rattle.refusals.proofs.reading_place.Reads as reading-place-reads
 
 reading-number-requires : tie.Need-reading-number-requires
 reading-number-requires c κs = search needs

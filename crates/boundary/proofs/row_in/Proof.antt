@@ -1,10 +1,6 @@
 use borrow.Author.Needs.{needs}
 use Rattle.boundary.proofs.row_in.Statement.{statement}
 use Rattle.boundary.proofs.row_in.Tie as tie
-use Rattle.boundary.proofs.row_in.Reads as reads
-use Rattle.boundary.proofs.row_in.Lts as lts
-use Rattle.boundary.proofs.cells64.Reads as cells64-reads
-use Rattle.boundary.proofs.cells8.Reads as cells8-reads
 
 cells8-requires : tie.Need-cells8-requires
 cells8-requires c κs = search needs

@@ -3,13 +3,6 @@ use Rattle.writing.proofs.Wrotes.{wrote-as, wrote-then}
 use borrow.Author.Needs.{needs}
 use Rattle.boundary.proofs.simplify_plan.Statement.{statement}
 use Rattle.boundary.proofs.simplify_plan.Tie as tie
-use Rattle.boundary.proofs.simplify_plan.Reads as reads
-use Rattle.boundary.proofs.simplify_plan.Lts as lts
-use Rattle.boundary.proofs.head.Reads as head-reads
-use Rattle.expr_simplify.proofs.simplify.Reads as simplify-reads
-use Rattle.plan_file_write.proofs.write.Reads as write-reads
-use Rattle.refusals.proofs.rewrite_number.Reads as rewrite-number-reads
-use Rattle.refusals.proofs.standing.Reads as standing-reads
 
 simplify-requires : tie.Need-simplify-requires
 simplify-requires c κs = search needs

@@ -11,10 +11,6 @@ use native.Mathlib.Omega.{arith}
 use mathlib.Core.Path.{_≡_, refl, _∙_}
 use Rattle.constraint_merge.proofs.join_class.Statement.{statement}
 use Rattle.constraint_merge.proofs.join_class.Tie as tie
-use Rattle.constraint_merge.proofs.join_class.Reads as reads
-use Rattle.constraint_merge.proofs.join_class.Lts as lts
-use Rattle.constraint_merge.proofs.join_settled.Reads as join-settled-reads
-use Rattle.constraint_merge.proofs.join_values.Reads as join-values-reads
 
 abbrev Inv-loop : tie.InvT-loop
 Inv-loop r start members q₀ m₀ left₀ q m left = (chained members r left m (q .constraints) ≡ chained members r 128 start (q₀ .constraints)) × SettledIf q

@@ -12,12 +12,6 @@ use Prim.Native.Nat.{_<_}
 use mathlib.Core.Path.{_≡_, refl, _∙_}
 use Rattle.constraint_merge.proofs.join_settled.Statement.{statement}
 use Rattle.constraint_merge.proofs.join_settled.Tie as tie
-use Rattle.constraint_merge.proofs.join_settled.Reads as reads
-use Rattle.constraint_merge.proofs.join_settled.Lts as lts
-use Rattle.constraint_set.proofs.place_of.Reads as place-of-reads
-use Rattle.constraint_merge.proofs.root_pair.Reads as root-pair-reads
-use Rattle.constraint_spec.proofs.Entry.empty.Reads as Entry-empty-reads
-use Rattle.constraint_spec.proofs.Holder.empty.Reads as Holder-empty-reads
 
 abbrev Inv-loop : tie.InvT-loop
 Inv-loop r start many members no-literal no-entry q₀ m₀ left₀ q m left = (chained members r left m q ≡ chained members r many start q₀) × Settled q

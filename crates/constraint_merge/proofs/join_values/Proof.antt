@@ -2,11 +2,6 @@ use Rattle.constraint_merge.proofs.Uniting.{fully-joined, not-joined}
 use borrow.Author.Needs.{needs}
 use Rattle.constraint_merge.proofs.join_values.Statement.{statement}
 use Rattle.constraint_merge.proofs.join_values.Tie as tie
-use Rattle.constraint_merge.proofs.join_values.Reads as reads
-use Rattle.constraint_merge.proofs.join_values.Lts as lts
-use Rattle.constraint_set.proofs.normalize.Reads as normalize-reads
-use Rattle.value_classes.proofs.ValueEquivalenceClasses.parents_ok.Reads as parents-ok-reads
-use Rattle.value_classes.proofs.ValueEquivalenceClasses.union.Reads as union-reads
 
 union-requires : tie.Need-union-requires
 union-requires c κs = search needs

@@ -14,11 +14,6 @@ use mathlib.Core.Path.{_≡_, refl, sym, ap, subst, _∙_}
 use borrow.Author.Needs.{needs}
 use Rattle.constraint_merge.proofs.merge_classes.Statement.{statement}
 use Rattle.constraint_merge.proofs.merge_classes.Tie as tie
-use Rattle.constraint_merge.proofs.merge_classes.Reads as reads
-use Rattle.constraint_merge.proofs.merge_classes.Lts as lts
-use Rattle.constraint_merge.proofs.join_class.Reads as join-class-reads
-use Rattle.constraint_merge.proofs.second_member.Reads as second-member-reads
-use Rattle.value_classes.proofs.ValueEquivalenceClasses.members.Reads as members-reads
 
 abbrev Inv-loop : tie.InvT-loop
 Inv-loop members q₀ r₀ q r = (r ≤ 128) × (q .constraints ≡ stepsTo (joinChain members) r (q₀ .constraints)) × SettledIf q

@@ -3,10 +3,6 @@ use Rattle.constraint_merge.proofs.Uniting.{pair-left, pair-right}
 use borrow.Author.Needs.{needs}
 use Rattle.constraint_merge.proofs.root_pair.Statement.{statement}
 use Rattle.constraint_merge.proofs.root_pair.Tie as tie
-use Rattle.constraint_merge.proofs.root_pair.Reads as reads
-use Rattle.constraint_merge.proofs.root_pair.Lts as lts
-use Rattle.value_classes.proofs.ValueEquivalenceClasses.canonical.Reads as canonical-reads
-use Rattle.value_classes.proofs.ValueEquivalenceClasses.join_roots.Reads as join-roots-reads
 
 canonical-requires : tie.Need-canonical-requires
 canonical-requires c κs = search needs

@@ -7,12 +7,6 @@ use mathlib.Core.Path.{sym, _∙_}
 use borrow.Author.Needs.{needs}
 use Rattle.constraint_set.proofs.add_literal.Statement.{statement}
 use Rattle.constraint_set.proofs.add_literal.Tie as tie
-use Rattle.constraint_set.proofs.add_literal.Reads as reads
-use Rattle.constraint_set.proofs.add_literal.Lts as lts
-use Rattle.constraint_set.proofs.cross_check_literals_and_ranges.Reads as cross-check-literals-and-ranges-reads
-use Rattle.constraint_set.proofs.put_literal.Reads as put-literal-reads
-use Rattle.scalar.proofs.is_null.Reads as is-null-reads
-use Rattle.value_classes.proofs.ValueEquivalenceClasses.canonical.Reads as canonical-reads
 
 returns : tie.Need-returns
 unfolding addLiteral

@@ -5,13 +5,6 @@ use mathlib.Core.Path.{sym, _∙_}
 use borrow.Author.Needs.{needs}
 use Rattle.constraint_set.proofs.lay_literal.Statement.{statement}
 use Rattle.constraint_set.proofs.lay_literal.Tie as tie
-use Rattle.constraint_set.proofs.lay_literal.Reads as reads
-use Rattle.constraint_set.proofs.lay_literal.Lts as lts
-use Rattle.constraint_set.proofs.add_literal.Reads as add-literal-reads
-use Rattle.constraint_set.proofs.is_crossed.Reads as is-crossed-reads
-use Rattle.constraint_set.proofs.put_literal.Reads as put-literal-reads
-use Rattle.scalar.proofs.is_null.Reads as is-null-reads
-use Rattle.value_classes.proofs.ValueEquivalenceClasses.canonical.Reads as canonical-reads
 
 is-null-requires : tie.Need-is-null-requires
 is-null-requires c κs = search needs

@@ -2,9 +2,6 @@ use Rattle.constraint_set.specs.Settled.{literalBad}
 use borrow.Author.Needs.{needs}
 use Rattle.constraint_set.proofs.literal_bad.Statement.{statement}
 use Rattle.constraint_set.proofs.literal_bad.Tie as tie
-use Rattle.constraint_set.proofs.literal_bad.Reads as reads
-use Rattle.constraint_set.proofs.literal_bad.Lts as lts
-use Rattle.constraint_set.proofs.literal_clashes.Reads as literal-clashes-reads
 
 literal-clashes-requires : tie.Need-literal-clashes-requires
 literal-clashes-requires c κs = search needs

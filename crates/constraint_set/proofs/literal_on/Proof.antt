@@ -2,10 +2,6 @@ use Rattle.constraint_set.specs.Settled.{literalOn}
 use borrow.Author.Needs.{needs}
 use Rattle.constraint_set.proofs.literal_on.Statement.{statement}
 use Rattle.constraint_set.proofs.literal_on.Tie as tie
-use Rattle.constraint_set.proofs.literal_on.Reads as reads
-use Rattle.constraint_set.proofs.literal_on.Lts as lts
-use Rattle.constraint_set.proofs.literal_clashes.Reads as literal-clashes-reads
-use Rattle.constraint_set.proofs.literal_kept.Reads as literal-kept-reads
 
 literal-clashes-requires : tie.Need-literal-clashes-requires
 literal-clashes-requires c κs = search needs

@@ -11,9 +11,6 @@ use Prim.Native.Nat.{_≤_, _-_}
 use mathlib.Core.Path.{_≡_, refl, sym, subst, _∙_}
 use Rattle.constraint_set.proofs.merge_literals.Statement.{statement}
 use Rattle.constraint_set.proofs.merge_literals.Tie as tie
-use Rattle.constraint_set.proofs.merge_literals.Reads as reads
-use Rattle.constraint_set.proofs.merge_literals.Lts as lts
-use Rattle.constraint_set.proofs.lay_literal.Reads as lay-literal-reads
 
 abbrev Inv-loop : tie.InvT-loop
 Inv-loop others q₀ checked₀ i₀ q checked i = (i ≤ 128) × (q ≡ stepsTo (mergeLiteral others) i q₀) × (checked ≡ true → Checked q)

@@ -2,13 +2,6 @@ use Rattle.constraint_set.proofs.Uniting.{place-made}
 use borrow.Author.Needs.{needs}
 use Rattle.constraint_set.proofs.place_of.Statement.{statement}
 use Rattle.constraint_set.proofs.place_of.Tie as tie
-use Rattle.constraint_set.proofs.place_of.Reads as reads
-use Rattle.constraint_set.proofs.place_of.Lts as lts
-use Rattle.constraint_set.proofs.is_crossed.Reads as is-crossed-reads
-use Rattle.constraint_set.proofs.literal_bad.Reads as literal-bad-reads
-use Rattle.constraint_set.proofs.literal_on.Reads as literal-on-reads
-use Rattle.constraint_set.proofs.range_bad.Reads as range-bad-reads
-use Rattle.constraint_set.proofs.range_on.Reads as range-on-reads
 
 literal-on-requires : tie.Need-literal-on-requires
 literal-on-requires c κs = search needs

@@ -3,10 +3,6 @@ use Rattle.constraint_set.proofs.Loops.{nullWritten, literal-put}
 use borrow.Author.Needs.{needs}
 use Rattle.constraint_set.proofs.put_literal.Statement.{statement}
 use Rattle.constraint_set.proofs.put_literal.Tie as tie
-use Rattle.constraint_set.proofs.put_literal.Reads as reads
-use Rattle.constraint_set.proofs.put_literal.Lts as lts
-use Rattle.constraint_set.proofs.literal_clashes.Reads as literal-clashes-reads
-use Rattle.constraint_set.proofs.literal_kept.Reads as literal-kept-reads
 
 mul-old : tie.Need-mul-old
 mul-old c = search needs

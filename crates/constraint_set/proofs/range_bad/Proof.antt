@@ -2,10 +2,6 @@ use Rattle.constraint_set.specs.Settled.{rangeBad}
 use borrow.Author.Needs.{needs}
 use Rattle.constraint_set.proofs.range_bad.Statement.{statement}
 use Rattle.constraint_set.proofs.range_bad.Tie as tie
-use Rattle.constraint_set.proofs.range_bad.Reads as reads
-use Rattle.constraint_set.proofs.range_bad.Lts as lts
-use Rattle.constraint_set.proofs.tightened.Reads as tightened-reads
-use Rattle.value_range.proofs.ValueRange.is_empty.Reads as is-empty-reads
 
 tightened-requires : tie.Need-tightened-requires
 tightened-requires c κs = search needs

@@ -2,10 +2,6 @@ use Rattle.constraint_set.specs.Settled.{rangeOn}
 use borrow.Author.Needs.{needs}
 use Rattle.constraint_set.proofs.range_on.Statement.{statement}
 use Rattle.constraint_set.proofs.range_on.Tie as tie
-use Rattle.constraint_set.proofs.range_on.Reads as reads
-use Rattle.constraint_set.proofs.range_on.Lts as lts
-use Rattle.constraint_set.proofs.entry_of.Reads as entry-of-reads
-use Rattle.constraint_set.proofs.tightened.Reads as tightened-reads
 
 tightened-requires : tie.Need-tightened-requires
 tightened-requires c κs = search needs

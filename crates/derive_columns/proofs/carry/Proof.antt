@@ -1,6 +1,4 @@
 use Rattle.derive_columns.proofs.ColumnStores.{carry-put}
-use mathlib.Core.Path.{_≡_, refl, sym, ap, _∙_}
-use Rattle.derive_spec.specs.Columns.{carried, withDefinitions, inserted}
 use borrow.Author.Needs.{needs}
 use Rattle.derive_columns.proofs.carry.Statement.{statement}
 use Rattle.derive_columns.proofs.carry.Tie as tie

@@ -1,4 +1,4 @@
-use borrow.Author.Tests.{lt-ltb, le-ltb, eq-eqb, ne-eqb}
+use borrow.Author.Tests.{lt-ltb, le-ltb}
 use Rattle.derive_spec.specs.Columns.{definitionEntry}
 use borrow.Author.Needs.{needs}
 use Rattle.derive_columns.proofs.definition_entry.Statement.{statement}

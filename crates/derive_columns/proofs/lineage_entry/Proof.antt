@@ -1,4 +1,4 @@
-use borrow.Author.Tests.{lt-ltb, le-ltb, eq-eqb, ne-eqb}
+use borrow.Author.Tests.{lt-ltb, le-ltb}
 use Rattle.derive_spec.specs.Columns.{lineageEntry}
 use borrow.Author.Needs.{needs}
 use Rattle.derive_columns.proofs.lineage_entry.Statement.{statement}

@@ -1,4 +1,4 @@
-use mathlib.Core.Path.{_≡_, refl, sym, ap, _∙_}
+use mathlib.Core.Path.{_∙_}
 use Rattle.plan_data.specs.Nodes.{operatorData}
 use borrow.Author.Needs.{needs}
 use Rattle.derive_logical_facts.proofs.operator_at.Statement.{statement}

@@ -1,4 +1,4 @@
-use mathlib.Core.Path.{_≡_, refl, sym, ap, _∙_}
+use mathlib.Core.Path.{_∙_}
 use Rattle.derive_spec.specs.Operators.{accepted}
 use borrow.Author.Needs.{needs}
 use Rattle.derive_operator.proofs.accept_with.Statement.{statement}

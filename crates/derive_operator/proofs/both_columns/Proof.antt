@@ -1,4 +1,4 @@
-use mathlib.Core.Path.{_≡_, refl, sym, ap, _∙_}
+use mathlib.Core.Path.{ap}
 use Rattle.apply_spec.specs.declared.FactsAnswer.{FactsAnswer}
 use borrow.Author.Needs.{needs}
 use Rattle.derive_operator.proofs.both_columns.Statement.{statement}

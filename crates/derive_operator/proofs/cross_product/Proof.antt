@@ -1,4 +1,4 @@
-use mathlib.Core.Path.{_≡_, refl, sym, ap, _∙_}
+use mathlib.Core.Path.{ap, _∙_}
 use borrow.Author.Tests.{not-true, not-false}
 use Rattle.derive_operator.proofs.OperatorAnswers.{given-does, given-stays}
 use Rattle.derive_spec.specs.Operators.{fitted}

@@ -1,5 +1,5 @@
 use Rattle.plan_data.specs.Nodes.{nodeAt}
-use mathlib.Core.Path.{_≡_, refl, sym, ap, _∙_}
+use mathlib.Core.Path.{ap, _∙_}
 use borrow.Author.Tests.{not-true, not-false}
 use Rattle.derive_operator.proofs.OperatorAnswers.{accept-same, group-refused, group-done}
 use Rattle.derive_spec.specs.Columns.{derivedColumns, keysOf}

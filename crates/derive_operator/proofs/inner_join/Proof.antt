@@ -1,4 +1,4 @@
-use mathlib.Core.Path.{_≡_, refl, sym, ap, _∙_}
+use mathlib.Core.Path.{ap, _∙_}
 use Rattle.derive_spec.specs.Operators.{given, fitted, filtered}
 use Rattle.derive_spec.specs.declared.DeriveAnswer.{DeriveAnswer}
 use borrow.Author.Needs.{needs}

@@ -1,4 +1,3 @@
-use mathlib.Core.Path.{_≡_, refl, sym, ap, _∙_}
 use borrow.Author.Tests.{not-true, not-false}
 use Rattle.derive_operator.proofs.OperatorAnswers.{given-does, given-stays}
 use borrow.Author.Needs.{needs}

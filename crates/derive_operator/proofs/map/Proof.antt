@@ -1,5 +1,5 @@
 use Rattle.plan_data.specs.Nodes.{nodeAt}
-use mathlib.Core.Path.{_≡_, refl, sym, ap, _∙_}
+use mathlib.Core.Path.{refl, ap, _∙_}
 use Rattle.derive_operator.proofs.OperatorAnswers.{accept-same, given-does, given-stays}
 use Rattle.derive_spec.specs.Columns.{mapped}
 use Rattle.derive_spec.specs.declared.ColumnFacts.{ColumnFacts}

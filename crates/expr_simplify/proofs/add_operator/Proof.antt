@@ -3,7 +3,7 @@ use Rattle.plan_data.specs.declared.OperatorData.{OperatorData}
 use Rattle.simplify_spec.specs.OneOperator.{rebuiltOf}
 use Rattle.plan_data.specs.Nodes.{operatorData, recordOfOperator}
 use lib.ListN.{getD}
-use Prim.Native.Nat.{ℕ, _-_}
+use Prim.Native.Nat.{ℕ}
 use mathlib.Core.Path.{sym, ap, _∙_}
 use borrow.Author.Needs.{needs}
 use Rattle.expr_simplify.proofs.add_operator.Statement.{statement}

@@ -1,5 +1,4 @@
 use Rattle.expr_simplify.proofs.OperatorAnswers.{each-one}
-use Prim.Native.Nat.{_-_}
 use borrow.Author.Needs.{needs}
 use Rattle.expr_simplify.proofs.each_step.Statement.{statement}
 use Rattle.expr_simplify.proofs.each_step.Tie as tie

@@ -3,7 +3,7 @@ use Rattle.simplify_spec.specs.OneExpression.{shapeIn}
 use Rattle.simplify_spec.specs.Shapes.{isLiteral}
 use Rattle.plan_data.specs.Nodes.{operatorData}
 use lib.ListN.{getD}
-use Prim.Native.Nat.{ℕ, _-_}
+use Prim.Native.Nat.{ℕ}
 use mathlib.Core.Bool.{true}
 use mathlib.Core.Path.{ap, _∙_}
 use borrow.Author.Needs.{needs}

@@ -1,5 +1,4 @@
 use Rattle.simplify_spec.specs.OneOperator.{itemCount}
-use Prim.Native.Nat.{_-_}
 use mathlib.Core.Path.{sym, ap}
 use native.Mathlib.Omega.{arith}
 use borrow.Author.Needs.{needs}

@@ -1,6 +1,5 @@
 use Rattle.expr_simplify.proofs.OperatorAnswers.{rewrite-room, rewrite-keep, rewrite-changed, each-held}
 use Rattle.plan_data.specs.Nodes.{operatorData}
-use Prim.Native.Nat.{_-_}
 use borrow.Author.Tests.{not-true, not-false}
 use borrow.Author.Needs.{needs}
 use Rattle.expr_simplify.proofs.rewrite.Statement.{statement}

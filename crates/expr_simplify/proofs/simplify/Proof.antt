@@ -1,5 +1,4 @@
 use Rattle.expr_simplify.proofs.OperatorAnswers.{simplify-bad, simplify-none, simplify-some}
-use Prim.Native.Nat.{_-_}
 use borrow.Author.Tests.{not-true, not-false}
 use borrow.Author.Needs.{needs}
 use Rattle.expr_simplify.proofs.simplify.Statement.{statement}

@@ -1,5 +1,5 @@
 use Rattle.listing_lines.specs.Lines.{boundText}
-use Rattle.writing.proofs.Wrotes.{wrote-none, wrote-then}
+use Rattle.writing.proofs.Wrotes.{wrote-then}
 use borrow.Author.Needs.{needs}
 use Rattle.listing_lines.proofs.bound.Statement.{statement}
 use Rattle.listing_lines.proofs.bound.Tie as tie

@@ -1,4 +1,4 @@
-use borrow.Author.Tests.{eq-eqb, ne-eqb, not-true, not-false}
+use borrow.Author.Tests.{eq-eqb, ne-eqb}
 use Rattle.listing_lines.specs.Lines.{defineLine}
 use Rattle.writing.proofs.Wrotes.{wrote-none, wrote-then}
 use borrow.Author.Needs.{needs}

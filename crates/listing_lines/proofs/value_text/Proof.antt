@@ -1,6 +1,6 @@
 use Rattle.listing_lines.proofs.Values.{cast-wider, passed, passed-wider}
 use Rattle.io.specs.Digits.{digits}
-use mathlib.Core.Path.{_≡_, sym, ap, _∙_}
+use mathlib.Core.Path.{sym, ap, _∙_}
 use Rattle.listing_lines.specs.Lines.{payloadText}
 use Rattle.writing.proofs.Wrotes.{wrote-none}
 use Rattle.listing_lines.proofs.Values.{value-wrote}

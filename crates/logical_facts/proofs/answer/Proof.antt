@@ -1,7 +1,5 @@
 use Rattle.logical_facts.proofs.answer.Statement.{statement}
 use Rattle.logical_facts.proofs.answer.Tie as tie
-use Rattle.logical_facts.proofs.answer.Reads as reads
-use Rattle.logical_facts.proofs.answer.Lts as lts
 
 returns : tie.Need-returns
 returns c = rw (c .if1 .taken)

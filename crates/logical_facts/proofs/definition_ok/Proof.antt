@@ -2,9 +2,6 @@ use Rattle.apply_spec.specs.Facts.{definitionOk}
 use borrow.Author.Needs.{needs}
 use Rattle.logical_facts.proofs.definition_ok.Statement.{statement}
 use Rattle.logical_facts.proofs.definition_ok.Tie as tie
-use Rattle.logical_facts.proofs.definition_ok.Reads as reads
-use Rattle.logical_facts.proofs.definition_ok.Lts as lts
-use Rattle.lists.proofs.at16.Reads as at16-reads
 
 at16-requires : tie.Need-at16-requires
 at16-requires c κs = search needs

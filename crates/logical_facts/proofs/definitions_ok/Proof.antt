@@ -10,9 +10,6 @@ use mathlib.Core.Path.{_≡_, sym, ap, _∙_}
 use borrow.Author.Needs.{needs}
 use Rattle.logical_facts.proofs.definitions_ok.Statement.{statement}
 use Rattle.logical_facts.proofs.definitions_ok.Tie as tie
-use Rattle.logical_facts.proofs.definitions_ok.Reads as reads
-use Rattle.logical_facts.proofs.definitions_ok.Lts as lts
-use Rattle.logical_facts.proofs.definition_ok.Reads as definition-ok-reads
 
 abbrev Inv-loop : tie.InvT-loop
 Inv-loop definitions nc ne c₀ c = (c ≤ 64) × (allFrom (definitionOk definitions nc ne) 0 64 ≡ allFrom (definitionOk definitions nc ne) c (64 - c))

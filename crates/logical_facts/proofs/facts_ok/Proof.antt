@@ -4,12 +4,6 @@ use Rattle.logical_facts.proofs.EntryAnswers.{facts-fail-1, facts-fail-
 use borrow.Author.Needs.{needs}
 use Rattle.logical_facts.proofs.facts_ok.Statement.{statement}
 use Rattle.logical_facts.proofs.facts_ok.Tie as tie
-use Rattle.logical_facts.proofs.facts_ok.Reads as reads
-use Rattle.logical_facts.proofs.facts_ok.Lts as lts
-use Rattle.constraint_set.proofs.set_ok.Reads as set-ok-reads
-use Rattle.logical_facts.proofs.definitions_ok.Reads as definitions-ok-reads
-use Rattle.logical_facts.proofs.lineages_ok.Reads as lineages-ok-reads
-use Rattle.logical_facts.proofs.residuals_ok.Reads as residuals-ok-reads
 
 lineages-ok-requires : tie.Need-lineages-ok-requires
 lineages-ok-requires c κs = search needs

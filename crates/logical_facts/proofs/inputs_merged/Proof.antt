@@ -2,11 +2,6 @@ use Rattle.logical_facts.proofs.EntryAnswers.{merged-parts}
 use borrow.Author.Needs.{needs}
 use Rattle.logical_facts.proofs.inputs_merged.Statement.{statement}
 use Rattle.logical_facts.proofs.inputs_merged.Tie as tie
-use Rattle.logical_facts.proofs.inputs_merged.Reads as reads
-use Rattle.logical_facts.proofs.inputs_merged.Lts as lts
-use Rattle.logical_facts.proofs.answer.Reads as answer-reads
-use Rattle.logical_facts.proofs.merge_constraints.Reads as merge-constraints-reads
-use Rattle.logical_facts.proofs.override_columns.Reads as override-columns-reads
 
 override-columns-requires : tie.Need-override-columns-requires
 override-columns-requires c κs = search needs

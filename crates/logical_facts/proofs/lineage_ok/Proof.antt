@@ -3,9 +3,6 @@ use Rattle.apply_spec.specs.Facts.{lineageOk}
 use borrow.Author.Needs.{needs}
 use Rattle.logical_facts.proofs.lineage_ok.Statement.{statement}
 use Rattle.logical_facts.proofs.lineage_ok.Tie as tie
-use Rattle.logical_facts.proofs.lineage_ok.Reads as reads
-use Rattle.logical_facts.proofs.lineage_ok.Lts as lts
-use Rattle.lists.proofs.at8.Reads as at8-reads
 
 at8-requires : tie.Need-at8-requires
 at8-requires c κs = search needs

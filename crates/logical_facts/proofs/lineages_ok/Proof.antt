@@ -10,9 +10,6 @@ use mathlib.Core.Path.{_≡_, sym, ap, _∙_}
 use borrow.Author.Needs.{needs}
 use Rattle.logical_facts.proofs.lineages_ok.Statement.{statement}
 use Rattle.logical_facts.proofs.lineages_ok.Tie as tie
-use Rattle.logical_facts.proofs.lineages_ok.Reads as reads
-use Rattle.logical_facts.proofs.lineages_ok.Lts as lts
-use Rattle.logical_facts.proofs.lineage_ok.Reads as lineage-ok-reads
 
 abbrev Inv-loop : tie.InvT-loop
 Inv-loop lineage nc c₀ c = (c ≤ 64) × (allFrom (lineageOk lineage nc) 0 64 ≡ allFrom (lineageOk lineage nc) c (64 - c))

@@ -1,9 +1,6 @@
 use borrow.Author.Needs.{needs}
 use Rattle.logical_facts.proofs.merge_constraints.Statement.{statement}
 use Rattle.logical_facts.proofs.merge_constraints.Tie as tie
-use Rattle.logical_facts.proofs.merge_constraints.Reads as reads
-use Rattle.logical_facts.proofs.merge_constraints.Lts as lts
-use Rattle.constraint_merge.proofs.merge_from.Reads as merge-from-reads
 
 merge-from-requires : tie.Need-merge-from-requires
 merge-from-requires c κs = search needs

@@ -4,12 +4,6 @@ use Rattle.logical_facts.proofs.EntryAnswers.{merge-fail-1, merge-fail-
 use borrow.Author.Needs.{needs}
 use Rattle.logical_facts.proofs.merge_inputs.Statement.{statement}
 use Rattle.logical_facts.proofs.merge_inputs.Tie as tie
-use Rattle.logical_facts.proofs.merge_inputs.Reads as reads
-use Rattle.logical_facts.proofs.merge_inputs.Lts as lts
-use Rattle.logical_facts.proofs.facts_ok.Reads as facts-ok-reads
-use Rattle.logical_facts.proofs.inputs_merged.Reads as inputs-merged-reads
-use Rattle.logical_facts.proofs.no_such.Reads as no-such-reads
-use Rattle.plan_rules.proofs.plan_ok.Reads as plan-ok-reads
 
 plan-ok-requires : tie.Need-plan-ok-requires
 plan-ok-requires c κs = search needs

@@ -1,8 +1,6 @@
 use borrow.Author.Tests.{ne-eqb}
 use Rattle.logical_facts.proofs.over16.Statement.{statement}
 use Rattle.logical_facts.proofs.over16.Tie as tie
-use Rattle.logical_facts.proofs.over16.Reads as reads
-use Rattle.logical_facts.proofs.over16.Lts as lts
 
 returns : tie.Need-returns
 returns c = rw (c .if1 .taken)

@@ -1,8 +1,6 @@
 use borrow.Author.Tests.{ne-eqb}
 use Rattle.logical_facts.proofs.over8.Statement.{statement}
 use Rattle.logical_facts.proofs.over8.Tie as tie
-use Rattle.logical_facts.proofs.over8.Reads as reads
-use Rattle.logical_facts.proofs.over8.Lts as lts
 
 returns : tie.Need-returns
 returns c = rw (c .if1 .taken)

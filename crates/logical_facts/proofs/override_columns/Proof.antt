@@ -5,10 +5,6 @@ use mathlib.Core.Path.{_≡_}
 use borrow.Author.Needs.{needs}
 use Rattle.logical_facts.proofs.override_columns.Statement.{statement}
 use Rattle.logical_facts.proofs.override_columns.Tie as tie
-use Rattle.logical_facts.proofs.override_columns.Reads as reads
-use Rattle.logical_facts.proofs.override_columns.Lts as lts
-use Rattle.logical_facts.proofs.over16.Reads as over16-reads
-use Rattle.logical_facts.proofs.over8.Reads as over8-reads
 
 abbrev Inv-loop : tie.InvT-loop
 Inv-loop right t₀ c₀ t c = (c ≤ 64) × (t ≡ overTo t₀ right c)

@@ -4,7 +4,6 @@ use borrow.Author.Tests.{le-ltb, lt-ltb}
 use Rattle.apply_spec.specs.Facts.{residualOk}
 use Rattle.lists.proofs.RangeLaws.{all-done, all-fails, all-passes}
 use Rattle.lists.specs.Ranges.{allFrom}
-use denote.Ref.{now}
 use native.Mathlib.Omega.{arith}
 use native.Mathlib.Nat.{sub-zero}
 use Prim.Native.Nat.{_-_, _≤_}
@@ -12,9 +11,6 @@ use mathlib.Core.Path.{_≡_, sym, ap, _∙_}
 use borrow.Author.Needs.{needs}
 use Rattle.logical_facts.proofs.residuals_ok.Statement.{statement}
 use Rattle.logical_facts.proofs.residuals_ok.Tie as tie
-use Rattle.logical_facts.proofs.residuals_ok.Reads as reads
-use Rattle.logical_facts.proofs.residuals_ok.Lts as lts
-use Rattle.lists.proofs.at16.Reads as at16-reads
 
 abbrev Inv-loop : tie.InvT-loop
 Inv-loop ne s n k₀ k = (k ≤ n) × (allFrom (residualOk s ne) 0 n ≡ allFrom (residualOk s ne) k (n - k))

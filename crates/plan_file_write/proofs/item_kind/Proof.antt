@@ -2,10 +2,6 @@ use Rattle.plan_file_write.proofs.WriteLaws.{kind-first, kind-second}
 use borrow.Author.Needs.{needs}
 use Rattle.plan_file_write.proofs.item_kind.Statement.{statement}
 use Rattle.plan_file_write.proofs.item_kind.Tie as tie
-use Rattle.plan_file_write.proofs.item_kind.Reads as reads
-use Rattle.plan_file_write.proofs.item_kind.Lts as lts
-use Rattle.plan_kinds.proofs.count_of.Reads as count-of-reads
-use Rattle.plan_kinds.proofs.row_of.Reads as row-of-reads
 
 row-of-requires : tie.Need-row-of-requires
 row-of-requires c κs = search needs

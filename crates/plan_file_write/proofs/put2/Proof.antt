@@ -2,9 +2,6 @@ use Rattle.writing.proofs.Wrotes.{wrote-then}
 use borrow.Author.Needs.{needs}
 use Rattle.plan_file_write.proofs.put2.Statement.{statement}
 use Rattle.plan_file_write.proofs.put2.Tie as tie
-use Rattle.plan_file_write.proofs.put2.Reads as reads
-use Rattle.plan_file_write.proofs.put2.Lts as lts
-use Rattle.writing.proofs.byte.Reads as byte-reads
 
 cast-byte : tie.Need-cast-byte
 cast-byte c = search needs

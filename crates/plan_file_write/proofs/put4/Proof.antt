@@ -2,9 +2,6 @@ use Rattle.writing.proofs.Wrotes.{wrote-then}
 use borrow.Author.Needs.{needs}
 use Rattle.plan_file_write.proofs.put4.Statement.{statement}
 use Rattle.plan_file_write.proofs.put4.Tie as tie
-use Rattle.plan_file_write.proofs.put4.Reads as reads
-use Rattle.plan_file_write.proofs.put4.Lts as lts
-use Rattle.plan_file_write.proofs.put2.Reads as put2-reads
 
 cast-put2 : tie.Need-cast-put2
 cast-put2 c = search needs

@@ -2,9 +2,6 @@ use Rattle.writing.proofs.Wrotes.{wrote-then}
 use borrow.Author.Needs.{needs}
 use Rattle.plan_file_write.proofs.put8.Statement.{statement}
 use Rattle.plan_file_write.proofs.put8.Tie as tie
-use Rattle.plan_file_write.proofs.put8.Reads as reads
-use Rattle.plan_file_write.proofs.put8.Lts as lts
-use Rattle.plan_file_write.proofs.put4.Reads as put4-reads
 
 cast-put4 : tie.Need-cast-put4
 cast-put4 c = search needs

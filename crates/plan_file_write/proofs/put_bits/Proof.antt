@@ -4,10 +4,6 @@ use Rattle.writing.proofs.Wrotes.{wrote-none}
 use borrow.Author.Needs.{needs}
 use Rattle.plan_file_write.proofs.put_bits.Statement.{statement}
 use Rattle.plan_file_write.proofs.put_bits.Tie as tie
-use Rattle.plan_file_write.proofs.put_bits.Reads as reads
-use Rattle.plan_file_write.proofs.put_bits.Lts as lts
-use Rattle.plan_file_write.proofs.put4.Reads as put4-reads
-use Rattle.plan_file_write.proofs.put8.Reads as put8-reads
 
 cast-put4 : tie.Need-cast-put4
 cast-put4 c = search needs

@@ -4,11 +4,6 @@ use Rattle.writing.proofs.Wrotes.{wrote-as, wrote-then}
 use borrow.Author.Needs.{needs}
 use Rattle.plan_file_write.proofs.put_body.Statement.{statement}
 use Rattle.plan_file_write.proofs.put_body.Tie as tie
-use Rattle.plan_file_write.proofs.put_body.Reads as reads
-use Rattle.plan_file_write.proofs.put_body.Lts as lts
-use Rattle.plan_file_write.proofs.put_bits.Reads as put-bits-reads
-use Rattle.plan_file_write.proofs.put_code.Reads as put-code-reads
-use Rattle.plan_file_write.proofs.put_word.Reads as put-word-reads
 
 put-code-requires : tie.Need-put-code-requires
 put-code-requires c κs = search needs

@@ -3,9 +3,6 @@ use Rattle.writing.proofs.Wrotes.{wrote-none}
 use borrow.Author.Needs.{needs}
 use Rattle.plan_file_write.proofs.put_code.Statement.{statement}
 use Rattle.plan_file_write.proofs.put_code.Tie as tie
-use Rattle.plan_file_write.proofs.put_code.Reads as reads
-use Rattle.plan_file_write.proofs.put_code.Lts as lts
-use Rattle.writing.proofs.byte.Reads as byte-reads
 
 byte-requires : tie.Need-byte-requires
 byte-requires c κs = search needs

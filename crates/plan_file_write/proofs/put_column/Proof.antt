@@ -1,11 +1,6 @@
 use borrow.Author.Needs.{needs}
 use Rattle.plan_file_write.proofs.put_column.Statement.{statement}
 use Rattle.plan_file_write.proofs.put_column.Tie as tie
-use Rattle.plan_file_write.proofs.put_column.Reads as reads
-use Rattle.plan_file_write.proofs.put_column.Lts as lts
-use Rattle.lists.proofs.at16.Reads as at16-reads
-use Rattle.lists.proofs.at8.Reads as at8-reads
-use Rattle.plan_file_write.proofs.put_record.Reads as put-record-reads
 
 at8-requires : tie.Need-at8-requires
 at8-requires c κs = search needs

@@ -8,9 +8,6 @@ use Rattle.writing.specs.Text.{Wrote, lines}
 use Rattle.writing.proofs.Wrotes.{wrote-none, wrote-then, lines-more}
 use Rattle.plan_file_write.proofs.put_columns.Statement.{statement}
 use Rattle.plan_file_write.proofs.put_columns.Tie as tie
-use Rattle.plan_file_write.proofs.put_columns.Reads as reads
-use Rattle.plan_file_write.proofs.put_columns.Lts as lts
-use Rattle.plan_file_write.proofs.put_column.Reads as put-column-reads
 
 abbrev Inv-loop : tie.InvT-loop
 Inv-loop out₀ at name kind n p₀ i₀ out p i = (i ≤ n) × (length out ≡ length out₀) × Wrote out₀ at out p

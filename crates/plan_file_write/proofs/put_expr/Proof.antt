@@ -1,11 +1,6 @@
 use borrow.Author.Needs.{needs}
 use Rattle.plan_file_write.proofs.put_expr.Statement.{statement}
 use Rattle.plan_file_write.proofs.put_expr.Tie as tie
-use Rattle.plan_file_write.proofs.put_expr.Reads as reads
-use Rattle.plan_file_write.proofs.put_expr.Lts as lts
-use Rattle.lists.proofs.at16.Reads as at16-reads
-use Rattle.plan.proofs.expr_record.Reads as expr-record-reads
-use Rattle.plan_file_write.proofs.put_listed.Reads as put-listed-reads
 
 expr-record-requires : tie.Need-expr-record-requires
 expr-record-requires c κs = search needs

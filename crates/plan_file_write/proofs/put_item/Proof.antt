@@ -1,11 +1,6 @@
 use borrow.Author.Needs.{needs}
 use Rattle.plan_file_write.proofs.put_item.Statement.{statement}
 use Rattle.plan_file_write.proofs.put_item.Tie as tie
-use Rattle.plan_file_write.proofs.put_item.Reads as reads
-use Rattle.plan_file_write.proofs.put_item.Lts as lts
-use Rattle.lists.proofs.at16.Reads as at16-reads
-use Rattle.plan_file_write.proofs.item_kind.Reads as item-kind-reads
-use Rattle.plan_file_write.proofs.put_record.Reads as put-record-reads
 
 add-i : tie.Need-add-i
 add-i c = search needs

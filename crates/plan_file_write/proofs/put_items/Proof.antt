@@ -1,5 +1,4 @@
 use Rattle.plan_file_laws.specs.ListItems.{firstOf, secondOf}
-use Rattle.plan_kinds.specs.Rows.{rowOf}
 use Rattle.plan_kinds.specs.Records.{countOf, moreOf}
 use Rattle.plan_kinds.specs.declared.Row.{Row}
 use borrow.Author.Needs.{needs}
@@ -12,12 +11,6 @@ use Rattle.writing.specs.Text.{Wrote, lines}
 use Rattle.writing.proofs.Wrotes.{wrote-none, wrote-then, lines-more}
 use Rattle.plan_file_write.proofs.put_items.Statement.{statement}
 use Rattle.plan_file_write.proofs.put_items.Tie as tie
-use Rattle.plan_file_write.proofs.put_items.Reads as reads
-use Rattle.plan_file_write.proofs.put_items.Lts as lts
-use Rattle.plan_kinds.proofs.count_of.Reads as count-of-reads
-use Rattle.plan_kinds.proofs.more_of.Reads as more-of-reads
-use Rattle.plan_kinds.proofs.row_of.Reads as row-of-reads
-use Rattle.plan_file_write.proofs.put_item.Reads as put-item-reads
 
 abbrev Inv-loop : tie.InvT-loop
 Inv-loop out₀ at a b x st n p₀ k₀ out p k = (k ≤ n) × (length out ≡ length out₀) × Wrote out₀ at out p (lines k (λ (j : ℕ). recordBytes (itemIn a b x st j)))

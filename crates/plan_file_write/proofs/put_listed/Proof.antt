@@ -3,10 +3,6 @@ use Rattle.writing.proofs.Wrotes.{wrote-then}
 use borrow.Author.Needs.{needs}
 use Rattle.plan_file_write.proofs.put_listed.Statement.{statement}
 use Rattle.plan_file_write.proofs.put_listed.Tie as tie
-use Rattle.plan_file_write.proofs.put_listed.Reads as reads
-use Rattle.plan_file_write.proofs.put_listed.Lts as lts
-use Rattle.plan_file_write.proofs.put_items.Reads as put-items-reads
-use Rattle.plan_file_write.proofs.put_record.Reads as put-record-reads
 
 put-record-requires : tie.Need-put-record-requires
 put-record-requires c κs = search needs

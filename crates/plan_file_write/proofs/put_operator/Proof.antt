@@ -1,11 +1,6 @@
 use borrow.Author.Needs.{needs}
 use Rattle.plan_file_write.proofs.put_operator.Statement.{statement}
 use Rattle.plan_file_write.proofs.put_operator.Tie as tie
-use Rattle.plan_file_write.proofs.put_operator.Reads as reads
-use Rattle.plan_file_write.proofs.put_operator.Lts as lts
-use Rattle.lists.proofs.at16.Reads as at16-reads
-use Rattle.plan.proofs.operator_record.Reads as operator-record-reads
-use Rattle.plan_file_write.proofs.put_listed.Reads as put-listed-reads
 
 operator-record-requires : tie.Need-operator-record-requires
 operator-record-requires c κs = search needs

@@ -3,11 +3,6 @@ use Rattle.writing.proofs.Wrotes.{wrote-then}
 use borrow.Author.Needs.{needs}
 use Rattle.plan_file_write.proofs.put_record.Statement.{statement}
 use Rattle.plan_file_write.proofs.put_record.Tie as tie
-use Rattle.plan_file_write.proofs.put_record.Reads as reads
-use Rattle.plan_file_write.proofs.put_record.Lts as lts
-use Rattle.plan_kinds.proofs.row_of.Reads as row-of-reads
-use Rattle.plan_file_write.proofs.put_body.Reads as put-body-reads
-use Rattle.writing.proofs.byte.Reads as byte-reads
 
 row-of-requires : tie.Need-row-of-requires
 row-of-requires c κs = search needs

@@ -4,9 +4,6 @@ use Rattle.writing.proofs.Wrotes.{wrote-none}
 use borrow.Author.Needs.{needs}
 use Rattle.plan_file_write.proofs.put_word.Statement.{statement}
 use Rattle.plan_file_write.proofs.put_word.Tie as tie
-use Rattle.plan_file_write.proofs.put_word.Reads as reads
-use Rattle.plan_file_write.proofs.put_word.Lts as lts
-use Rattle.plan_file_write.proofs.put2.Reads as put2-reads
 
 returns : tie.Need-returns
 unfolding putWord

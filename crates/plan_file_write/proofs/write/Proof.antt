@@ -4,11 +4,6 @@ use mathlib.Core.Path.{_∙_}
 use Rattle.writing.proofs.Wrotes.{wrote-then}
 use Rattle.plan_file_write.proofs.write.Statement.{statement}
 use Rattle.plan_file_write.proofs.write.Tie as tie
-use Rattle.plan_file_write.proofs.write.Reads as reads
-use Rattle.plan_file_write.proofs.write.Lts as lts
-use Rattle.plan_file_write.proofs.put_columns.Reads as put-columns-reads
-use Rattle.plan_file_write.proofs.put_exprs.Reads as put-exprs-reads
-use Rattle.plan_file_write.proofs.put_operators.Reads as put-operators-reads
 
 put-columns-requires : tie.Need-put-columns-requires
 put-columns-requires c κs = search needs

@@ -1,6 +1,5 @@
 use Rattle.plan_kinds.specs.Records.{bitsOk}
 use borrow.Author.Tests.{eq-eqb, ne-eqb}
-use borrow.Author.Needs.{needs}
 use Rattle.plan_kinds.proofs.bits_ok.Statement.{statement}
 use Rattle.plan_kinds.proofs.bits_ok.Tie as tie
 

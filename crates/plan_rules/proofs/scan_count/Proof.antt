@@ -4,12 +4,10 @@ use Rattle.plan_rules.specs.Rules.{scansOf}
 use Rattle.lists.proofs.RangeLaws.{count-done, count-found, count-missed}
 use Rattle.lists.specs.Ranges.{countFrom}
 use denote.Ref.{now}
-use mathlib.Core.Bool.{true, false, cond}
 use mathlib.Core.Logic.{⊎-elim}
-use native.Mathlib.Nat.{sub-zero}
 use native.Mathlib.Omega.{arith}
-use Prim.Native.Nat.{ℕ, _+_, _-_, _≤_}
-use mathlib.Core.Path.{_≡_, sym, ap, _∙_, refl}
+use Prim.Native.Nat.{_+_, _-_, _≤_}
+use mathlib.Core.Path.{_≡_, sym, _∙_}
 use Rattle.plan_rules.proofs.scan_count.Statement.{statement}
 use Rattle.plan_rules.proofs.scan_count.Tie as tie
 

@@ -1,8 +1,6 @@
 use borrow.Author.Needs.{needs}
 use Rattle.refusals.proofs.standing.Statement.{statement}
 use Rattle.refusals.proofs.standing.Tie as tie
-use Rattle.refusals.proofs.standing.Reads as reads
-use Rattle.refusals.proofs.standing.Lts as lts
 
 enum-told : tie.Need-enum-told
 enum-told c = search needs

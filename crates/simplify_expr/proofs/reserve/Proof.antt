@@ -25,12 +25,14 @@ plain-requires c κs = search needs
 
 returns : tie.Need-returns
 returns c =
-    let start = c .before .before .before .before in
+    let earlier = c .before .before .before .before in
+    let start = earlier in
     let a = start .args in
-    λ ia ib. ap (outOf (now (a .kind)) (now (a .code)) (now (a .a)) (now (a .b)) (now (a .start)) (now (a .bits)) ia ib) (c .plain .ensures)
-    ∙ reserve-off (a .all) (tablesOf (now (a .kind)) (now (a .code)) (now (a .a)) (now (a .b)) (now (a .start)) (now (a .bits)) ia ib (a .s)) (a .k)
-    (c .before .before .if1 .taken) (resultOf (now (a .kind)) (now (a .code)) (now (a .a)) (now (a .b)) (now (a .start)) (now (a .bits)) ia ib (c .before .refused .result))
-    (off (now (a .kind)) (now (a .code)) (now (a .a)) (now (a .b)) (now (a .start)) (now (a .bits)) ia ib (c .before .refused .result) (a .s) (c .before .refused .ensures))
+    λ ia ib. ap (outOf (now (a .kind)) (now (a .code)) (now (a .a)) (now (a .b)) (now (a .start)) (now (a .bits)) ia ib) (c .plain .ensures) ∙ reserve-off
+    (a .all) (tablesOf (now (a .kind)) (now (a .code)) (now (a .a)) (now (a .b)) (now (a .start)) (now (a .bits)) ia ib (a .s)) (a .k)
+    (c .before .before .if1 .taken) (resultOf (now (a .kind)) (now (a .code)) (now (a .a)) (now (a .b)) (now (a .start)) (now (a .bits)) ia ib
+    (c .before .refused .result)) (off (now (a .kind)) (now (a .code)) (now (a .a)) (now (a .b)) (now (a .start)) (now (a .bits)) ia ib
+    (c .before .refused .result) (a .s) (c .before .refused .ensures))
 
 add-t19 : tie.Need-add-t19
 add-t19 c = search needs

@@ -2,9 +2,6 @@ use borrow.Author.Needs.{needs}
 use Prim.Native.Nat.{_≤_, _-_}
 use Rattle.test_apply.proofs.list_columns.Statement.{statement}
 use Rattle.test_apply.proofs.list_columns.Tie as tie
-use Rattle.test_apply.proofs.list_columns.Reads as reads
-use Rattle.test_apply.proofs.list_columns.Lts as lts
-use Rattle.test_apply.proofs.list_lineage.Reads as list-lineage-reads
 
 abbrev Inv-loop : tie.InvT-loop
 Inv-loop lineage c₀ c = c ≤ 64

@@ -2,9 +2,6 @@ use borrow.Author.Needs.{needs}
 use Prim.Native.Nat.{_≤_, _-_}
 use Rattle.test_apply.proofs.nested.Statement.{statement}
 use Rattle.test_apply.proofs.nested.Tie as tie
-use Rattle.test_apply.proofs.nested.Reads as reads
-use Rattle.test_apply.proofs.nested.Lts as lts
-use Rattle.test_apply.proofs.with_and.Reads as with-and-reads
 
 abbrev Inv-loop : tie.InvT-loop
 Inv-loop n e q₀ counter₀ q counter = counter ≤ n

@@ -1,4 +1,4 @@
-use Rattle.writing.proofs.Wrotes.{wrote-none, wrote-then, wrote-byte, wrote-full, decimal-low, decimal-high, digits-more, lines-more}
+use Rattle.writing.proofs.Wrotes.{wrote-none, wrote-then, digits-more}
 use borrow.Author.Needs.{needs}
 use Prim.Native.Nat.{ℕ, _<_}
 use borrow.Fn.Kinds.{In}

@@ -1,9 +1,7 @@
-use Rattle.writing.proofs.Wrotes.{wrote-none, wrote-then, wrote-byte, wrote-full, decimal-low, decimal-high, digits-more, lines-more}
+use Rattle.writing.proofs.Wrotes.{wrote-byte, wrote-full}
 use borrow.Author.Needs.{needs}
 use Rattle.writing.proofs.byte.Statement.{statement}
 use Rattle.writing.proofs.byte.Tie as tie
-use Rattle.writing.proofs.byte.Reads as reads
-use Rattle.writing.proofs.byte.Lts as lts
 
 slice-write-out : tie.Need-slice-write-out
 slice-write-out c = search needs

@@ -1,9 +1,7 @@
-use borrow.Author.Tests.{lt-ltb, le-ltb, le-leb, lt-leb, eq-eqb, ne-eqb, not-true, not-false}
+use borrow.Author.Tests.{lt-ltb, le-ltb}
 use borrow.Author.Needs.{needs}
 use Rattle.writing.proofs.glyph.Statement.{statement}
 use Rattle.writing.proofs.glyph.Tie as tie
-use Rattle.writing.proofs.glyph.Reads as reads
-use Rattle.writing.proofs.glyph.Lts as lts
 
 cast-result : tie.Need-cast-result
 cast-result c = search needs

@@ -1,6 +1,6 @@
 use borrow.Author.Needs.{needs}
 use Prim.Native.Nat.{ℕ, _≤_, _<_, _-_}
-use mathlib.Core.Path.{_≡_, refl, sym, _∙_}
+use mathlib.Core.Path.{_≡_, refl, _∙_}
 use native.Mathlib.Numerals.{add-one}
 use native.Mathlib.Omega.{arith}
 use lib.ListN.{length, take}
@@ -9,9 +9,6 @@ use Rattle.writing.specs.Text.{Wrote}
 use Rattle.writing.proofs.Wrotes.{wrote-none, wrote-then}
 use Rattle.writing.proofs.text.Statement.{statement}
 use Rattle.writing.proofs.text.Tie as tie
-use Rattle.writing.proofs.text.Reads as reads
-use Rattle.writing.proofs.text.Lts as lts
-use Rattle.writing.proofs.byte.Reads as byte-reads
 
 abbrev Inv-loop : tie.InvT-loop
 Inv-loop out₀ at s p₀ i₀ out p i = (i ≤ length s) × (length out ≡ length out₀) × Wrote out₀ at out p (take i s)

@@ -4,8 +4,6 @@ use Rattle.value_classes.proofs.ClassLaws.{low-out, high-out, roots-ans
 use borrow.Author.Needs.{needs}
 use Rattle.value_classes.proofs.ValueEquivalenceClasses.join_roots.Statement.{statement}
 use Rattle.value_classes.proofs.ValueEquivalenceClasses.join_roots.Tie as tie
-use Rattle.value_classes.proofs.ValueEquivalenceClasses.join_roots.Reads as reads
-use Rattle.value_classes.proofs.ValueEquivalenceClasses.join_roots.Lts as lts
 
 returns : tie.Need-returns
 returns c = let args = c .before .args in low-out (args .self) (args .low) (args .high) (c .if1 .taken)

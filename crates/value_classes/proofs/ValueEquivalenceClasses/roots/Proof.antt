@@ -1,5 +1,5 @@
 use borrow.Author.Needs.{needs}
-use Prim.Native.Nat.{_≤_, _<_, _+_, _-_}
+use Prim.Native.Nat.{_≤_, _+_, _-_}
 use mathlib.Core.Path.{_≡_, refl, sym, ap, _∙_}
 use mathlib.Core.Logic.{⊎-elim}
 use borrow.Author.Tests.{ltb-true}
@@ -12,10 +12,6 @@ use Rattle.value_classes.specs.Listed.{rootsOf}
 use Rattle.value_classes.proofs.RootLaws.{root-below, take-each-more, take-each-done}
 use Rattle.value_classes.proofs.ValueEquivalenceClasses.roots.Statement.{statement}
 use Rattle.value_classes.proofs.ValueEquivalenceClasses.roots.Tie as tie
-use Rattle.value_classes.proofs.ValueEquivalenceClasses.roots.Reads as reads
-use Rattle.value_classes.proofs.ValueEquivalenceClasses.roots.Lts as lts
-use Rattle.value_classes.proofs.ValueEquivalenceClasses.canonical.Reads as canonical-reads
-use Rattle.value_classes.proofs.ValueEquivalenceClasses.parents_ok.Reads as parents-ok-reads
 
 abbrev Inv-loop : tie.InvT-loop
 Inv-loop self ok of₀ i₀ of i = (i ≤ 128) × (length of ≡ 128) × (take i of ≡ each (rootOf (self .parents)) i)
