@@ -1,5 +1,7 @@
 // What one conjunct of a predicate records, after the arms of the Rust's `apply_predicate`, in two halves: which action it is, read out of the
 // plan without a set, and what that makes of the one representative that it is about. A set is 9 KB, so none is passed here.
+#![tactic(auto)]
+
 ghost use Rattle.std.specs.Prelude.{◌≡◌, false, cond};
 ghost use Rattle.constraint_set.specs.Kept.{kept_by};
 ghost use Rattle.plan_data.specs.Nodes.{node_of};
@@ -19,7 +21,7 @@ use scalar::{Number, ScalarValue};
 
 // What a conjunct asks: nothing, the flag, to be kept as a residual, two identities in one class (not NULL where the flag says so), a literal,
 // a bound, or an entry without a bound and a residual.
-#[derive(Drop)]
+#[derive(Clone, Copy)]
 pub enum Action {
     Nothing,
     Contradiction,
@@ -31,7 +33,7 @@ pub enum Action {
 }
 
 // What is recorded of one representative, and the flag of the set.
-#[derive(Drop)]
+#[derive(Clone, Copy)]
 pub struct Cell {
     pub non_null: bool,
     pub literal: Holder,

@@ -1,4 +1,6 @@
 // A list of conjuncts applied to a set where it lies. A set is 9 KB, so it is not handed on for a single conjunct.
+#![tactic(auto)]
+
 ghost use Rattle.std.specs.Prelude.{◌≡◌, true, not, ◌<◌, ◌≤◌, take};
 ghost use Rattle.value_classes.specs.Classes.{same_class};
 ghost use Rattle.constraint_spec.specs.Sets.{done, union_values};

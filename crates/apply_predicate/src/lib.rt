@@ -1,5 +1,7 @@
 // Applying a predicate to facts, after the Rust's `apply_predicate`: its conjuncts are collected some at a time, or all of them without those that repeat,
 // and then applied to the set. A walk is 6 KB, so it is not handed on for a single conjunct.
+#![tactic(auto)]
+
 ghost use Rattle.std.specs.Prelude.{◌≡◌, true, List, ◌++◌, ℕ, ◌<◌, ◌≤◌, length, take};
 ghost use Rattle.constraint_spec.specs.Sets.{done};
 ghost use Rattle.plan_data.specs.Nodes.{node_of};
@@ -16,7 +18,7 @@ use constraint_spec::{Applied, ConstraintSet};
 use plan::{Expr, Plan};
 
 // Conjuncts that a walk found in at most 1,024 turns, and what is left of it.
-#[derive(Drop)]
+#[derive(Clone, Copy)]
 struct Found {
     walk: Walk,
     handles: [u16; 2048],

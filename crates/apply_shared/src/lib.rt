@@ -1,6 +1,8 @@
 // The conjuncts of a predicate, without some of those that stand both before and after. An And that several paths reach is walked through at
 // its first and at its last visit: its conjuncts with their repeats can be exponentially many, while the steps taken here are at most two for
 // each frame and operand of the tables.
+#![tactic(auto)]
+
 ghost use Rattle.std.specs.Prelude.{◌≡◌, true, false, List, [], ℕ, ◌≤◌, length, get_or, take};
 ghost use Rattle.plan_data.specs.Nodes.{node_of};
 ghost use Rattle.apply_spec.specs.Conjuncts.{conjuncts_of};
@@ -10,7 +12,7 @@ ghost use Rattle.apply_shared.specs.Thinned.{Thinned};
 use apply_walk::{Move, Walk};
 
 // The first `count` handles are the conjuncts kept, where `whole` is true: the walk came to its end, and whatever it passed over came again.
-#[derive(Drop)]
+#[derive(Clone, Copy)]
 pub struct Thin {
     pub handles: [u16; 2048],
     pub count: usize,
@@ -19,7 +21,7 @@ pub struct Thin {
 
 // By handle: the And and the place among the items where it stands for the last time. Nothing is promised of it: an operand passed over that
 // does not come again is found out by the walk itself.
-#[derive(Drop)]
+#[derive(Clone, Copy)]
 struct Lasts {
     owner: [u16; 1024],
     place: [u16; 1024],

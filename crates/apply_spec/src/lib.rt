@@ -1,5 +1,7 @@
 // What is known of an operator's rows, after the Rust's LogicalFacts. Here stand the types alone: what applying a predicate and merging two
 // inputs make of facts is defined in specs/.
+#![tactic(auto)]
+
 ghost use Rattle.std.specs.Prelude.{◌≡◌};
 ghost use Rattle.apply_spec.specs.Facts.{empty_facts};
 
@@ -7,7 +9,7 @@ use constraint_spec::ConstraintSet;
 use scalar::ScalarValue;
 
 // By column: the number of its identity and one more, 0 for none; the handle of its defining expression and one more, 0 for none.
-#[derive(Drop)]
+#[derive(Clone, Copy)]
 pub struct LogicalFacts {
     pub lineage: [u8; 64],
     pub definitions: [u16; 64],
@@ -15,7 +17,7 @@ pub struct LogicalFacts {
 }
 
 // What an operand of a comparison is to the facts: a column with lineage, a literal, or neither.
-#[derive(Drop)]
+#[derive(Clone, Copy)]
 pub enum Seen {
     Identity(usize),
     Constant(ScalarValue),
@@ -23,13 +25,13 @@ pub enum Seen {
 }
 
 // What came of applying or merging: the new facts, or a refusal with the facts that were passed in.
-#[derive(Drop)]
+#[derive(Clone, Copy)]
 pub struct FactsAnswer {
     pub facts: LogicalFacts,
     pub outcome: Outcome,
 }
 
-#[derive(Drop)]
+#[derive(Clone, Copy)]
 pub enum Outcome {
     Accepted,
     Residuals,

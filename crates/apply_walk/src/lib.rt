@@ -1,10 +1,12 @@
 // The conjuncts of a predicate, one after the other. An And may stand within an And some 1,000 deep, so nothing recurses here: a walk keeps a
 // frame for each And that it is within.
+#![tactic(auto)]
+
 ghost use Rattle.std.specs.Prelude.{◌≡◌};
 ghost use Rattle.apply_walk.specs.Walks.{is_and, empty_walk, entered, turn_of};
 
 // By frame: the And, the place of its next operand in the item table, and how many operands are left.
-#[derive(Drop)]
+#[derive(Clone, Copy)]
 pub struct Walk {
     pub owner: [u16; 1024],
     pub at: [u16; 1024],
@@ -13,7 +15,7 @@ pub struct Walk {
 }
 
 // What a frame does next: it is done; its operand counts for nothing, or is an And to enter, or is a conjunct.
-#[derive(Drop)]
+#[derive(Clone, Copy)]
 pub enum Move {
     Pop,
     Skip,

@@ -1,6 +1,8 @@
 // What programs in other languages call: bytes of a plan file and numbers in, a reply as bytes out. A reply is the number of the refusal, 0 for
 // none; a number of eight bytes, high byte first; and what is handed back. Each function writes as much of its reply as `out` has room for and
 // answers where that ended. Every input has a reply.
+#![tactic(auto)]
+
 ghost use Rattle.std.specs.Prelude.{◌≡◌};
 ghost use Rattle.plan_file.specs.Answers as Files;
 ghost use Rattle.plan_file.specs.Steps.{read_of};
@@ -16,7 +18,7 @@ use plan_identities::Identities;
 use rows_spec::{Evaluation, Row};
 
 // Predicates applied in turn: the facts, and what came of the last one that was applied.
-#[derive(Drop)]
+#[derive(Clone, Copy)]
 pub struct InTurn {
     pub facts: LogicalFacts,
     pub outcome: Outcome,

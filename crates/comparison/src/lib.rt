@@ -1,8 +1,10 @@
 // The comparisons of two values, with their codes in the plan file.
+#![tactic(auto)]
+
 ghost use Rattle.std.specs.Prelude.{◌≡◌};
 ghost use Rattle.comparison.specs.Operators.{binary_op_code, binary_op_of, reversed_op, ordinary, bounding};
 
-#[derive(Drop)]
+#[derive(Clone, Copy)]
 pub enum BinaryOp {
     Eq,
     NotEq,

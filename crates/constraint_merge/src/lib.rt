@@ -1,5 +1,7 @@
 // What two constraint sets say together, after the Rust's merge_from: the classes of the one joined in the other, then its literals, its ranges,
 // the values that are not NULL and its residuals laid into it.
+#![tactic(auto)]
+
 ghost use Rattle.std.specs.Prelude.{◌≡◌, true, cond, ◌<◌, eqb};
 ghost use Rattle.constraint_spec.specs.Sets.{union_values, merge_classes, merge_ranges, merge_non_nulls, merge_from};
 ghost use Rattle.constraint_set.specs.Settled.{Settled};
@@ -12,7 +14,7 @@ use constraint_spec::{Applied, ConstraintSet, Entry, Holder};
 use value_classes::{Members, ValueEquivalenceClasses};
 
 // A set in the middle of a merge of classes, and whether everything in it is known to stand at the representatives.
-#[derive(Drop)]
+#[derive(Clone, Copy)]
 pub struct Joining {
     pub constraints: ConstraintSet,
     pub settled: bool,

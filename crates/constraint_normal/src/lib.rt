@@ -1,5 +1,7 @@
 // Whether everything in a set stands at the representatives and every bound can be compared: then the conjuncts between two of the same may be
 // left out. Nothing is asked of the set, so that whoever applies can ask.
+#![tactic(auto)]
+
 ghost use Rattle.std.specs.Prelude.{◌≡◌, true};
 ghost use Rattle.constraint_normal.specs.Ready.{Ready};
 ghost use Rattle.constraint_normal.specs.ReadyPlaces.{blank_scalar, ready_holder, blank_bound, ready_bound, ready_entry, quiet_place, ready_place, ready_of};

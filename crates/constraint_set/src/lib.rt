@@ -1,5 +1,7 @@
 // What is done with a constraint set, after the methods of the Rust's ConstraintSet: a set goes in by value and comes back.
 // Nothing is asked of a set or of a number that comes in: what happens to one that breaks the rules is defined too.
+#![tactic(auto)]
+
 ghost use Rattle.std.specs.Prelude.{◌≡◌, true, cond, ◌<◌};
 ghost use Rattle.value_classes.specs.Classes.{same_class};
 ghost use Rattle.constraint_spec.specs.Sets.{held, set_ok, canonical_at, entry_of, clashes, range_in, lower_by, upper_by, tighten_by, outside, crossed};
@@ -16,7 +18,7 @@ use value_classes::ValueEquivalenceClasses;
 use value_range::{Bound, ValueRange};
 
 // The residual handles with one more, or as they were, with or without room for it.
-#[derive(Drop)]
+#[derive(Clone, Copy)]
 pub struct Kept {
     pub list: [u16; 64],
     pub count: usize,
@@ -24,7 +26,7 @@ pub struct Kept {
 }
 
 // The literal and the range of two representatives that become one, and whether they contradict.
-#[derive(Drop)]
+#[derive(Clone, Copy)]
 pub struct Place {
     pub literal: Holder,
     pub entry: Entry,
@@ -32,7 +34,7 @@ pub struct Place {
 }
 
 // Two representatives, the lower first, and the classes with the lower as the parent of the other: what the crates above join in place.
-#[derive(Drop)]
+#[derive(Clone, Copy)]
 pub struct RootPair {
     pub classes: ValueEquivalenceClasses,
     pub low: usize,
@@ -99,7 +101,7 @@ pub fn range_in(e: Entry) -> ValueRange
     }
 }
 
-fn lower_by_lem(t: ValueRange, b: Bound) -> ValueRange
+fn lower_by(t: ValueRange, b: Bound) -> ValueRange
     ensures { result ≡ lower_by t b }
 {
     if b.present {
@@ -111,7 +113,7 @@ fn lower_by_lem(t: ValueRange, b: Bound) -> ValueRange
     }
 }
 
-fn upper_by_lem(t: ValueRange, b: Bound) -> ValueRange
+fn upper_by(t: ValueRange, b: Bound) -> ValueRange
     ensures { result ≡ upper_by t b }
 {
     if b.present {
@@ -130,8 +132,8 @@ pub fn tightened(e: Entry, new: ValueRange) -> ValueRange
     let t = range_in(e);
     let lower = new.lower;
     let upper = new.upper;
-    let first = lower_by_lem(t, lower);
-    upper_by_lem(first, upper)
+    let first = lower_by(t, lower);
+    upper_by(first, upper)
 }
 
 pub fn entry_of(range: ValueRange) -> Entry

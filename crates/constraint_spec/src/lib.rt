@@ -1,5 +1,7 @@
 // What is recorded of 128 identities, after the Rust's ConstraintSet: its maps are arrays with an entry for each identity.
 // Here stand the types alone. What an operation makes of a set is defined in specs/, what it means for a row is proved in proofs/.
+#![tactic(auto)]
+
 ghost use Rattle.std.specs.Prelude.{◌≡◌};
 ghost use Rattle.constraint_spec.specs.Sets.{none, no_entry, empty_set};
 
@@ -8,21 +10,21 @@ use value_classes::ValueEquivalenceClasses;
 use value_range::ValueRange;
 
 // A literal, where one is present.
-#[derive(Drop)]
+#[derive(Clone, Copy)]
 pub struct Holder {
     pub present: bool,
     pub value: ScalarValue,
 }
 
 // A range, where one is present.
-#[derive(Drop)]
+#[derive(Clone, Copy)]
 pub struct Entry {
     pub present: bool,
     pub range: ValueRange,
 }
 
 // The residual predicates are expression handles, as many as `residuals` says.
-#[derive(Drop)]
+#[derive(Clone, Copy)]
 pub struct ConstraintSet {
     pub equivalence_classes: ValueEquivalenceClasses,
     pub non_null_values: [bool; 128],
@@ -34,14 +36,14 @@ pub struct ConstraintSet {
 }
 
 // A set, and whether a comparison is recorded in it.
-#[derive(Drop)]
+#[derive(Clone, Copy)]
 pub struct Ranged {
     pub constraints: ConstraintSet,
     pub recorded: bool,
 }
 
 // A set, or, where there is no room for another residual, the set that came.
-#[derive(Drop)]
+#[derive(Clone, Copy)]
 pub struct Applied {
     pub constraints: ConstraintSet,
     pub refused: bool,

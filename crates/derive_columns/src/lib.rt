@@ -1,5 +1,7 @@
 // What each kind of operator makes of lineage and definitions, from its lists. The arrays of the plan's tables are lent one by one, and only
 // what stands by column goes through the loops: facts as a whole are some fifty times as large.
+#![tactic(auto)]
+
 ghost use Rattle.std.specs.Prelude.{◌≡◌};
 ghost use Rattle.plan_data.specs.Nodes.{node_of};
 ghost use Rattle.derive_spec.specs.Columns.{item_at, no_columns, lineage_entry, definition_entry, with_lineage, with_definitions, assigned, defined};

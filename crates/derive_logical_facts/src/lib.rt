@@ -1,5 +1,7 @@
 // Deriving, after the Rust's `derive_logical_facts`: the facts of an operator from the facts of its inputs, operators in handle order. The table
 // of answers is over 1 MiB, so it stays where it is: a step takes the two entries that it needs.
+#![tactic(auto)]
+
 ghost use Rattle.std.specs.Prelude.{◌≡◌, ◌<◌, min, get_or};
 ghost use Rattle.plan.specs.Records.{operator_record_of};
 ghost use Rattle.plan_data.specs.Nodes.{operator_data};
@@ -12,7 +14,7 @@ use plan_data::OperatorData;
 use plan_identities::Identities;
 
 // The answer for an operator, and the identities of its plan's values, by which it is listed: numbering them takes a pass over all operators.
-#[derive(Drop)]
+#[derive(Clone, Copy)]
 pub struct Numbered {
     pub answer: DeriveAnswer,
     pub identities: Identities,

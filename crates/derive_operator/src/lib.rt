@@ -1,4 +1,6 @@
 // What each kind of operator makes of its inputs' answers, after the `match` of the Rust's `derive_logical_facts`.
+#![tactic(auto)]
+
 ghost use Rattle.std.specs.Prelude.{◌≡◌, true, false};
 ghost use Rattle.constraint_spec.specs.Sets.{empty_set};
 ghost use Rattle.plan_data.specs.Nodes.{node_at};

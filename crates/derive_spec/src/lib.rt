@@ -1,17 +1,19 @@
 // What deriving answers, after the Rust's `derive_logical_facts`. Here stand the types alone: what each operator makes of its inputs' facts is
 // defined in specs/.
+#![tactic(auto)]
+
 use apply_spec::LogicalFacts;
 use plan::Operator;
 
 // What of facts stands by column, as in LogicalFacts: the loops over an operator's lists need no more.
-#[derive(Drop)]
+#[derive(Clone, Copy)]
 pub struct ColumnFacts {
     pub lineage: [u8; 64],
     pub definitions: [u16; 64],
 }
 
 // A refusal says which operator refused; NoSuch says which was asked for.
-#[derive(Drop)]
+#[derive(Clone, Copy)]
 pub enum DeriveOutcome {
     Accepted,
     UnsupportedKey(Operator),
@@ -20,7 +22,7 @@ pub enum DeriveOutcome {
 }
 
 // The facts of an operator, or a refusal with empty facts.
-#[derive(Drop)]
+#[derive(Clone, Copy)]
 pub struct DeriveAnswer {
     pub facts: LogicalFacts,
     pub outcome: DeriveOutcome,

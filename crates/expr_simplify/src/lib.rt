@@ -1,4 +1,6 @@
 // Simplifying the expressions of one operator of a plan, after the Rust's ExprSimplify.
+#![tactic(auto)]
+
 ghost use Rattle.std.specs.Prelude.{◌≡◌, List, ℕ, ◌+◌, ◌≤◌, get_or, set};
 ghost use Rattle.plan.specs.Records.{operator_record_of};
 ghost use Rattle.plan_append.specs.Appending.{items_of};

@@ -1,4 +1,5 @@
 // Reads a plan file on standard input and writes what is known of the rows of its last operator, or why it is refused.
+#![tactic(auto)]
 
 // Whether there was more on standard input.
 fn more() -> bool {

@@ -1,4 +1,6 @@
 // What the program `facts` writes of a file: the listing of its last operator, or the refusal.
+#![tactic(auto)]
+
 ghost use Rattle.plan_file.specs.Steps.{read_of};
 ghost use Rattle.writing.specs.Text.{Wrote};
 ghost use Rattle.facts_text.specs.FactsText.{facts_text};

@@ -1,5 +1,7 @@
 // What is known of the rows of an operator of a plan file, ready to be listed, or the refusal: the way from bytes over a plan to facts, which the program
 // and the boundary share.
+#![tactic(auto)]
+
 ghost use Rattle.std.specs.Prelude.{◌≡◌};
 ghost use Rattle.plan_file.specs.Steps.{read_of};
 ghost use Rattle.refusals.specs.Numbers.{last_of};
@@ -11,7 +13,7 @@ use plan_file::Answer;
 use plan_identities::Identities;
 
 // the number of the refusal in the rules (docs/FORMAT.md), 0 for none, and its place; the operator, and what its listing is made of.
-#[derive(Drop)]
+#[derive(Clone, Copy)]
 pub struct Known {
     pub number: u8,
     pub place: usize,

@@ -1,1 +1,2 @@
 // Laws of Bool, of numbers and of lists that several crates need. This crate has no code.
+#![tactic(auto)]

@@ -1,4 +1,6 @@
 // The listing of facts, written into a buffer that the caller lends. What does not fit is left out; 16,384 bytes hold every listing.
+#![tactic(auto)]
+
 ghost use Rattle.std.specs.Prelude.{◌≡◌, ℕ, ◌≤◌, eqb, get_or, length};
 ghost use Rattle.lists.specs.Ranges.{count_from};
 ghost use Rattle.writing.specs.Text.{Wrote};

@@ -1,4 +1,6 @@
 // The lines of a listing, each written into a buffer that the caller lends. What does not fit is left out.
+#![tactic(auto)]
+
 ghost use Rattle.std.specs.Prelude.{◌≡◌, ℕ, ◌-◌};
 ghost use Rattle.writing.specs.Text.{Wrote};
 ghost use Rattle.listing_lines.specs.Lines.{flag_text, id_text, name_text, header_line, column_line, define_line, member_text, nonnull_line, kind_word};

@@ -1,4 +1,6 @@
 // Reading a lent slice at any place: past its end stands 0.
+#![tactic(auto)]
+
 ghost use Rattle.std.specs.Prelude.{◌≡◌, get_or};
 
 pub fn at8(s: &[u8], i: usize) -> u8

@@ -1,5 +1,7 @@
 // The rules of facts, and the facts of two inputs merged, after the Rust's `merge_inputs`. Facts go in by value and come back; what is passed in from
 // outside is tested first.
+#![tactic(auto)]
+
 ghost use Rattle.std.specs.Prelude.{◌≡◌, cond};
 ghost use Rattle.lists.specs.Ranges.{all_from};
 ghost use Rattle.constraint_spec.specs.Sets.{done, merge_from};
@@ -12,14 +14,14 @@ use constraint_spec::{Applied, ConstraintSet};
 use plan::{Column, Plan};
 
 // The identity of a column, if it has one.
-#[derive(Drop)]
+#[derive(Clone, Copy)]
 pub enum ColumnValue {
     At(usize),
     Nothing,
 }
 
 // What of facts stands by column.
-#[derive(Drop)]
+#[derive(Clone, Copy)]
 struct ByColumn {
     lineage: [u8; 64],
     definitions: [u16; 64],

@@ -1,4 +1,6 @@
 // A plan as a value: columns, expressions, operators and list items in four tables of fixed size, each filled from its start.
+#![tactic(auto)]
+
 ghost use Rattle.std.specs.Prelude.{◌≡◌, ◌<◌};
 ghost use Rattle.plan.specs.Plans.{empty_columns, empty_expressions, empty_operators, empty_items, empty_plan, column_pushed, expression_pushed};
 ghost use Rattle.plan.specs.Plans.{operator_pushed, item_pushed};
@@ -8,17 +10,17 @@ ghost use Rattle.plan.specs.Records.{expr_record_of, operator_record_of, item_re
 use plan_kinds::Record;
 
 // Handles: three kinds, each a number.
-#[derive(Drop)]
+#[derive(Clone, Copy)]
 pub struct Column(pub u16);
 
-#[derive(Drop)]
+#[derive(Clone, Copy)]
 pub struct Expr(pub u16);
 
-#[derive(Drop)]
+#[derive(Clone, Copy)]
 pub struct Operator(pub u16);
 
 // A column's name and the code of its kind.
-#[derive(Drop)]
+#[derive(Clone, Copy)]
 pub struct Columns {
     pub count: u16,
     pub name: [u16; 64],
@@ -26,7 +28,7 @@ pub struct Columns {
 }
 
 // An expression's record, and where its list starts in the item table.
-#[derive(Drop)]
+#[derive(Clone, Copy)]
 pub struct Expressions {
     pub count: u16,
     pub kind: [u8; 1024],
@@ -38,7 +40,7 @@ pub struct Expressions {
 }
 
 // An operator's record, and where its lists start in the item table.
-#[derive(Drop)]
+#[derive(Clone, Copy)]
 pub struct Operators {
     pub count: u16,
     pub kind: [u8; 128],
@@ -51,14 +53,14 @@ pub struct Operators {
 }
 
 // A list item's record.
-#[derive(Drop)]
+#[derive(Clone, Copy)]
 pub struct Items {
     pub count: u16,
     pub a: [u16; 2048],
     pub b: [u16; 2048],
 }
 
-#[derive(Drop)]
+#[derive(Clone, Copy)]
 pub struct Plan {
     pub columns: Columns,
     pub expressions: Expressions,
@@ -67,13 +69,13 @@ pub struct Plan {
 }
 
 // A plan with one entry more, and where it stands; or the plan as it was, where there is no room.
-#[derive(Drop)]
+#[derive(Clone, Copy)]
 pub struct Appended {
     pub plan: Plan,
     pub added: Added,
 }
 
-#[derive(Drop)]
+#[derive(Clone, Copy)]
 pub enum Added {
     At(u16),
     Room,

@@ -1,5 +1,7 @@
 // Appending to the tables of a plan, whose arrays are lent one by one with their counts: what recurses over a plan, or appends much, does not hand the
 // tables on by value. Each answers the handle of what it appended, or that there is no room, and then nothing is changed.
+#![tactic(auto)]
+
 ghost use Rattle.std.specs.Prelude.{◌≡◌, set};
 ghost use Rattle.plan_data.specs.Nodes.{record_of_expr, record_of_operator};
 ghost use Rattle.plan_append.specs.Appending.{exprs_of, items_of, operators_of, grown_to, expr_added, item_added, operator_added};
@@ -9,7 +11,7 @@ use plan_data::{ExprData, OperatorData};
 use plan_kinds::Record;
 
 // The handle of what was appended, or no room; and how many entries the table has then.
-#[derive(Drop)]
+#[derive(Clone, Copy)]
 pub struct Grown {
     pub added: Added,
     pub count: u16,

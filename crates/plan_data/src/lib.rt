@@ -1,4 +1,6 @@
 // The nodes of a plan read out of their records, as enums to match on, and back.
+#![tactic(auto)]
+
 ghost use Rattle.std.specs.Prelude.{◌≡◌, ◌<◌, ◌≤◌};
 ghost use Rattle.plan_data.specs.Codes.{unary_op_code, unary_op_of, nary_op_code, nary_op_of, join_type_code, join_type_of, kind_of_join, marker_of};
 ghost use Rattle.plan_data.specs.declared.OperatorData.TheVariants.{Aggregation, Join};
@@ -9,7 +11,7 @@ use plan::{Column, Expr, Operator};
 use plan_kinds::Record;
 use scalar::ScalarValue;
 
-#[derive(Drop)]
+#[derive(Clone, Copy)]
 pub enum UnaryOp {
     Not,
     IsNull,
@@ -17,13 +19,13 @@ pub enum UnaryOp {
     Negate,
 }
 
-#[derive(Drop)]
+#[derive(Clone, Copy)]
 pub enum NaryOp {
     And,
     Or,
 }
 
-#[derive(Drop)]
+#[derive(Clone, Copy)]
 pub enum JoinType {
     Inner,
     LeftSemi,
@@ -36,13 +38,13 @@ pub enum JoinType {
 }
 
 // A run of entries in the item table: what a node's list is.
-#[derive(Drop)]
+#[derive(Clone, Copy)]
 pub struct Run {
     pub start: usize,
     pub count: usize,
 }
 
-#[derive(Drop)]
+#[derive(Clone, Copy)]
 pub enum ExprData {
     Literal(ScalarValue),
     ColumnRef(Column),
@@ -61,7 +63,7 @@ pub enum ExprData {
     },
 }
 
-#[derive(Drop)]
+#[derive(Clone, Copy)]
 pub enum OperatorData {
     Scan {
         table: u16,

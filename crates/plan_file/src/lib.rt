@@ -1,4 +1,6 @@
 // Reading a plan file: every byte string gets a plan, or a refusal with its place.
+#![tactic(auto)]
+
 ghost use Rattle.std.specs.Prelude.{◌≡◌, ◌+◌, ◌≤◌, ◌<◌, true, false, length};
 ghost use Rattle.plan_file.specs.Bytes.{word2, word4, word8, code_from, word_from, bits_from, record_from};
 ghost use Rattle.plan_file.specs.Answers.{is_whole, is_added};
@@ -9,7 +11,7 @@ use plan::{Added, Appended, Plan};
 use plan_kinds::{COLUMNS, EXPRESSIONS, ITEMS, OPERATORS, Record, Row};
 
 // How a reading ended: the number is the offset where the faulty record starts.
-#[derive(Drop)]
+#[derive(Clone, Copy)]
 pub enum Reading {
     Whole,
     Short(usize),
@@ -20,14 +22,14 @@ pub enum Reading {
 }
 
 // The plan, which is empty at a refusal.
-#[derive(Drop)]
+#[derive(Clone, Copy)]
 pub struct Answer {
     pub plan: Plan,
     pub reading: Reading,
 }
 
 // The items that are still to come: `left` of the kind `item`, then `more` of the kind 0x40; and whether they are a Scan's.
-#[derive(Drop)]
+#[derive(Clone, Copy)]
 pub struct Wanted {
     pub item: u8,
     pub left: u16,
@@ -38,7 +40,7 @@ pub struct Wanted {
 // What a reading knows between two records; public only for the theorems of the crates above. `scans` has for each column the Scan operator that has
 // it and one, 0 for none: with it
 // the test for a second Scan takes one look.
-#[derive(Drop)]
+#[derive(Clone, Copy)]
 pub struct State {
     pub at: usize,
     pub reading: Reading,

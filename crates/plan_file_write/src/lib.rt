@@ -1,5 +1,7 @@
 // Writing a plan as a plan file. Each function stores bytes into `out` from the place `at` on and answers the place after them; what does not
 // fit is left out.
+#![tactic(auto)]
+
 ghost use Rattle.std.specs.Prelude.{◌≡◌, []};
 ghost use Rattle.writing.specs.Text.{Wrote, lines};
 ghost use Rattle.plan_file_laws.specs.ListItems.{item_kind};

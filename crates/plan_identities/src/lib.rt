@@ -1,4 +1,6 @@
 // The identities of a plan's values, numbered so that the smaller number is the smaller identity: 0 to 63 are Base, 64 to 127 Derived.
+#![tactic(auto)]
+
 ghost use Rattle.std.specs.Prelude.{◌≡◌, ℕ, ◌≤◌, eqb, get_or};
 ghost use Rattle.plan_rules.specs.Rules.{scans_of};
 ghost use Rattle.plan_identities.specs.Places.{first_from, filled};
@@ -8,14 +10,14 @@ use plan::{Column, Plan};
 
 // Where a value comes from: a scanned column, or a column that the plan makes. A column belongs to at most one Scan, so that it says
 // the table too.
-#[derive(Drop)]
+#[derive(Clone, Copy)]
 pub enum ValueId {
     Base(Column),
     Derived(Column),
 }
 
 // The number of each Base identity by its column, and how many columns there are.
-#[derive(Drop)]
+#[derive(Clone, Copy)]
 pub struct Identities {
     pub base: [u8; 64],
     pub columns: usize,

@@ -1,10 +1,12 @@
 // The kinds of record in a plan file: the rules' table, a line a kind, and what a record has to keep to.
+#![tactic(auto)]
+
 ghost use Rattle.std.specs.Prelude.{◌≡◌, ◌≤◌};
 ghost use Rattle.plan_kinds.specs.Rows.{row_of, plain_row, coded_row, named, literal};
 ghost use Rattle.plan_kinds.specs.Records.{code_ok, bits_ok, handle_ok, handles_ok, count_of, more_of};
 
 // What the bytes of one record say.
-#[derive(Drop)]
+#[derive(Clone, Copy)]
 pub struct Record {
     pub kind: u8,
     pub code: u8,
@@ -17,7 +19,7 @@ pub struct Record {
 
 // What a kind says of its record: the sort of the record, its length with the kind's byte, where its code stands and between what it lies, where
 // its numbers begin and of what sort each is, the bytes of a literal, and the kind of the items that follow.
-#[derive(Drop)]
+#[derive(Clone, Copy)]
 pub struct Row {
     pub sort: u8,
     pub length: u8,

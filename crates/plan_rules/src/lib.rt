@@ -1,4 +1,6 @@
 // Whether a plan keeps the rules. What is passed in from outside is tested here once; the reader's plans always pass.
+#![tactic(auto)]
+
 ghost use Rattle.std.specs.Prelude.{◌≡◌, ◌&&◌, ℕ, ◌+◌, ◌≤◌, leb, eqb, get_or};
 ghost use Rattle.lists.specs.Ranges.{all_from, any_from, count_from};
 ghost use Rattle.plan_rules.specs.Rules.{record_ok, item_ok, lists_ok, column_ok_of, expr_ok_of, operator_ok_of, scans_of, once_of, counts_within, plan_ok};

@@ -1,5 +1,7 @@
 // The answers of reading, deriving, applying, simplifying and evaluating in the numbers of the rules: the number of the refusal, 0 for none, and the number
 // that goes with it.
+#![tactic(auto)]
+
 ghost use Rattle.std.specs.Prelude.{◌≡◌};
 ghost use Rattle.plan_file.specs.Answers as Files;
 ghost use Rattle.rows_spec.specs.Evaluate as Evaluating;

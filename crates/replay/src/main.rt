@@ -1,10 +1,12 @@
 // Asks the boundary questions that come one after the other out of standard input, and writes each reply in hexadecimal, a line each. A question
 // is a byte for the operation (0 read, 1 derive, 2 facts, 3 apply, 4 simplify, 5 evaluate), the length of its input, four bytes, and the input:
 // numbers of two bytes, and the plan file last. Numbers have their high byte first.
+#![tactic(auto)]
+
 ghost use Rattle.std.specs.Prelude.{◌<◌};
 
 // A row, three numbers for each of its cells.
-#[derive(Drop)]
+#[derive(Clone, Copy)]
 struct Row {
     case: [u8; 64],
     code: [u8; 64],
@@ -12,7 +14,7 @@ struct Row {
 }
 
 // A row, and where the records that it was read from ended.
-#[derive(Drop)]
+#[derive(Clone, Copy)]
 struct Read {
     row: Row,
     at: usize,

@@ -1,4 +1,6 @@
 // Rows and truth: the value of an expression on a row, by SQL's three truth values.
+#![tactic(auto)]
+
 ghost use Rattle.std.specs.Prelude.{◌≡◌, false, ◌<◌, get_or, take, drop};
 ghost use Rattle.lists.specs.Ranges.{all_from};
 ghost use Rattle.truth.specs.Truth.{every};
@@ -51,7 +53,7 @@ pub fn compare(op: BinaryOp, v: ScalarValue, w: ScalarValue) -> u8
         }
         return known(a & b);
     }
-    if scalar::same_kind_lem(scalar::kind_of(v), scalar::kind_of(w)) {
+    if scalar::same_kind(scalar::kind_of(v), scalar::kind_of(w)) {
         return known(compared(op, v, w));
     }
     if ordinary {
@@ -248,7 +250,7 @@ fn boolean_at<'a>(
         start.now) i }
 {
     let node = plan_data::node_at(kind, code, a, b, bits, start, i);
-    scalar::same_kind_lem(kind_of_node(columns, node), Kind::Boolean)
+    scalar::same_kind(kind_of_node(columns, node), Kind::Boolean)
 }
 
 // A flag at any place: past the end stands false.
@@ -410,7 +412,7 @@ fn cell_ok(k: u8, case: u8, code: u8, bits: u64) -> bool
         bits,
     };
     let v = scalar::scalar_of(case, code, bits);
-    let fits = scalar::is_null(v) | scalar::same_kind_lem(scalar::kind_of(v), scalar::kind_of_code(k));
+    let fits = scalar::is_null(v) | scalar::same_kind(scalar::kind_of(v), scalar::kind_of_code(k));
     let listed = (0x10 <= case)
         & ((case <= 0x15) & (plan_kinds::code_ok(row, x) & plan_kinds::bits_ok(row, x)));
     listed & fits

@@ -1,1 +1,2 @@
 // What holds of every row and every plan: the theorems of rows and truth. This crate has no code.
+#![tactic(auto)]

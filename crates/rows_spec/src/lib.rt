@@ -1,9 +1,11 @@
 // Rows and truth: the value of an expression on a row, by SQL's three truth values. Here stand the types alone: what evaluating answers is defined in
 // specs/, and what holds of it is proved in proofs/.
+#![tactic(auto)]
+
 use scalar::ScalarValue;
 
 // A value for every column, as the three numbers of a literal's record.
-#[derive(Drop)]
+#[derive(Clone, Copy)]
 pub struct Row {
     pub case: [u8; 64],
     pub code: [u8; 64],
@@ -11,7 +13,7 @@ pub struct Row {
 }
 
 // What evaluating answers: a value, or why there is none.
-#[derive(Drop)]
+#[derive(Clone, Copy)]
 pub enum Evaluation {
     Value(ScalarValue),
     NoSuch,

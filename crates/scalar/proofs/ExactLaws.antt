@@ -121,6 +121,10 @@ module _ (l : ℕ) where
       (crossed (n * up d) (down d) (down e) v (2 ^ l) (units_val l n d k) ∙ ap (λ (x : ℕ). v * x) (mul_comm (down d) (down e)))
       ∙ below_scale s u t v g (mul-pos (down_pos e) (down_pos d))
       ∙ below-signed s u t v
+  lt_at nan y p q h k = elim p [ ]
+  lt_at (inf _) y p q h k = elim p [ ]
+  lt_at (fin s m e) nan p q h k = elim q [ ]
+  lt_at (fin s m e) (inf _) p q h k = elim q [ ]
 
   pub eq-at : (x y : Float) → T (finite x) → T (finite y) → Reaches l x → Reaches l y → eq x y ≡ eq_z (exact_at l x) (exact_at l y)
   unfolding eq exact_at
@@ -134,6 +138,10 @@ module _ (l : ℕ) where
       (crossed (n * up d) (down d) (down e) v (2 ^ l) (units_val l n d k) ∙ ap (λ (x : ℕ). v * x) (mul_comm (down d) (down e)))
       ∙ level_scale s u t v g (mul-pos (down_pos e) (down_pos d))
       ∙ level-signed s u t v
+  eq-at nan y p q h k = elim p [ ]
+  eq-at (inf _) y p q h k = elim p [ ]
+  eq-at (fin s m e) nan p q h k = elim q [ ]
+  eq-at (fin s m e) (inf _) p q h k = elim q [ ]
 
 module _ (f : Format) where
   -- `<` and `==` on finite floats of a format are order and equality of the exact values
@@ -152,6 +160,8 @@ module _ (f : Format) where
       (units_val (low f) m e (fits-down f t m e h)
       ∙ ap (λ (x : ℕ). x * 2 ^ low f) (sym (mul-one (m * up e)) ∙ v.1)
       ∙ mul_right_comm n (down e) (2 ^ low f)))
+  exact_val nan s n h v = elim v [ ]
+  exact_val (inf _) s n h v = elim v [ ]
 
   pub exact_of_int : (z : ℤ) → T (in_float f z) → exact_in f (of_int f z) ≡ z *ℤ pos (2 ^ low f)
   unfolding of_int in_float
@@ -176,6 +186,8 @@ eq_z_scale (negsuc a) (negsuc b) p h = sym (level-signed true (suc a * p) true (
 -- a whole number as a float is finite
 whole-finite : (x : Float) (s : Bool) (n : ℕ) → HasValue x s n 1 → T (finite x)
 whole-finite (fin t m e) s n v = tt
+whole-finite nan s n v = elim v [ ]
+whole-finite (inf _) s n v = elim v [ ]
 
 pub of_int_finite : (f : Format) (z : ℤ) → T (in_float f z) → T (finite (of_int f z))
 unfolding of_int in_float

@@ -114,16 +114,31 @@ lt-off : (x y z : Float) → T (finite x) → T (finite y) → T (not (finite z)
 unfolding lt
 lt-off (fin s m e) (fin t n d) nan p q h = refl
 lt-off (fin s m e) (fin t n d) (inf u) p q h = refl
+lt-off nan y z p q h = elim p [ ]
+lt-off (inf _) y z p q h = elim p [ ]
+lt-off (fin s m e) nan z p q h = elim q [ ]
+lt-off (fin s m e) (inf _) z p q h = elim q [ ]
+lt-off (fin s m e) (fin t n d) (fin _ _ _) p q h = elim h [ ]
 
 gt_off : (x y z : Float) → T (finite x) → T (finite y) → T (not (finite z)) → lt z x ≡ lt z y
 unfolding lt
 gt_off (fin s m e) (fin t n d) nan p q h = refl
 gt_off (fin s m e) (fin t n d) (inf u) p q h = refl
+gt_off nan y z p q h = elim p [ ]
+gt_off (inf _) y z p q h = elim p [ ]
+gt_off (fin s m e) nan z p q h = elim q [ ]
+gt_off (fin s m e) (inf _) z p q h = elim q [ ]
+gt_off (fin s m e) (fin t n d) (fin _ _ _) p q h = elim h [ ]
 
 eq-off : (x y z : Float) → T (finite x) → T (finite y) → T (not (finite z)) → eq x z ≡ eq y z
 unfolding eq
 eq-off (fin s m e) (fin t n d) nan p q h = refl
 eq-off (fin s m e) (fin t n d) (inf u) p q h = refl
+eq-off nan y z p q h = elim p [ ]
+eq-off (inf _) y z p q h = elim p [ ]
+eq-off (fin s m e) nan z p q h = elim q [ ]
+eq-off (fin s m e) (inf _) z p q h = elim q [ ]
+eq-off (fin s m e) (fin t n d) (fin _ _ _) p q h = elim h [ ]
 
 -- floats that are `==` compare alike with every float
 pub lt-left : (x y z : Float) → eq x y ≡ true → lt x z ≡ lt y z

@@ -188,6 +188,8 @@ finite-alike = alike finite (λ x y p q e. is_true (finite x) p ∙ sym (is_true
 finite_no_nan : (x : Float) → T (finite x) → is_nan x ≡ false
 unfolding is_nan
 finite_no_nan (fin s m e) t = refl
+finite_no_nan nan t = elim t [ ]
+finite_no_nan (inf _) t = elim t [ ]
 
 odd_no_nan : (d : ℕ) (s : Bool) (q k l : ℕ) → is_nan (odd d s q k l) ≡ false
 unfolding odd is_nan

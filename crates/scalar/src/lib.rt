@@ -1,4 +1,6 @@
 // Scalars: their kinds, equality and order, the numbers that they bound by, and a scalar as three numbers.
+#![tactic(auto)]
+
 ghost use Rattle.std.specs.Prelude.{◌≡◌, nat_abs};
 ghost use Rattle.std.specs.Float.Ieee as Ieee;
 ghost use Rattle.std.specs.Float.{binary64};
@@ -9,7 +11,7 @@ ghost use Rattle.scalar.specs.Kinds.{kind_code, kind_of_code, kind_of, is_null, 
 ghost use Rattle.scalar.specs.Scalars.{same_scalar, less_scalar, scalar_to_f64};
 ghost use Rattle.scalar.specs.Coded.{case_code, code_of, bits_of, low_signed, scalar_of};
 
-#[derive(Drop)]
+#[derive(Clone, Copy)]
 pub enum Kind {
     Boolean,
     Int32,
@@ -18,7 +20,7 @@ pub enum Kind {
     Date32,
 }
 
-#[derive(Drop)]
+#[derive(Clone, Copy)]
 pub enum ScalarValue {
     Null(Kind),
     Boolean(bool),
@@ -28,7 +30,7 @@ pub enum ScalarValue {
     Date32(i32),
 }
 
-#[derive(Drop)]
+#[derive(Clone, Copy)]
 pub enum Number {
     Of(f64),
     Nothing,
@@ -65,7 +67,7 @@ pub fn kind_of_code(code: u8) -> Kind
     Kind::Boolean
 }
 
-pub fn same_kind_lem(a: Kind, b: Kind) -> bool
+pub fn same_kind(a: Kind, b: Kind) -> bool
     ensures { result ≡ same_kind a b }
 {
     kind_code(a) == kind_code(b)

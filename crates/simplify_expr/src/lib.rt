@@ -1,4 +1,6 @@
 // Simplifying one expression, after the Rust's ExprSimplify. What recurses over expressions has the tables' arrays lent to it one by one, never a table.
+#![tactic(auto)]
+
 ghost use Rattle.std.specs.Prelude.{◌≡◌, Bool, true, false, List, ℕ, ◌+◌, ◌<◌};
 ghost use Rattle.plan_append.specs.Appending.{items_of};
 ghost use Rattle.simplify_spec.specs.Shapes.{nary_op_for};
@@ -14,7 +16,7 @@ use scalar::ScalarValue;
 use simplify_spec::{Shape, Simplified, Tables};
 
 // How far it came: a handle, the counts of expressions and items, the Rust's `changed`, and whether there was room.
-#[derive(Drop)]
+#[derive(Clone, Copy)]
 pub struct Done {
     pub at: u16,
     pub exprs: u16,
@@ -24,7 +26,7 @@ pub struct Done {
 }
 
 // The operands of an And or Or that are done: how many are kept, the last of those, whether one was dropped or changed, whether one decides.
-#[derive(Drop)]
+#[derive(Clone, Copy)]
 pub struct Tally {
     pub kept: u16,
     pub last: u16,
@@ -33,7 +35,7 @@ pub struct Tally {
 }
 
 // What is left of the operands of an And (all is true) or Or: how many from which item on, and those that are done.
-#[derive(Drop)]
+#[derive(Clone, Copy)]
 pub struct Walk {
     pub all: bool,
     pub at: usize,
@@ -42,7 +44,7 @@ pub struct Walk {
 }
 
 // How far it came, and the place of the list whose items are written on the way back.
-#[derive(Drop)]
+#[derive(Clone, Copy)]
 pub struct Ran {
     pub done: Done,
     pub base: u16,

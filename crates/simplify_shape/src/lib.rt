@@ -1,4 +1,6 @@
 // What an expression is to the simplifier: the arms of the Rust's `match`, read out of the arrays of the table of expressions.
+#![tactic(auto)]
+
 ghost use Rattle.std.specs.Prelude.{◌≡◌};
 ghost use Rattle.plan_data.specs.Codes.{unary_op_of, nary_op_of};
 ghost use Rattle.plan_data.specs.Nodes.{expr_data, node_of};

@@ -1,10 +1,12 @@
 // Simplifying one operator's expressions, after the Rust's ExprSimplify. Here stand the types alone: what simplifying answers is defined in
 // specs/, and what it keeps is proved in proofs/.
+#![tactic(auto)]
+
 use comparison::BinaryOp;
 use plan::{Expr, Expressions, Items, Operator, Plan};
 
 // What an expression is to the simplifier: a literal Boolean, what it enters, or anything else. And and Or have a run of items.
-#[derive(Drop)]
+#[derive(Clone, Copy)]
 pub enum Shape {
     Boolean(bool),
     Not(Expr),
@@ -26,7 +28,7 @@ pub enum Shape {
 
 // Where an operator has the expressions that are simplified: it has none, it has one, they are the second numbers of a run of items, or the first
 // numbers of a run, after which other items follow.
-#[derive(Drop)]
+#[derive(Clone, Copy)]
 pub enum Held {
     Nothing,
     One(Expr),
@@ -35,7 +37,7 @@ pub enum Held {
 }
 
 // The tables that are appended to, and whether anything changed.
-#[derive(Drop)]
+#[derive(Clone, Copy)]
 pub struct Tables {
     pub exprs: Expressions,
     pub items: Items,
@@ -43,7 +45,7 @@ pub struct Tables {
 }
 
 // One expression simplified: the tables, its handle, and whether there was room.
-#[derive(Drop)]
+#[derive(Clone, Copy)]
 pub struct Simplified {
     pub st: Tables,
     pub at: u16,
@@ -51,7 +53,7 @@ pub struct Simplified {
 }
 
 // Expressions simplified one after the other: the tables, whether there was room, and the handles.
-#[derive(Drop)]
+#[derive(Clone, Copy)]
 pub struct Each {
     pub st: Tables,
     pub ok: bool,
@@ -59,7 +61,7 @@ pub struct Each {
 }
 
 // The answer: the operator stays, or another one stands for it; or a refusal.
-#[derive(Drop)]
+#[derive(Clone, Copy)]
 pub enum Rewrite {
     Keep,
     Replace(Operator),
@@ -68,7 +70,7 @@ pub enum Rewrite {
 }
 
 // The plan with what was appended, or the plan as it was.
-#[derive(Drop)]
+#[derive(Clone, Copy)]
 pub struct Rewritten {
     pub plan: Plan,
     pub rewrite: Rewrite,

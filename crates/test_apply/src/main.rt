@@ -3,6 +3,8 @@
 // left and the right. Steps: 0 a new plan and new facts, 1 a column, 2 an expression, 3 a list item, 4 a times an And of the last expression and b,
 // 5 the left lineage of a column, 6 apply expression a to the left, 7 list the left, 8 exchange left and right, 9 merge the right into the left,
 // with its constraints where the code is 1. An application and a merge write the refusal's number, 0 for none.
+#![tactic(auto)]
+
 use apply_spec::{FactsAnswer, LogicalFacts};
 use constraint_spec::{ConstraintSet, Entry, Holder};
 use plan::{Expr, Plan};
@@ -12,7 +14,7 @@ use value_range::Bound;
 
 const STEPS: u32 = 4000000;
 
-#[derive(Drop)]
+#[derive(Clone, Copy)]
 struct State {
     plan: Plan,
     left: LogicalFacts,

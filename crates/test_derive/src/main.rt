@@ -3,6 +3,8 @@
 // A line is the refusal's number, the operator that refused and the flag; then runs of numbers, each behind a letter: c a column with its
 // identity, d a column with its definition, k a member with its representative, n a non-null identity, l an identity with the three numbers of
 // its literal, r an identity with its bounds (present, inclusive, bits, twice), e a residual.
+#![tactic(auto)]
+
 use apply_spec::LogicalFacts;
 use constraint_spec::{ConstraintSet, Entry, Holder};
 use derive_spec::DeriveAnswer;

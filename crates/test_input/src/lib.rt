@@ -1,5 +1,7 @@
 // What the test programs read: numbers with their high byte first, out of bytes after which stand zeros; and the steps that make a plan. A step is
 // 20 bytes: what to do, a kind, a code, a column, then 16-bit numbers a, b and the start of a list, two bytes of nothing, and 64 bits.
+#![tactic(auto)]
+
 ghost use Rattle.std.specs.Prelude.{◌<◌};
 
 use plan::Plan;

@@ -1,4 +1,6 @@
 // Writes two listings and a refusal: the facts of the worked example, and facts with every kind of line.
+#![tactic(auto)]
+
 use apply_spec::LogicalFacts;
 use constraint_spec::{ConstraintSet, Entry, Holder};
 use plan_identities::Identities;

@@ -1,5 +1,7 @@
 // Reads many plan files, one after the other, out of standard input, and writes what reading says of each: the refusal, its place, and the
 // tables of the plan. Before each file stands its length, four bytes, high byte first.
+#![tactic(auto)]
+
 use plan::{Columns, Expressions, Items, Operators, Plan};
 use plan_file::Reading;
 use plan_kinds::Record;

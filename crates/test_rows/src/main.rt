@@ -2,12 +2,14 @@
 // a, b and the start of a list, two bytes of nothing, and 64 bits; numbers have their high byte first. Steps: 0 a new plan and a row of NULLs,
 // 1 a column, 2 an expression, 3 a list item, 4 the row's value of a column, 5 evaluate expression a. Each evaluation writes a line:
 // the refusal's number, or T, F or U for TRUE, FALSE and UNKNOWN.
+#![tactic(auto)]
+
 use plan::{Expr, Plan};
 use rows_spec::{Evaluation, Row};
 
 const STEPS: u32 = 4000000;
 
-#[derive(Drop)]
+#[derive(Clone, Copy)]
 struct State {
     plan: Plan,
     row: Row,

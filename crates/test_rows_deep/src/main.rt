@@ -1,5 +1,7 @@
 // The deepest expressions that a plan can hold, evaluated: 1,023 Nots one in the other, 512 Ands of two operands and 1,023 Ands of one, one in the
 // other, and an And of 2,048 operands. Run it with a stack of 2 MiB.
+#![tactic(auto)]
+
 use plan::{Expr, Plan};
 use plan_kinds::Record;
 use rows_spec::{Evaluation, Row};

@@ -1,6 +1,8 @@
 // Simplifies operators of many plan files, one after the other, out of standard input, and writes what is answered for each, a line a file: keep, the
 // operator that replaces it, or the refusal, and the plan handed back in canonical bytes. Before each file stand its length, four bytes, and the
 // operator, two bytes, high byte first.
+#![tactic(auto)]
+
 ghost use Rattle.std.specs.Prelude.{◌≤◌};
 
 use plan::{Columns, Expressions, Items, Operator, Operators, Plan};

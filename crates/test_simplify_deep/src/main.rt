@@ -1,5 +1,7 @@
 // The deepest expressions that a plan can hold, simplified: Nots one in the other, 500 and 1,023 Ands of two operands one in the other, and an And of
 // 2,048 operands. Run it with a stack of 2 MiB.
+#![tactic(auto)]
+
 use plan::{Operator, Plan};
 use plan_kinds::Record;
 use simplify_spec::Rewrite;

@@ -1,4 +1,6 @@
 // TRUE, UNKNOWN and FALSE, and what And, Or and Not make of them. A code above 2 is read as UNKNOWN.
+#![tactic(auto)]
+
 ghost use Rattle.std.specs.Prelude.{◌≡◌, ◌<◌};
 ghost use Rattle.truth.specs.Truth.{code_read, and_t, or_t, not_t};
 

@@ -1,30 +1,32 @@
 // Which values are known to be the same, after the Rust's map of parents: an array over the identities, each its own parent at first.
+#![tactic(auto)]
+
 ghost use Rattle.std.specs.Prelude.{◌≡◌, cond, ◌&&◌, ltb};
 ghost use Rattle.value_classes.specs.Parents.{parent_in};
 ghost use Rattle.value_classes.specs.Classes.{classes_ok, empty_classes, canonical_of, same_class, roots_joined, union_of};
 ghost use Rattle.value_classes.specs.Listed.{roots_of, members_of};
 
-#[derive(Drop)]
+#[derive(Clone, Copy)]
 pub struct ValueEquivalenceClasses {
     pub parents: [u8; 128],
 }
 
 // The classes after a union, and whether two became one.
-#[derive(Drop)]
+#[derive(Clone, Copy)]
 pub struct United {
     pub classes: ValueEquivalenceClasses,
     pub joined: bool,
 }
 
 // Each class as a chain: the first member by representative, then the next after each member; 128 where there is none.
-#[derive(Drop)]
+#[derive(Clone, Copy)]
 pub struct Members {
     pub first: [u8; 128],
     pub next: [u8; 128],
 }
 
 // The representative of each identity.
-#[derive(Drop)]
+#[derive(Clone, Copy)]
 pub struct Roots {
     pub of: [u8; 128],
 }

@@ -1,15 +1,17 @@
 // A value's range: two ends, each there or not, at its value or not.
+#![tactic(auto)]
+
 ghost use Rattle.std.specs.Prelude.{◌≡◌};
 ghost use Rattle.value_range.specs.Ranges.{no_bound, bound_at, unbounded_range, takes_lower, takes_upper, tighten_lower, tighten_upper, empty_range};
 
-#[derive(Drop)]
+#[derive(Clone, Copy)]
 pub struct Bound {
     pub value: f64,
     pub present: bool,
     pub inclusive: bool,
 }
 
-#[derive(Drop)]
+#[derive(Clone, Copy)]
 pub struct ValueRange {
     pub lower: Bound,
     pub upper: Bound,

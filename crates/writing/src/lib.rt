@@ -1,5 +1,7 @@
 // Bytes written one after another into a buffer that the caller lends: each function takes where to write and answers where to go on.
 // What does not fit is left out.
+#![tactic(auto)]
+
 ghost use Rattle.std.specs.Prelude.{◌≡◌, [], ◌∷◌, ◌<◌};
 ghost use Rattle.io.specs.Digits.{last_digits};
 ghost use Rattle.io.specs.Digits.{hex_digit_ascii as Digits·glyph};
