@@ -15,12 +15,11 @@ returns-then-i-parent c =
     sym (c.loop-i.invariant.1 ∙ all-fails (low_test c.args.self.parents) _ 128 c.loop-i-test.true (lt-leb _ _ c.if-i-parent.true))
 
 pub loop-i-preserved : goal.loop-i-preserved
-loop-i-preserved c =
-    (
-      omega arith,
-      c.loop-i.invariant.1 ∙ all-passes (low_test c.args.self.parents) _ 128 c.loop-i-test.true
-          (le-leb _ _ c.if-i-parent.false),
-    )
+loop-i-preserved c = (
+  omega arith,
+  c.loop-i.invariant.1 ∙ all-passes (low_test c.args.self.parents) _ 128 c.loop-i-test.true
+      (le-leb _ _ c.if-i-parent.false),
+)
 
 pub returns : goal.returns
 returns c = sym (c.loop-i.invariant.1 ∙ all_done (low_test c.args.self.parents) _ 128 (omega arith))

@@ -25,16 +25,17 @@ loop-i-preserved c =
     let i = c.loop-i.i in
     let l = c.loop-i.of in
     elim c.if-ok-parent.branch [
-      then-ok-parent w ↦ let t = w.if-ok-parent.true in let e = w.of-is in let x = root-known p l 128 i _ (search rules)
-    (sym c.parents_ok-ok.ensures ∙ and_left c.parents_ok-ok.result _ t) refl
-    (ltb-true _ _ (and_right c.parents_ok-ok.result _ t)) (omega arith) v.2
-    in (omega arith, ap length e ∙ length-set l i _ ∙ v.1, ap (take (i + 1)) e ∙ take-each-more (root_of p) l i _ (omega arith) x v.2)
+      | then-ok-parent w ↦ let t = w.if-ok-parent.true in let e = w.of-is in let x = root-known p l 128 i _ (search rules)
+          (sym c.parents_ok-ok.ensures ∙ and_left c.parents_ok-ok.result _ t) refl
+          (ltb-true _ _ (and_right c.parents_ok-ok.result _ t)) (omega arith) v.2
+          in (omega arith, ap length e ∙ length-set l i _ ∙ v.1, ap (take (i + 1)) e ∙ take-each-more (root_of p) l i _ (omega arith) x v.2)
       | else-ok-parent w ↦ let e = w.of-is in (
-      omega arith,
-      ap length e ∙ length-set l i _ ∙ v.1,
-      ap (take (i + 1)) e ∙ take-each-more (root_of p) l i _ (omega arith)
-          w.canonical.ensures v.2,
-    ) ]
+        omega arith,
+        ap length e ∙ length-set l i _ ∙ v.1,
+        ap (take (i + 1)) e ∙ take-each-more (root_of p) l i _ (omega arith)
+            w.canonical.ensures v.2,
+      )
+    ]
 
 pub returns : goal.returns
 unfolding roots_of
