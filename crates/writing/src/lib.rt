@@ -4,7 +4,7 @@
 
 ghost use Rattle.std.specs.Prelude.{◌≡◌, [], ◌∷◌, ◌<◌};
 ghost use Rattle.io.specs.Digits.{last_digits};
-ghost use Rattle.io.specs.Digits.{hex_digit_ascii as Digits·glyph};
+ghost use Rattle.io.specs.Digits.{hex_digit_ascii};
 ghost use Rattle.writing.specs.Text.{Wrote, decimal_of, signed_of};
 
 // One byte.
@@ -46,7 +46,7 @@ pub fn decimal(out: &mut [u8], at: usize, n: u64) -> usize
 
 fn glyph(d: u64) -> u8
     requires { d < 16 }
-    ensures { result ≡ Digits·glyph d }
+    ensures { result ≡ hex_digit_ascii d }
 {
     if d < 10 { 48 + d as u8 } else { 87 + d as u8 }
 }

@@ -127,52 +127,52 @@ pub returns-in_default : goal.returns-in_default
 unfolding row_of line_of
 returns-in_default c =
     rw (
-      ne_eqb _ _ c.in_default.rest.0.0.0.0.0.0.0.0.0.0.0.0.0.0.0.0.0.0.0.0.0.0.0.0.0.0.0.0.0.1,
+      ne_eqb _ _ c.in_default.in_default-own.rest.0.0.0.0.0.0.0.0.0.0.0.0.0.0.0.0.0.0.0.0.0.0.0.0.0.0.0.0.0.1,
       ne_eqb _ _
-          c.in_default.rest.0.0.0.0.0.0.0.0.0.0.0.0.0.0.0.0.0.0.0.0.0.0.0.0.0.0.0.0.1,
+          c.in_default.in_default-own.rest.0.0.0.0.0.0.0.0.0.0.0.0.0.0.0.0.0.0.0.0.0.0.0.0.0.0.0.0.1,
       ne_eqb _ _
-          c.in_default.rest.0.0.0.0.0.0.0.0.0.0.0.0.0.0.0.0.0.0.0.0.0.0.0.0.0.0.0.1,
+          c.in_default.in_default-own.rest.0.0.0.0.0.0.0.0.0.0.0.0.0.0.0.0.0.0.0.0.0.0.0.0.0.0.0.1,
       ne_eqb _ _
-          c.in_default.rest.0.0.0.0.0.0.0.0.0.0.0.0.0.0.0.0.0.0.0.0.0.0.0.0.0.0.1,
+          c.in_default.in_default-own.rest.0.0.0.0.0.0.0.0.0.0.0.0.0.0.0.0.0.0.0.0.0.0.0.0.0.0.1,
       ne_eqb _ _
-          c.in_default.rest.0.0.0.0.0.0.0.0.0.0.0.0.0.0.0.0.0.0.0.0.0.0.0.0.0.1,
+          c.in_default.in_default-own.rest.0.0.0.0.0.0.0.0.0.0.0.0.0.0.0.0.0.0.0.0.0.0.0.0.0.1,
       ne_eqb _ _
-          c.in_default.rest.0.0.0.0.0.0.0.0.0.0.0.0.0.0.0.0.0.0.0.0.0.0.0.0.1,
+          c.in_default.in_default-own.rest.0.0.0.0.0.0.0.0.0.0.0.0.0.0.0.0.0.0.0.0.0.0.0.0.1,
       ne_eqb _ _
-          c.in_default.rest.0.0.0.0.0.0.0.0.0.0.0.0.0.0.0.0.0.0.0.0.0.0.0.1,
+          c.in_default.in_default-own.rest.0.0.0.0.0.0.0.0.0.0.0.0.0.0.0.0.0.0.0.0.0.0.0.1,
       ne_eqb _ _
-          c.in_default.rest.0.0.0.0.0.0.0.0.0.0.0.0.0.0.0.0.0.0.0.0.0.0.1,
+          c.in_default.in_default-own.rest.0.0.0.0.0.0.0.0.0.0.0.0.0.0.0.0.0.0.0.0.0.0.1,
       ne_eqb _ _
-          c.in_default.rest.0.0.0.0.0.0.0.0.0.0.0.0.0.0.0.0.0.0.0.0.0.1,
+          c.in_default.in_default-own.rest.0.0.0.0.0.0.0.0.0.0.0.0.0.0.0.0.0.0.0.0.0.1,
       ne_eqb _ _
-          c.in_default.rest.0.0.0.0.0.0.0.0.0.0.0.0.0.0.0.0.0.0.0.0.1,
+          c.in_default.in_default-own.rest.0.0.0.0.0.0.0.0.0.0.0.0.0.0.0.0.0.0.0.0.1,
       ne_eqb _ _
-          c.in_default.rest.0.0.0.0.0.0.0.0.0.0.0.0.0.0.0.0.0.0.0.1,
+          c.in_default.in_default-own.rest.0.0.0.0.0.0.0.0.0.0.0.0.0.0.0.0.0.0.0.1,
       ne_eqb _ _
-          c.in_default.rest.0.0.0.0.0.0.0.0.0.0.0.0.0.0.0.0.0.0.1,
+          c.in_default.in_default-own.rest.0.0.0.0.0.0.0.0.0.0.0.0.0.0.0.0.0.0.1,
       ne_eqb _ _
-          c.in_default.rest.0.0.0.0.0.0.0.0.0.0.0.0.0.0.0.0.0.1,
+          c.in_default.in_default-own.rest.0.0.0.0.0.0.0.0.0.0.0.0.0.0.0.0.0.1,
       ne_eqb _ _
-          c.in_default.rest.0.0.0.0.0.0.0.0.0.0.0.0.0.0.0.0.1,
+          c.in_default.in_default-own.rest.0.0.0.0.0.0.0.0.0.0.0.0.0.0.0.0.1,
       ne_eqb _ _
-          c.in_default.rest.0.0.0.0.0.0.0.0.0.0.0.0.0.0.0.1,
+          c.in_default.in_default-own.rest.0.0.0.0.0.0.0.0.0.0.0.0.0.0.0.1,
       ne_eqb _ _
-          c.in_default.rest.0.0.0.0.0.0.0.0.0.0.0.0.0.0.1,
-      ne_eqb _ _ c.in_default.rest.0.0.0.0.0.0.0.0.0.0.0.0.0.1,
-      ne_eqb _ _ c.in_default.rest.0.0.0.0.0.0.0.0.0.0.0.0.1,
-      ne_eqb _ _ c.in_default.rest.0.0.0.0.0.0.0.0.0.0.0.1,
-      ne_eqb _ _ c.in_default.rest.0.0.0.0.0.0.0.0.0.0.1,
-      ne_eqb _ _ c.in_default.rest.0.0.0.0.0.0.0.0.0.1,
+          c.in_default.in_default-own.rest.0.0.0.0.0.0.0.0.0.0.0.0.0.0.1,
+      ne_eqb _ _ c.in_default.in_default-own.rest.0.0.0.0.0.0.0.0.0.0.0.0.0.1,
+      ne_eqb _ _ c.in_default.in_default-own.rest.0.0.0.0.0.0.0.0.0.0.0.0.1,
+      ne_eqb _ _ c.in_default.in_default-own.rest.0.0.0.0.0.0.0.0.0.0.0.1,
+      ne_eqb _ _ c.in_default.in_default-own.rest.0.0.0.0.0.0.0.0.0.0.1,
+      ne_eqb _ _ c.in_default.in_default-own.rest.0.0.0.0.0.0.0.0.0.1,
       ne_eqb _ _
-          c.in_default.rest.0.0.0.0.0.0.0.0.1,
-      ne_eqb _ _ c.in_default.rest.0.0.0.0.0.0.0.1,
+          c.in_default.in_default-own.rest.0.0.0.0.0.0.0.0.1,
+      ne_eqb _ _ c.in_default.in_default-own.rest.0.0.0.0.0.0.0.1,
       ne_eqb _ _
-          c.in_default.rest.0.0.0.0.0.0.1,
-      ne_eqb _ _ c.in_default.rest.0.0.0.0.0.1,
-      ne_eqb _ _ c.in_default.rest.0.0.0.0.1,
-      ne_eqb _ _ c.in_default.rest.0.0.0.1,
-      ne_eqb _ _ c.in_default.rest.0.0.1,
-      ne_eqb _ _ c.in_default.rest.0.1,
+          c.in_default.in_default-own.rest.0.0.0.0.0.0.1,
+      ne_eqb _ _ c.in_default.in_default-own.rest.0.0.0.0.0.1,
+      ne_eqb _ _ c.in_default.in_default-own.rest.0.0.0.0.1,
+      ne_eqb _ _ c.in_default.in_default-own.rest.0.0.0.1,
+      ne_eqb _ _ c.in_default.in_default-own.rest.0.0.1,
+      ne_eqb _ _ c.in_default.in_default-own.rest.0.1,
       ne_eqb _ _
-          c.in_default.rest.1,
+          c.in_default.in_default-own.rest.1,
     ) c.plain-in_default.ensures

@@ -14,7 +14,7 @@ pub loop-i-preserved : goal.loop-i-preserved
 loop-i-preserved c =
     let h : c.loop-i.i < length c.args.s.now = omega arith in (
       omega arith,
-      c.byte-p.auto.0 ∙ c.loop-i.invariant.1,
+      c.byte-p.auto.out ∙ c.loop-i.invariant.1,
       rw
           (add-one, take-suc {A = ℕ} _ _ 0 h) (wrote_then _ _ _ _ _ _ _ _ c.loop-i.invariant.2 c.loop-i.invariant.1 c.byte-p.ensures),
     )
