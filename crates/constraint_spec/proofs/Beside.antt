@@ -12,7 +12,7 @@ use Rattle.scalar.specs.declared.ScalarValue.{ScalarValue}
 use Rattle.value_range.specs.declared.ValueRange.{ValueRange}
 use Rattle.comparison.specs.Operators.{bounding}
 use Rattle.comparison.specs.declared.BinaryOp.{BinaryOp}
-use Rattle.constraint_spec.specs.Sets.{none, no_entry, classes_of, handles, literal_at, non_null_at, entry_at, canonical_at, with_flag, with_non_nulls}
+use Rattle.constraint_spec.specs.Sets.{none, no_entry, classes_of, literal_at, non_null_at, entry_at, canonical_at, with_flag, with_non_nulls}
 use Rattle.constraint_spec.specs.Sets.{with_literals, with_ranges, put_non_null, put_literal, put_range, lay_range, cross_check, move_non_null}
 use Rattle.constraint_spec.specs.Sets.{move_literal, move_range, non_nulls_moved, literals_moved, ranges_moved, normalized, add_non_null, add_literal}
 use Rattle.constraint_spec.specs.Sets.{bounds_by, add_bound}
