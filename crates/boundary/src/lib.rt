@@ -172,8 +172,7 @@ fn row_in(case: &[u8], code: &[u8], bits: &[u64]) -> Row
 // ---- the functions that are called from outside
 
 // Reads a plan file: the refusal and its place, or the plan's bytes, columns first, then expressions, then operators.
-#[unsafe(no_mangle)]
-pub extern "C" fn mossladder_read(file: &[u8], out: &mut [u8]) -> usize
+pub fn mossladder_read(file: &[u8], out: &mut [u8]) -> usize
     ensures { Wrote out.old 0 out.new result (read_reply (read_of file.now)) }
 {
     let a = plan_file::read(file);
@@ -184,8 +183,7 @@ pub extern "C" fn mossladder_read(file: &[u8], out: &mut [u8]) -> usize
 }
 
 // Lists the facts of an operator of a plan file.
-#[unsafe(no_mangle)]
-pub extern "C" fn mossladder_derive(file: &[u8], operator: u16, out: &mut [u8]) -> usize
+pub fn mossladder_derive(file: &[u8], operator: u16, out: &mut [u8]) -> usize
     ensures { Wrote out.old 0 out.new result (on_plan (derive_reply operator) (read_of file.now)) }
 {
     let k = file_facts::of_operator(file, operator);
@@ -193,8 +191,7 @@ pub extern "C" fn mossladder_derive(file: &[u8], operator: u16, out: &mut [u8]) 
 }
 
 // Lists the facts of the last operator of a plan file.
-#[unsafe(no_mangle)]
-pub extern "C" fn mossladder_facts(file: &[u8], out: &mut [u8]) -> usize
+pub fn mossladder_facts(file: &[u8], out: &mut [u8]) -> usize
     ensures { Wrote out.old 0 out.new result (on_plan facts_reply (read_of file.now)) }
 {
     let k = file_facts::of_last(file);
@@ -202,13 +199,7 @@ pub extern "C" fn mossladder_facts(file: &[u8], out: &mut [u8]) -> usize
 }
 
 // Applies predicates, one after the other, to the facts of an operator, and lists what is then known.
-#[unsafe(no_mangle)]
-pub extern "C" fn mossladder_apply(
-    file: &[u8],
-    operator: u16,
-    predicates: &[u16],
-    out: &mut [u8],
-) -> usize
+pub fn mossladder_apply(file: &[u8], operator: u16, predicates: &[u16], out: &mut [u8]) -> usize
     ensures { Wrote out.old 0 out.new result (on_plan (apply_reply operator predicates.now) (read_of file.now)) }
 {
     let a = plan_file::read(file);
@@ -221,8 +212,7 @@ pub extern "C" fn mossladder_apply(
 }
 
 // Simplifies the expressions of an operator, and hands back the plan with what was appended.
-#[unsafe(no_mangle)]
-pub extern "C" fn mossladder_simplify(file: &[u8], operator: u16, out: &mut [u8]) -> usize
+pub fn mossladder_simplify(file: &[u8], operator: u16, out: &mut [u8]) -> usize
     ensures { Wrote out.old 0 out.new result (on_plan (simplify_reply operator) (read_of file.now)) }
 {
     let a = plan_file::read(file);
@@ -235,8 +225,7 @@ pub extern "C" fn mossladder_simplify(file: &[u8], operator: u16, out: &mut [u8]
 }
 
 // The truth value of an expression on a row, of which the three runs have a literal's case, code and payload for each column.
-#[unsafe(no_mangle)]
-pub extern "C" fn mossladder_evaluate(
+pub fn mossladder_evaluate(
     file: &[u8],
     expr: u16,
     case: &[u8],
