@@ -1,0 +1,41 @@
+use borrow.Author.Rules.{rules}
+use Rattle.constraint_set.proofs.Loops.{ranges_after, range_moved, range-idle, ranges_done}
+use Rattle.constraint_spec.specs.Sets.{steps_to}
+use Rattle.value_classes.specs.Classes.{Whole}
+use Rattle.value_classes.proofs.ClassLaws.{canonical_small}
+use native.Mathlib.Omega.{arith}
+use Prim.Native.Nat.{◌<◌}
+use mathlib.Core.Path.{◌∙◌}
+use Rattle.constraint_set.proofs.move_ranges.Goals as goal
+use Rattle.constraint_set.proofs.move_ranges.Goals.{else-e, then-e}
+
+pub loop-i-init : goal.loop-i-init
+unfolding ranges_after steps_to
+loop-i-init c = (omega arith, rw c.empty-none.ensures)
+
+pub offset_bounds-t-r : goal.offset_bounds-t-r
+offset_bounds-t-r c = omega (arith, (let fact : c.canonical-r.result < 128 = canonical_small _ _ _ ((let fact : Whole c.args.s.equivalence_classes = search rules in fact)) c.canonical-r.ensures (omega arith) in fact))
+
+pub bounds-t-r : goal.bounds-t-r
+bounds-t-r c = (let fact : c.canonical-r.result < 128 = canonical_small _ _ _ ((let fact : Whole c.args.s.equivalence_classes = search rules in fact)) c.canonical-r.ensures (omega arith) in fact)
+
+pub offset_bounds-t-r-then-e : goal.offset_bounds-t-r-then-e
+offset_bounds-t-r-then-e c = omega (arith, (let fact : c.canonical-r.result < 128 = canonical_small _ _ _ ((let fact : Whole c.args.s.equivalence_classes = search rules in fact)) c.canonical-r.ensures (omega arith) in fact))
+
+pub bounds-t-r-then-e : goal.bounds-t-r-then-e
+bounds-t-r-then-e c = (let fact : c.canonical-r.result < 128 = canonical_small _ _ _ ((let fact : Whole c.args.s.equivalence_classes = search rules in fact)) c.canonical-r.ensures (omega arith) in fact)
+
+pub loop-i-preserved : goal.loop-i-preserved
+loop-i-preserved c =
+    let v = c.loop-i.invariant in
+    elim c.if-e.branch [
+      | then-e w ↦ (
+        omega arith,
+        rw w.t-is (range_moved c.args.s c.loop-i.i c.loop-i.t _ _ _ _ v.1 w.if-e.true w.canonical-r.ensures
+            w.tightened-range.ensures w.is_empty-empty.ensures w.entry_of-now.ensures),
+      )
+      | else-e w ↦ (omega arith, rw w.t-is (range-idle c.args.s c.loop-i.i c.loop-i.t v.1 w.if-e.false))
+    ]
+
+pub returns : goal.returns
+returns c = c.loop-i.invariant.1 ∙ ranges_done c.args.s c.loop-i.i (omega arith)
