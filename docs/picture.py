@@ -20,7 +20,7 @@ WIDTH = 120
 
 # the rooms, the highest first: a crate belongs to the room that names it, else to the one whose prefix it has
 ROOMS = [
-    ("outside", ["facts", "facts_text", "file_facts", "boundary", "refusals"]),
+    ("outside", ["facts", "facts_text", "file_facts", "boundary", "boundary_c", "refusals"]),
     ("cases", ["cases"]),
     ("listing", ["listing", "writing"]),
     ("simplify", ["expr_simplify"]),
@@ -40,7 +40,7 @@ def read():
     for line in (TOP / "crates.txt").read_text().splitlines():
         if line.strip() and not line.startswith("#"):
             name, rest = line.split(":", 1)
-            needs[name.strip()] = set(rest.split()) - KIT
+            needs[name.split()[0]] = set(rest.split()) - KIT
     return needs
 
 

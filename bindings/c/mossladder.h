@@ -1,6 +1,6 @@
 /* What must hold of the rows of a query plan: the functions of Mossladder's proved library.
  *
- * `rt staticlib boundary` writes target/staticlib/libboundary.a; link that. It needs the C library and nothing else.
+ * `bindings/staticlib.sh` writes target/staticlib/libboundary.a; link that. It needs the C library and nothing else.
  *
  * Promised, and proved, of every function here, for all bytes of a file and all numbers:
  *   - it returns, and its reply is the one that a definition in crates/boundary/specs/Replies.antt gives;

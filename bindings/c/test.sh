@@ -4,7 +4,7 @@
 #     bindings/c/test.sh [FOLDER]     FOLDER has libboundary.a (target/staticlib unless it is given)
 here=$(cd "$(dirname "$0")" && pwd) || exit 1
 lib=${1:-${MOSSLADDER_LIB:-$here/../../target/staticlib}}/libboundary.a
-[ -f "$lib" ] || { echo "$lib is not there: run 'rt staticlib boundary' first" >&2; exit 1; }
+[ -f "$lib" ] || { echo "$lib is not there: run 'bindings/staticlib.sh' first" >&2; exit 1; }
 command -v cc >/dev/null || { echo "no C compiler: nothing was tested"; exit 0; }
 work=$(mktemp -d) || exit 1
 trap 'rm -rf "$work"' EXIT

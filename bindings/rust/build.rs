@@ -1,4 +1,4 @@
-//! Links the proved library, which `rt staticlib boundary` writes.
+//! Links the proved library, which `bindings/staticlib.sh` writes.
 
 use std::env;
 use std::path::{Path, PathBuf};
@@ -14,7 +14,7 @@ fn main() {
     println!("cargo::rerun-if-changed={}", archive.display());
     if !Path::new(&archive).exists() {
         println!(
-            "cargo::error={} is not there: run `rt staticlib boundary` at the repository's top, or name its folder by MOSSLADDER_LIB",
+            "cargo::error={} is not there: run `bindings/staticlib.sh` at the repository's top, or name its folder by MOSSLADDER_LIB",
             archive.display()
         );
         return;
