@@ -22,10 +22,10 @@ pub returns-in_default : goal.returns-in_default
 unfolding expr_data
 returns-in_default c =
     rw (
-  ne_eqb _ 0x20 c.in_default.in_default-own.rest.0.0.0.1,
-  ne_eqb _ 0x21 c.in_default.in_default-own.rest.0.0.1,
-  ne_eqb _ 0x22
-      c.in_default.in_default-own.rest.0.1,
-  ne_eqb _ 0x23 c.in_default.in_default-own.rest.1,
-  c.scalar_of.ensures,
-)
+      ne_eqb _ 0x20 c.in_default.in_default-own.rest.0.0.0.1,
+      ne_eqb _ 0x21 c.in_default.in_default-own.rest.0.0.1,
+      ne_eqb _ 0x22
+          c.in_default.in_default-own.rest.0.1,
+      ne_eqb _ 0x23 c.in_default.in_default-own.rest.1,
+      c.scalar_of.ensures,
+    )

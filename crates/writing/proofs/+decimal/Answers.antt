@@ -1,4 +1,3 @@
-use Rattle.std.proofs.Common.{arith}
 use Rattle.writing.proofs.Wrotes.{wrote_then, decimal_low, decimal_high}
 use Rattle.writing.proofs.+decimal.Goals as goal
 
