@@ -1,7 +1,7 @@
 #!/usr/bin/env python3
 """The plans that take longest: all four tables nearly full, and whatever is dear done as often as a plan allows.
 
-    run.py FACTS [ORACLE]     FACTS is target/bin/facts, or a command that runs it; ORACLE is oracle/target/release/oracle
+    run.py FACTS [ORACLE]     FACTS is crates/facts/out/facts, or a command that runs it; ORACLE is oracle/target/release/oracle
 
 For each plan: the least processor time of five runs in ms, reading and printing included, and, where the oracle is
 given and ends, its time and whether the listings are the same. Ends with 1 where one differs or takes 50 ms or more.

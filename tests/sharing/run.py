@@ -1,7 +1,7 @@
 #!/usr/bin/env python3
 """Random plans whose Ands share operands, held against the Rust.
 
-    run.py FACTS ORACLE SEED COUNT     FACTS is target/bin/facts, or a command that runs it; ORACLE is oracle/target/release/oracle
+    run.py FACTS ORACLE SEED COUNT     FACTS is crates/facts/out/facts, or a command that runs it; ORACLE is oracle/target/release/oracle
 
 An And stands in several others, so that its conjuncts come again and again, up to 20,000 of them in a predicate: equalities with 0.0, -0.0 and NaN, which count
 each time, beside joins of classes, bounds and residuals. COUNT plans, each with one to three Selections or joins.

@@ -1,7 +1,7 @@
 #!/usr/bin/env python3
 """How long each function of a crate takes to prove.
 
-    rm -rf target/inc/NAME && rt dev NAME; tests/times/profile.py target/inc/NAME [ROWS]
+    rm -rf crates/NAME/out/incremental && (cd crates/NAME && rt check); tests/times/profile.py crates/NAME/out/incremental [ROWS]
 
 The incremental folder of a check has a file for each module, written when the module was checked: the time between two files
 is what the second took. A function has some fourteen modules: `Lts` is its walk, statement by statement; `Tie` ties it to
@@ -20,7 +20,7 @@ def modules(folder):
         sys.exit(f"{folder}: no checked modules")
     times = sorted((f.stat().st_mtime, f.name.removesuffix(".oantt")) for f in files)
     for (before, _), (after, name) in zip(times, times[1:]):
-        yield re.sub(r"^Rattle·(\S+?·proofs\.proofs\.?)?", "", name), after - before
+        yield re.sub(r"^Rattle-(\w+[.-]proofs\.?)?", "", name), after - before
 
 
 def main():
