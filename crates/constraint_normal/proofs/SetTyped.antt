@@ -1,6 +1,6 @@
 -- What a program's set is by its type: each list has an entry for each place, and what it holds is of its type. Assumes nothing.
 use Prim.Native.Nat.{ℕ, zero, suc}
-use mathlib.Core.List.{List, [], ◌∷◌, map}
+use mathlib.Core.List.{List, [], ◌∷◌}
 use mathlib.Core.Path.{◌≡◌}
 use borrow.Author.Rules.{rules}
 use denote.Array.{each}
@@ -30,11 +30,11 @@ pub record Held (s : ConstraintSet) : Type 0 where
   pub handles_long : length (handles s) ≡ 64
   pub fit : (i : ℕ) → FitsEntry (entry_at s i)
 
-entry-fits : (e : Entry) (vs : List Val) → shadow ((E.the_field).row.own_val ((E.the_field).into e) vs) → FitsEntry e
+entry-fits : (e : Entry) (vs : List Val) → shadow ((E.the_row).own_val e vs) → FitsEntry e
 entry-fits e vs p = (search rules, search rules)
 
 each_fits : (xs : List Entry) (us : List Val) (i : ℕ)
-    → shadow (each (E.the_field).row.Denot (E.the_field).row.own_val (map (E.the_field).into xs) us) → FitsEntry (get_or xs i blank)
+    → shadow (each (E.the_row).Denot (E.the_row).own_val xs us) → FitsEntry (get_or xs i blank)
 unfolding fits
 each_fits [] us i p = (tt, tt)
 each_fits (x ∷ xs) [] i p = absurd p

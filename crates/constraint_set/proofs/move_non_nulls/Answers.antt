@@ -1,10 +1,8 @@
 use borrow.Author.Rules.{rules}
 use Rattle.constraint_set.proofs.Loops.{nulls_after, null-moved, null-idle, nulls-done}
 use Rattle.constraint_spec.specs.Sets.{steps_to}
-use Rattle.value_classes.specs.Classes.{Whole}
 use Rattle.value_classes.proofs.ClassLaws.{canonical_small}
 use native.Mathlib.Omega.{arith}
-use Prim.Native.Nat.{◌<◌}
 use mathlib.Core.Path.{refl, ◌∙◌}
 use Rattle.constraint_set.proofs.move_non_nulls.Goals as goal
 use Rattle.constraint_set.proofs.move_non_nulls.Goals.{else-old-i, then-old-i}
@@ -14,7 +12,7 @@ unfolding nulls_after steps_to
 loop-i-init c = (omega arith, refl)
 
 pub bounds-t-r : goal.bounds-t-r
-bounds-t-r c = (let fact : c.canonical-r.result < 128 = canonical_small _ _ _ ((let fact : Whole c.args.s.equivalence_classes = search rules in fact)) c.canonical-r.ensures (omega arith) in fact)
+bounds-t-r c = canonical_small c.args.s.equivalence_classes _ _ (search rules) c.canonical-r.ensures (omega arith)
 
 pub loop-i-preserved : goal.loop-i-preserved
 loop-i-preserved c =

@@ -1,10 +1,8 @@
 use borrow.Author.Rules.{rules}
 use Rattle.constraint_set.proofs.Loops.{ranges_after, range_moved, range-idle, ranges_done}
 use Rattle.constraint_spec.specs.Sets.{steps_to}
-use Rattle.value_classes.specs.Classes.{Whole}
 use Rattle.value_classes.proofs.ClassLaws.{canonical_small}
 use native.Mathlib.Omega.{arith}
-use Prim.Native.Nat.{◌<◌}
 use mathlib.Core.Path.{◌∙◌}
 use Rattle.constraint_set.proofs.move_ranges.Goals as goal
 use Rattle.constraint_set.proofs.move_ranges.Goals.{else-e, then-e}
@@ -14,16 +12,16 @@ unfolding ranges_after steps_to
 loop-i-init c = (omega arith, rw c.empty-none.ensures)
 
 pub offset_bounds-t-r : goal.offset_bounds-t-r
-offset_bounds-t-r c = omega (arith, (let fact : c.canonical-r.result < 128 = canonical_small _ _ _ ((let fact : Whole c.args.s.equivalence_classes = search rules in fact)) c.canonical-r.ensures (omega arith) in fact))
+offset_bounds-t-r c = omega (arith, canonical_small c.args.s.equivalence_classes _ _ (search rules) c.canonical-r.ensures (omega arith))
 
 pub bounds-t-r : goal.bounds-t-r
-bounds-t-r c = (let fact : c.canonical-r.result < 128 = canonical_small _ _ _ ((let fact : Whole c.args.s.equivalence_classes = search rules in fact)) c.canonical-r.ensures (omega arith) in fact)
+bounds-t-r c = canonical_small c.args.s.equivalence_classes _ _ (search rules) c.canonical-r.ensures (omega arith)
 
 pub offset_bounds-t-r-then-e : goal.offset_bounds-t-r-then-e
-offset_bounds-t-r-then-e c = omega (arith, (let fact : c.canonical-r.result < 128 = canonical_small _ _ _ ((let fact : Whole c.args.s.equivalence_classes = search rules in fact)) c.canonical-r.ensures (omega arith) in fact))
+offset_bounds-t-r-then-e c = omega (arith, canonical_small c.args.s.equivalence_classes _ _ (search rules) c.canonical-r.ensures (omega arith))
 
 pub bounds-t-r-then-e : goal.bounds-t-r-then-e
-bounds-t-r-then-e c = (let fact : c.canonical-r.result < 128 = canonical_small _ _ _ ((let fact : Whole c.args.s.equivalence_classes = search rules in fact)) c.canonical-r.ensures (omega arith) in fact)
+bounds-t-r-then-e c = canonical_small c.args.s.equivalence_classes _ _ (search rules) c.canonical-r.ensures (omega arith)
 
 pub loop-i-preserved : goal.loop-i-preserved
 loop-i-preserved c =
