@@ -1,7 +1,7 @@
 -- The records of a plan, and those of a file sort by sort. Assumes nothing.
 use Rattle.std.specs.Prelude.{ℕ, zero, suc, ◌+◌, Bool, false, cond, List, [], ◌∷◌, ◌++◌, eqb}
 use Rattle.plan_kinds.specs.declared.Record.{Record}
-use Rattle.plan_kinds.specs.Rows.{row_of, columns, expressions, operators, items}
+use Rattle.plan_kinds.specs.Rows.{row_of, items}
 use Rattle.plan.specs.declared.Plan.{Plan}
 use Rattle.plan.specs.Records.{column_record, expr_record, expr_start, operator_record, operator_start, item_record}
 use Rattle.plan_file_laws.specs.ListItems.{first_of, second_of, item_kind}
