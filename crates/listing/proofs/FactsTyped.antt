@@ -1,7 +1,7 @@
 -- What a program's facts are by their types: the numbers fit their widths and the literals are values of their kinds. Assumes nothing.
 use Prim.Native.Nat.{ℕ, zero, suc}
 use mathlib.Core.Bool.{Bool}
-use mathlib.Core.List.{List, [], ◌∷◌, map}
+use mathlib.Core.List.{List, [], ◌∷◌}
 use native.Mathlib.Omega.{arith}
 use borrow.Author.Rules.{rules}
 use denote.Array.{each}
@@ -22,7 +22,7 @@ use Rattle.apply_spec.specs.declared.LogicalFacts.{LogicalFacts}
 use Rattle.apply_spec.specs.contracts.LogicalFacts as L
 use Rattle.listing.specs.Typed.{TypedFacts}
 
-holder-typed : (b : Bool) (v : ScalarValue) (vs : List Val) → shadow ((H.the_field).row.own_val ((H.the_field).into (record { present = b; value = v })) vs)
+holder-typed : (b : Bool) (v : ScalarValue) (vs : List Val) → shadow ((H.the_row).own_val (record { present = b; value = v }) vs)
     → Typed v
 holder-typed b (S.Null k) vs p = tt
 holder-typed b (S.Boolean x) vs p = tt
@@ -32,7 +32,7 @@ holder-typed b (S.Float64 x) vs p = search rules
 holder-typed b (S.Date32 n) vs p = search rules
 
 each_typed : (xs : List Holder) (us : List Val) (i : ℕ)
-    → shadow (each (H.the_field).row.Denot (H.the_field).row.own_val (map (H.the_field).into xs) us) → Typed (get_or xs i none).value
+    → shadow (each (H.the_row).Denot (H.the_row).own_val xs us) → Typed (get_or xs i none).value
 each_typed [] us i p = tt
 each_typed (x ∷ xs) [] i p = absurd p
 each_typed (x ∷ xs) (u ∷ us) zero p = holder-typed x.present x.value (u ∷ []) p.0
@@ -53,8 +53,8 @@ handles-fit f vs p k = search rules
 -- whoever holds facts knows it
 pub facts-typed : (f : LogicalFacts) (vs : List Val) → shadow ((row L.the_type).own_val f vs) → TypedFacts f
 facts-typed f vs p = record {
-  lineage = λ c. omega (arith, (lineage-fits f vs p c).ranges);
-  definitions = λ c. omega (arith, (definitions-fit f vs p c).ranges);
+  lineage = λ c. omega (arith, (lineage-fits f vs p c).fits);
+  definitions = λ c. omega (arith, (definitions-fit f vs p c).fits);
   handles = λ k. omega (arith, (handles-fit f vs p k).fits);
   literals = set_typed f.constraints _ p.1.1.1.1.0;
 }

@@ -1,0 +1,17 @@
+use Prim.Native.Nat.{ℕ, ◌≤◌, ◌-◌}
+use mathlib.Core.List.{List}
+use mathlib.Core.Path.{◌≡◌}
+use lib.ListN.{length, get_or}
+use Rattle.writing.specs.Text.{Wrote, lines}
+use Rattle.plan_identities.specs.declared.Identities.{Identities}
+use Rattle.listing_lines.specs.Lines.{member_text}
+use Rattle.listing.proofs.members_text.Given as goal
+
+abbrev pub line : Identities → List ℕ → ℕ → ℕ → List ℕ
+line ids roots r j = member_text ids (get_or roots j 0) r j
+
+abbrev pub invariant-loop-i : goal.invariant-loop-i
+invariant-loop-i l = (l.i ≤ 128) × (length l.out ≡ length l.initial.out) × Wrote l.initial.out l.at l.out l.p (lines l.i (line l.ids l.roots l.r))
+
+abbrev pub decreases-loop-i : goal.decreases-loop-i
+decreases-loop-i l = 128 - l.i
