@@ -5,7 +5,7 @@
 ghost use Rattle.std.specs.Prelude.{◌≡◌, []};
 ghost use Rattle.writing.specs.Text.{Wrote, lines};
 ghost use Rattle.plan_file_laws.specs.ListItems.{item_kind};
-ghost use Rattle.plan_file_laws.specs.Writing.{put2 as Writing·put2, put4 as Writing·put4, put8 as Writing·put8, put_word, put_code, put_bits, put_body};
+ghost use Rattle.plan_file_laws.specs.Writing.{put2, put4, put8, put_word, put_code, put_bits, put_body};
 ghost use Rattle.plan_file_write.specs.Written.{clipped, clipped_bits, record_bytes, item_in, items_bytes, listed_bytes, column_in, columns_bytes};
 ghost use Rattle.plan_file_write.specs.Written.{expr_bytes, operator_bytes, written_of};
 
@@ -15,21 +15,21 @@ use plan_kinds::{Record, Row};
 // ---- numbers, high byte first
 
 fn put2(out: &mut [u8], at: usize, v: u16) -> usize
-    ensures { Wrote out.old at out.new result (Writing·put2 v []) }
+    ensures { Wrote out.old at out.new result (put2 v []) }
 {
     let p = writing::byte(out, at, (v / 256) as u8);
     writing::byte(out, p, (v % 256) as u8)
 }
 
 fn put4(out: &mut [u8], at: usize, v: u32) -> usize
-    ensures { Wrote out.old at out.new result (Writing·put4 v []) }
+    ensures { Wrote out.old at out.new result (put4 v []) }
 {
     let p = put2(out, at, (v / 65536) as u16);
     put2(out, p, (v % 65536) as u16)
 }
 
 pub fn put8(out: &mut [u8], at: usize, v: u64) -> usize
-    ensures { Wrote out.old at out.new result (Writing·put8 v []) }
+    ensures { Wrote out.old at out.new result (put8 v []) }
 {
     let p = put4(out, at, (v / 4294967296) as u32);
     put4(out, p, (v % 4294967296) as u32)
