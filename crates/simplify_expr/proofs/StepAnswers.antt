@@ -24,7 +24,6 @@ use Rattle.simplify_spec.specs.OneExpression.{compare_of, item_set, counted, wit
 use Rattle.simplify_spec.specs.declared.Tables.{Tables}
 use Rattle.simplify_spec.specs.declared.Simplified.{Simplified}
 use Rattle.simplify_spec.specs.declared.Shape.{Shape}
-use Rattle.simplify_spec.specs.declared.Shape.TheVariants.{Not}
 use Rattle.simplify_expr.specs.declared.Done.{Done}
 use Rattle.simplify_expr.specs.declared.Tally.{Tally}
 use Rattle.simplify_expr.specs.Passage.{done_of, tables_of, result_of, Out, plain_out, reserved, rebuilt_out, bottom_of, back_items}
