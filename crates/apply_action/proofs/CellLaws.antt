@@ -19,7 +19,8 @@ use Rattle.value_range.specs.Ranges.{unbounded_range, empty_range}
 use Rattle.value_range.specs.declared.ValueRange.{ValueRange}
 use Rattle.comparison.specs.Operators.{bounding}
 use Rattle.comparison.specs.declared.BinaryOp.{BinaryOp}
-use Rattle.constraint_spec.specs.Sets.{none, blank, held, entry_of, classes_of, non_nulls, literals, handles, non_null_at, literal_at, entry_at, with_values, with_flag}
+use Rattle.constraint_spec.specs.Sets.{none, blank, held, entry_of, classes_of, non_nulls, literals, handles, non_null_at, literal_at, entry_at}
+use Rattle.constraint_spec.specs.Sets.{with_values, with_flag}
 use Rattle.constraint_spec.specs.Sets.{with_residuals, flag_if, clashes, range_in, tighten_by, outside, crossed, crossed_at, cross_check, canonical_at}
 use Rattle.constraint_spec.specs.Sets.{put_non_null, put_literal, put_range, lay_range, bounds_by, union_values, add_non_null, add_literal, add_bound}
 use Rattle.constraint_spec.specs.Sets.{add_residual, applied_of, done}
@@ -72,7 +73,8 @@ acted-is (Bound i op x) q h = refl
 acted-is (Entry i) q h = refl
 
 -- only two identities of different classes are joined
-pub joined-apart : (act : Action) (q : ConstraintSet) → (canonical_at q (first_of act) ≡ canonical_at q (second_of act) → ⊥) → union_values q (first_of act)
+pub joined-apart : (act : Action) (q : ConstraintSet) → (canonical_at q (first_of act) ≡ canonical_at q (second_of act) → ⊥) → union_values q
+    (first_of act)
     (second_of act) ≡ joined_by act q
 joined-apart Nothing q d = absurd (d refl)
 joined-apart Contradiction q d = absurd (d refl)
@@ -82,7 +84,8 @@ joined-apart (Literal i v) q d = absurd (d refl)
 joined-apart (Bound i op x) q d = absurd (d refl)
 joined-apart (Entry i) q d = absurd (d refl)
 
-pub joined-together : (act : Action) (q : ConstraintSet) → Proper act → canonical_at q (first_of act) ≡ canonical_at q (second_of act) → q ≡ joined_by act q
+pub joined-together : (act : Action) (q : ConstraintSet) → Proper act → canonical_at q (first_of act) ≡ canonical_at q (second_of act) → q ≡ joined_by
+    act q
 joined-together Nothing q p e = refl
 joined-together Contradiction q p e = refl
 joined-together Residual q p e = refl
@@ -156,7 +159,8 @@ module _ (u : ConstraintSet) (r : ℕ) where
 
       cell-literal : with_cell u r (literal_cell (cell_of u r) v) ≡ flag_if (crossed_at literal_in r) literal_in
       unfolding with_cell literal_cell put_literal put_non_null
-      cell-literal = λ i. rest (set (non_nulls u) r true) (set (literals u) r (cond (clashes (literal_at u r) v) (literal_at u r) (held v))) (same-range i)
+      cell-literal = λ i. rest (set (non_nulls u) r true) (set (literals u) r (cond (clashes (literal_at u r) v) (literal_at u r) (held v)))
+          (same-range i)
           ((u.contradictory || clashes (literal_at u r) v) || sym literal-crossed i)
 
       literal-other : (k : ℕ) → (k ≡ r → ⊥) → crossed_at literal_in k ≡ crossed_at u k
@@ -178,7 +182,8 @@ module _ (u : ConstraintSet) (r : ℕ) where
 
       cell-bound : with_cell u r (bound_cell (cell_of u r) op x) ≡ flag_if (crossed_at bound_in r) bound_in
       unfolding with_cell bound_cell put_range lay_range put_non_null
-      cell-bound = λ i. rest (set (non_nulls u) r true) (same-literal i) (set u.ranges r (entry_of (tighten_by (range_in (entry_at u r)) (bounds_by op x))))
+      cell-bound = λ i. rest (set (non_nulls u) r true) (same-literal i) (set u.ranges r (entry_of (tighten_by (range_in (entry_at u r)) (bounds_by op
+          x))))
           ((u.contradictory || empty_range (tighten_by (range_in (entry_at u r)) (bounds_by op x))) || sym bound-crossed i)
 
       bound-other : (k : ℕ) → (k ≡ r → ⊥) → crossed_at bound_in k ≡ crossed_at u k
@@ -204,7 +209,8 @@ module _ (checked : Bool) (u : ConstraintSet) (long : Long u) (c : checked ≡ t
   unchanged : (v : ConstraintSet) → cond (not checked && false) (cross_check v) v ≡ v
   unchanged v = ap (λ (b : Bool). cond b (cross_check v) v) (no_check checked)
 
-  literal_in_lem : (i r : ℕ) (v : ScalarValue) → i < 128 → is_null v ≡ false → r ≡ canonical_at u i → cross_check (put_literal (put_non_null u r) r v) ≡ add_literal u i v
+  literal_in_lem : (i r : ℕ) (v : ScalarValue) → i < 128 → is_null v ≡ false → r ≡ canonical_at u i → cross_check (put_literal (put_non_null u r) r v)
+      ≡ add_literal u i v
   unfolding add_literal
   literal_in_lem i r v h n e = rw (lt-ltb i 128 h, n, e)
 
@@ -213,7 +219,8 @@ module _ (checked : Bool) (u : ConstraintSet) (long : Long u) (c : checked ≡ t
   unfolding add_bound
   bound_in_lem i r op x h b e = rw (lt-ltb i 128 h, b, e)
 
-  null_in : (both : Bool) (i r : ℕ) → i < 128 → r ≡ canonical_at u i → with_cell u r (cond both (non_null_cell (cell_of u r)) (cell_of u r)) ≡ cond both
+  null_in : (both : Bool) (i r : ℕ) → i < 128 → r ≡ canonical_at u i → with_cell u r (cond both (non_null_cell (cell_of u r)) (cell_of u r)) ≡ cond
+      both
       (add_non_null u i) u
   unfolding add_non_null
   null_in true i r h e = rw (lt-ltb i 128 h) (cell-null u r ∙ ap (put_non_null u) e)
@@ -230,7 +237,8 @@ module _ (checked : Bool) (u : ConstraintSet) (long : Long u) (c : checked ≡ t
       (literal-stays u r low long v)
       ∙ literal_in_lem i r v p.0 p.1 e
   written_is (Bound i op x) r p low e =
-      checked-so u r low long checked (put_range (put_non_null u r) r (bounds_by op x)) _ c (cell-bound u r low long op x) (bound-other u r low long op x)
+      checked-so u r low long checked (put_range (put_non_null u r) r (bounds_by op x)) _ c (cell-bound u r low long op x) (bound-other u r low long
+      op x)
       (bound-stays u r low long op x)
       ∙ bound_in_lem i r op x p.0 p.1 e
   written_is (Entry i) r p low e = unchanged _ ∙ cell-entry u r ∙ ap (λ (k : ℕ). lay_range (put_non_null u k) k unbounded_range) e
@@ -250,7 +258,8 @@ module _ (u : ConstraintSet) (long : Long u) where
   entry-places : (r : ℕ) → r < 128 → (k : ℕ) → crossed_at (lay_range (put_non_null u r) r unbounded_range) k ≡ crossed_at u k
   unfolding lay_range put_non_null
   entry-places r low k = elim (ℕ_discrete k r) [
-    | yes e ↦ subst (λ (x : ℕ). crossed (literal_at u x) (get_or (set u.ranges r (entry_of (range_in (entry_at u r)))) x blank) ≡ crossed_at u x) (sym e)
+    | yes e ↦ subst (λ (x : ℕ). crossed (literal_at u x) (get_or (set u.ranges r (entry_of (range_in (entry_at u r)))) x blank) ≡ crossed_at u x) (sym
+        e)
         (ap (crossed (literal_at u r)) (get_or-set_same u.ranges r (entry_of (range_in (entry_at u r))) blank (omega (arith, long.1)))
         ∙ entry-crossed (literal_at u r) (entry_at u r).present (entry_at u r).range)
     | no d ↦ ap (crossed (literal_at u k)) (get_or-set_other u.ranges r k (entry_of (range_in (entry_at u r))) blank d)
@@ -279,8 +288,10 @@ module _ (u : ConstraintSet) (long : Long u) where
   recorded-checked checked (Entry i) p low c e = entry-checked (canonical_at u i) low (c (sym (or-false checked) ∙ e))
 
 -- ---- one conjunct, as the loop over conjuncts goes: the classes joined, a cell written, a check where it is wanted, the handle kept
-module _ (act : Action) (p : Proper act) (h : ℕ) (checked : Bool) (q u w : ConstraintSet) (r : ℕ) (k : Kept) (long : Long u) (c : checked ≡ true → Checked u)
-    (eu : u ≡ joined_by act q) (er : r ≡ canonical_at u (first_of act)) (low : r < 128) (ew : w ≡ written checked act (with_cell u r (cell_after (cell_of u r) act)))
+module _ (act : Action) (p : Proper act) (h : ℕ) (checked : Bool) (q u w : ConstraintSet) (r : ℕ) (k : Kept) (long : Long u) (c : checked ≡ true →
+    Checked u)
+    (eu : u ≡ joined_by act q) (er : r ≡ canonical_at u (first_of act)) (low : r < 128) (ew : w ≡ written checked act (with_cell u r (cell_after
+    (cell_of u r) act)))
     (ek : k ≡ cond (is_residual act) (kept_by (handles w) w.residuals h) (record { list = handles w; count = w.residuals; refused = false })) where
   w_is : w ≡ recorded_in act u
   w_is = ew ∙ written_is checked u long c act r p low er

@@ -28,7 +28,8 @@ use Rattle.apply_action.specs.declared.Cell.{Cell}
 use Rattle.apply_action.proofs.CellLaws.{Long, recorded_in, written, written_is, recorded-checked}
 
 -- ---- a content put at a representative, in the form in which a pass puts it at an empty place
-stands_set : {A : Type 0} (n : A) (put : A → A → A) (root : ℕ → ℕ) (d : A) (l : List A) → Stands n put root d l → (r : ℕ) → r < 128 → root r ≡ r → (x : A)
+stands_set : {A : Type 0} (n : A) (put : A → A → A) (root : ℕ → ℕ) (d : A) (l : List A) → Stands n put root d l → (r : ℕ) → r < 128 → root r ≡ r → (x
+    : A)
     → put n x ≡ x → Stands n put root d (set l r x)
 stands_set {A = A} n put root d l st r low own x e = record {
   long = length-set l r x ∙ st.long;
@@ -51,7 +52,10 @@ made-full : (x : En.Entry) → range_bad no_entry (entry_of (range_in x)) ≡ tr
 unfolding range_bad
 made-full x e = go x.present x.range e
   where
-    go : (p : Bool) (t : ValueRange) → range_bad no_entry (entry_of (cond p t unbounded_range)) ≡ true → range_bad no_entry (record { present = p; range = t }) ≡ true
+    go : (p : Bool) (t : ValueRange) → range_bad no_entry (entry_of (cond p t unbounded_range)) ≡ true → range_bad no_entry (record {
+      present = p;
+      range = t;
+    }) ≡ true
     go true t e = e
     go false t e = absurd (subst T (sym e) tt)
 
@@ -86,7 +90,8 @@ module _ (u : ConstraintSet) (g : Settled u) (r : ℕ) (low : r < 128) where
   fit-after (Bound i op x) = record {
     literal-so = g.equal.same r low;
     entry-so = range-again (entry_at u r) (entry_of (bounds_by op x)) (g.within.same r low);
-    empty-told = λ e. or_told u.contradictory (range_bad (entry_at u r) (entry_of (bounds_by op x))) _ (range_bad no_entry (entry_at u r)) (g.quiet r low)
+    empty-told = λ e. or_told u.contradictory (range_bad (entry_at u r) (entry_of (bounds_by op x))) _ (range_bad no_entry (entry_at u r)) (g.quiet r
+        low)
         (range_tells (entry_at u r) (entry_of (bounds_by op x)) (g.within.same r low) e);
     stays = λ e. or_inl _ _ (or_inl _ _ e);
   }
@@ -109,7 +114,8 @@ module _ (u : ConstraintSet) (g : Settled u) (r : ℕ) (low : r < 128) where
     quiet = λ i h. elim (ℕ_discrete i r) [
       | yes q ↦
           (λ e. f.empty-told
-          (subst (λ (y : En.Entry). range_bad no_entry y ≡ true) (ap (λ (k : ℕ). get_or (set u.ranges r c.entry) k blank) q ∙ get_or-set_same u.ranges r
+          (subst (λ (y : En.Entry). range_bad no_entry y ≡ true) (ap (λ (k : ℕ). get_or (set u.ranges r c.entry) k blank) q ∙ get_or-set_same u.ranges
+          r
           c.entry blank (omega (arith, g.within.long))) e))
       | no m ↦ (λ e. f.stays (g.quiet i h (subst (λ (y : En.Entry). range_bad no_entry y ≡ true) (get_or-set_other u.ranges r i c.entry blank m) e)))
     ];
@@ -134,7 +140,8 @@ module _ (u : ConstraintSet) (g : Settled u) (act : Action) (p : Proper act) (r 
       (subst Checked (sym is) (recorded-checked u long true act p (omega (arith, er)) (λ e. g.checked) refl)))
 
   -- and so does the turn of the loop, with its residual
-  pub turned-settled : (checked : Bool) (w : ConstraintSet) (l : List ℕ) (n : ℕ) → w ≡ written checked act (with_cell u r (cell_after (cell_of u r) act))
+  pub turned-settled : (checked : Bool) (w : ConstraintSet) (l : List ℕ) (n : ℕ) → w ≡ written checked act (with_cell u r (cell_after (cell_of u r)
+      act))
       → Settled (with_residuals w l n)
   turned-settled checked w l n ew = kept (subst Settled (sym (ew ∙ written_is checked u long (λ e. g.checked) act r p low er)) recorded-settled)
     where

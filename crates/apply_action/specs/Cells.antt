@@ -4,7 +4,8 @@ use Rattle.scalar.specs.declared.ScalarValue.{ScalarValue}
 use Rattle.value_range.specs.Ranges.{empty_range}
 use Rattle.value_range.specs.declared.ValueRange.{ValueRange}
 use Rattle.comparison.specs.declared.BinaryOp.{BinaryOp}
-use Rattle.constraint_spec.specs.Sets.{held, entry_of, classes_of, non_nulls, literals, non_null_at, literal_at, entry_at, with_values, clashes, range_in, tighten_by}
+use Rattle.constraint_spec.specs.Sets.{held, entry_of, classes_of, non_nulls, literals, non_null_at, literal_at, entry_at, with_values, clashes}
+use Rattle.constraint_spec.specs.Sets.{range_in, tighten_by}
 use Rattle.constraint_spec.specs.Sets.{crossed, bounds_by}
 use Rattle.constraint_spec.specs.declared.ConstraintSet.{ConstraintSet}
 use Rattle.apply_action.specs.declared.Action.{Action}

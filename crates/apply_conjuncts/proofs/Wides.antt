@@ -45,7 +45,8 @@ module _ (s : ConstraintSet) (l : Long s) where
   nulls-long : Long (non_nulls_moved s)
   unfolding non_nulls_moved
   nulls-long =
-      steps-good Long (move_non_null s) 128 (λ i h u e. cond_T_elim Long (non_null_at s i) (put_non_null u (canonical_at s i)) u (λ c. null-long u e (canonical_at s i))
+      steps-good Long (move_non_null s) 128 (λ i h u e. cond_T_elim Long (non_null_at s i) (put_non_null u (canonical_at s i)) u (λ c. null-long u e
+      (canonical_at s i))
       e) 128 (omega arith) (with_non_nulls s (replicate 128 false)) l
 
   literals-long : Long (literals_moved s)

@@ -46,7 +46,8 @@ module _ (kind code a b bits start items lineage : List ℕ) (e : ℕ) (s : Cons
   walked w = same_handed (rest_of node items w)
 
   -- those that were found, where nothing is left of the walk
-  pub found_all : (w v : Walk) (hs : List ℕ) → length items ≡ 2048 → rest_of node items w ≡ conjuncts_of node items e → rest_of node items w ≡ hs ++ rest_of node
+  pub found_all : (w v : Walk) (hs : List ℕ) → length items ≡ 2048 → rest_of node items w ≡ conjuncts_of node items e → rest_of node items w ≡ hs ++
+      rest_of node
       items v → v.depth ≡ 0
       → (r : Applied) → r ≡ after hs → Handed r
   found_all w v hs long all some none =
@@ -54,4 +55,5 @@ module _ (kind code a b bits start items lineage : List ℕ) (e : ℕ) (s : Cons
 
   -- a ready set, and only some of the conjuncts that repeat left out
   pub thinned_all : (ks : List ℕ) → Ready s → Thinned [] (conjuncts_of node items e) ks → (r : Applied) → r ≡ after ks → Handed r
-  thinned_all ks ready thin r er = ap (or_given s) er ∙ sym (ends_are_enough lineage kind code a b bits start (conjuncts_of node items e) ks s ready thin)
+  thinned_all ks ready thin r er = ap (or_given s) er ∙ sym (ends_are_enough lineage kind code a b bits start (conjuncts_of node items e) ks s ready
+      thin)

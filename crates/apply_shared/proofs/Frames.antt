@@ -66,13 +66,16 @@ module _ (kind code a b bits start items : List ℕ) where
       -- the frame on top is done
       module _ (e : (eqb (left_at w k) 0 || leb 2048 (place_at w k)) ≡ true) where
         pub popped-within : Within (conj (owner_at w k)) there
-        popped-within = done-within there (owns w) (runs w) k (run-done kind code a b bits start items long (owner_at w k) (place_at w k) (left_at w k) e) at_top
+        popped-within = done-within there (owns w) (runs w) k (run-done kind code a b bits start items long (owner_at w k) (place_at w k) (left_at w
+            k) e) at_top
 
         pub popped-covered : Covered there (popped w k)
-        popped-covered = done_chain there (owns w) (runs w) k (run-done kind code a b bits start items long (owner_at w k) (place_at w k) (left_at w k) e) at_top
+        popped-covered = done_chain there (owns w) (runs w) k (run-done kind code a b bits start items long (owner_at w k) (place_at w k) (left_at w
+            k) e) at_top
 
       -- it has an operand
-      module _ (some : 1 ≤ left_at w k) (low : place_at w k < 2048) (first : List ℕ) (is : first_of (owner_at w k) (get_or items (place_at w k) 0) ≡ first) where
+      module _ (some : 1 ≤ left_at w k) (low : place_at w k < 2048) (first : List ℕ) (is : first_of (owner_at w k) (get_or items (place_at w k) 0) ≡
+          first) where
         split : (run2 : List ℕ) → run2 ≡ run (owner_at w k) (place_at w k + 1) (left_at w k - 1) → runs w k ≡ first ++ run2
         split run2 e = run-rest kind code a b bits start items long (owner_at w k) (place_at w k) (left_at w k) some low ∙ (λ i. is i ++ sym e i)
 
@@ -95,12 +98,14 @@ module _ (kind code a b bits start items : List ℕ) where
           v_good = passed-good w g k top
 
           -- the frames of u below its top are those of v
-          below : {A : Type 0} (f : ℕ → ℕ → ℕ → A) (j : ℕ) → j < w.depth → f (owner_at u j) (place_at u j) (left_at u j) ≡ f (owner_at v j) (place_at v j)
+          below : {A : Type 0} (f : ℕ → ℕ → ℕ → A) (j : ℕ) → j < w.depth → f (owner_at u j) (place_at u j) (left_at u j) ≡ f (owner_at v j) (place_at
+              v j)
               (left_at v j)
           unfolding passed
           below f j l = pushed-below v v_good x (get_or start x 0) (get_or a x 0) room f j l
 
-          last : {A : Type 0} (f : ℕ → ℕ → ℕ → A) → f (owner_at u (suc k)) (place_at u (suc k)) (left_at u (suc k)) ≡ f x (get_or start x 0) (get_or a x 0)
+          last : {A : Type 0} (f : ℕ → ℕ → ℕ → A) → f (owner_at u (suc k)) (place_at u (suc k)) (left_at u (suc k)) ≡ f x (get_or start x 0) (get_or a
+              x 0)
           unfolding passed
           last f =
               subst (λ (n : ℕ). f (owner_at u n) (place_at u n) (left_at u n) ≡ f x (get_or start x 0) (get_or a x 0)) top

@@ -55,7 +55,8 @@ module _ (own : ℕ → List ℕ) where
     so-kept alone was comes ks t =
         subst (Thinned [] whole) (sym (append_assoc there (x ∷ []) ks))
         (was
-        (mark-taken (λ (h : ℕ). Within (own h) (x ∷ rest)) owed x (subst (λ (l : List ℕ). Within l (x ∷ rest)) (sym alone) (within-left (x ∷ []) rest))
+        (mark-taken (λ (h : ℕ). Within (own h) (x ∷ rest)) owed x (subst (λ (l : List ℕ). Within l (x ∷ rest)) (sym alone) (within-left (x ∷ [])
+        rest))
         (λ h q i j. within-right (x ∷ []) rest i (comes h q i j)))
         (x ∷ ks) (thin_keep there x rest ks t))
 
@@ -149,7 +150,8 @@ module _ {kind code a start items : List ℕ} {e : ℕ} {v : Walk} {seen owed : 
   owner_within = omega (arith, g.low k (omega (arith, thin_some_frame)))
 
   -- the same is to come, in other words
-  said-so : (b bits : List ℕ) (d : List Bool) (l l2 : List ℕ) → l ≡ l2 → SoFar (own b bits) (whole b bits) there l d → SoFar (own b bits) (whole b bits) there
+  said-so : (b bits : List ℕ) (d : List Bool) (l l2 : List ℕ) → l ≡ l2 → SoFar (own b bits) (whole b bits) there l d → SoFar (own b bits) (whole b
+      bits) there
       l2 d
   said-so b bits d l l2 e = subst (λ (x : List ℕ). SoFar (own b bits) (whole b bits) there x d) e
 
@@ -177,7 +179,8 @@ module _ {kind code a start items : List ℕ} {e : ℕ} {v : Walk} {seen owed : 
       )
 
   -- ---- nothing comes of an operand
-  module _ (owed2 : List Bool) (size : length owed2 ≡ length owed) (some : 1 ≤ left_at v k) (low : place_at v k < 2048) (first : List ℕ → List ℕ → List ℕ)
+  module _ (owed2 : List Bool) (size : length owed2 ≡ length owed) (some : 1 ≤ left_at v k) (low : place_at v k < 2048) (first : List ℕ → List ℕ →
+      List ℕ)
       (is : (b bits : List ℕ) → get_or (conjuncts_to (node_of kind code a b bits start) items o) operand [] ≡ first b bits)
       (so : (b bits : List ℕ) → SoFar (own b bits) (whole b bits) there (left_over b bits (passed v k)) owed2)
       (known-first : (b bits : List ℕ) → Within (first b bits) there) where
@@ -195,7 +198,8 @@ module _ {kind code a start items : List ℕ} {e : ℕ} {v : Walk} {seen owed : 
                 so_far = so b bits;
                 known = was.known;
                 frames =
-                    passed-covered kind code a b bits start items t.long there v g k top was.frames some low (first b bits) (is b bits) there (λ h i. i)
+                    passed-covered kind code a b bits start items t.long there v g k top was.frames some low (first b bits) (is b bits) there (λ h i.
+                    i)
                     (known-first b bits);
               };
         }
@@ -224,7 +228,8 @@ module _ {kind code a start items : List ℕ} {e : ℕ} {v : Walk} {seen owed : 
     found-alone : (b bits : List ℕ) → conj kind code a b bits start items x ≡ x ∷ []
     found-alone b bits = conj-other kind code a b bits start items x (subst (λ (y : ℕ). is_and kind code y ≡ false) found-said.4 found-said.3)
 
-    found_first : (b bits : List ℕ) → get_or (conjuncts_to (node_of kind code a b bits start) items o) operand [] ≡ conj kind code a b bits start items x
+    found_first : (b bits : List ℕ) → get_or (conjuncts_to (node_of kind code a b bits start) items o) operand [] ≡ conj kind code a b bits start
+        items x
     found_first b bits =
         first_below kind code a b bits start items o operand (ltb-true operand o found-said.2) ∙ ap (conj kind code a b bits start items) found-said.4
 
@@ -238,7 +243,8 @@ module _ {kind code a start items : List ℕ} {e : ℕ} {v : Walk} {seen owed : 
           (λ b bits.
           so_dropped (own b bits) (whole b bits) there (left_over b bits (passed v k)) owed x found_owed ((t.had.held b bits).known x s)
           (said-so b bits owed (left_over b bits v) (own b bits x ++ left_over b bits (passed v k))
-          ((found-goes b bits).to-come ∙ ap (λ (l : List ℕ). l ++ left_over b bits (passed v k)) (sym (found-alone b bits))) (t.had.held b bits).so_far))
+          ((found-goes b bits).to-come ∙ ap (λ (l : List ℕ). l ++ left_over b bits (passed v k)) (sym (found-alone b bits))) (t.had.held b
+          bits).so_far))
           (λ b bits. (t.had.held b bits).known x s),
       (found-goes [] []).less,
     )
@@ -273,7 +279,8 @@ module _ {kind code a start items : List ℕ} {e : ℕ} {v : Walk} {seen owed : 
         slots = length-set handles n x ∙ t.had.slots;
         debts = length-set owed x false ∙ t.had.debts;
         few = omega (arith, found-room);
-        held = λ b bits. subst (Held kind code a start items e b bits (passed v k) (set seen x true) (set owed x false)) (sym one_more) (held_then b bits);
+        held = λ b bits. subst (Held kind code a start items e b bits (passed v k) (set seen x true) (set owed x false)) (sym one_more) (held_then b
+            bits);
       },
       (found-goes [] []).less,
     )
@@ -289,7 +296,8 @@ module _ {kind code a start items : List ℕ} {e : ℕ} {v : Walk} {seen owed : 
     enter_owed : x < length owed
     enter_owed = omega (arith, entered-within, t.had.debts)
 
-    enter_first : (b bits : List ℕ) → get_or (conjuncts_to (node_of kind code a b bits start) items o) operand [] ≡ conj kind code a b bits start items x
+    enter_first : (b bits : List ℕ) → get_or (conjuncts_to (node_of kind code a b bits start) items o) operand [] ≡ conj kind code a b bits start
+        items x
     enter_first b bits =
         first_below kind code a b bits start items o operand (ltb-true operand o enter_said.2) ∙ ap (conj kind code a b bits start items) enter_said.4
 
@@ -300,7 +308,8 @@ module _ {kind code a start items : List ℕ} {e : ℕ} {v : Walk} {seen owed : 
         ∙ ap (λ (y : ℕ). conj kind code a b bits start items y ++ left_over b bits (passed v k)) enter_said.4
 
     enter_so : (b bits : List ℕ) → SoFar (own b bits) (whole b bits) there (own b bits x ++ left_over b bits (passed v k)) owed
-    enter_so b bits = said-so b bits owed (left_over b bits v) (own b bits x ++ left_over b bits (passed v k)) (enter_next b bits) (t.had.held b bits).so_far
+    enter_so b bits = said-so b bits owed (left_over b bits v) (own b bits x ++ left_over b bits (passed v k)) (enter_next b bits) (t.had.held b
+        bits).so_far
 
     -- it is passed over
     pub entered-over : get_or seen x false ≡ true → Becomes (passed v k) seen (set owed x true) handles n
@@ -313,7 +322,8 @@ module _ {kind code a start items : List ℕ} {e : ℕ} {v : Walk} {seen owed : 
     )
 
     -- its operands come next
-    pub thin_entered-on : (at left : ℕ) → at ≡ get_or start x 0 → left ≡ get_or a x 0 → Becomes (deeper v k x at left) seen (set owed x false) handles n
+    pub thin_entered-on : (at left : ℕ) → at ≡ get_or start x 0 → left ≡ get_or a x 0 → Becomes (deeper v k x at left) seen (set owed x false) handles
+        n
     thin_entered-on at left q r =
         let go = enter_turn kind code a start items t.long v g k top x at left (says (Enter x) p) q r in (
           record {
@@ -380,7 +390,8 @@ module _ (kind code a start items : List ℕ) (long : length items ≡ 2048) (sh
   in_table : List ℕ → List ℕ → e < 1024
   in_table b bits = and-within kind code a b bits start items long short e y
 
-  first-held : (b bits : List ℕ) → Held kind code a start items e b bits (entered a start empty_walk e) (replicate 1024 false) (replicate 1024 false) []
+  first-held : (b bits : List ℕ) → Held kind code a start items e b bits (entered a start empty_walk e) (replicate 1024 false) (replicate 1024 false)
+      []
   first-held b bits =
       record {
         so_far =
@@ -405,11 +416,13 @@ module _ (kind code a start items : List ℕ) (long : length items ≡ 2048) (sh
       })
 
 -- ---- no mark was met up to the end
-pub none_at_all : (ts : List Bool) → length ts ≡ 1024 → (i : ℕ) → 1024 ≤ i → ((h : ℕ) → h < i → get_or ts h false ≡ false) → (h : ℕ) → get_or ts h false ≡ false
+pub none_at_all : (ts : List Bool) → length ts ≡ 1024 → (i : ℕ) → 1024 ≤ i → ((h : ℕ) → h < i → get_or ts h false ≡ false) → (h : ℕ) → get_or ts h
+    false ≡ false
 none_at_all ts size i all none h = ⊎_elim (λ l. none h (omega arith)) (λ l. get_or-eq_default ts false {n = h} (omega arith)) (below_or_not h 1024)
 
 -- one more was met
-pub none_more : (ts : List Bool) (i : ℕ) → get_or ts i false ≡ false → ((h : ℕ) → h < i → get_or ts h false ≡ false) → (h : ℕ) → h < i + 1 → get_or ts h false ≡ false
+pub none_more : (ts : List Bool) (i : ℕ) → get_or ts i false ≡ false → ((h : ℕ) → h < i → get_or ts h false ≡ false) → (h : ℕ) → h < i + 1 → get_or ts
+    h false ≡ false
 none_more ts i this none h l =
     ⊎_elim (none h) (λ m. let e : h ≡ i = omega arith in subst (λ (x : ℕ). get_or ts x false ≡ false) (sym e) this) (below_or_not h i)
 

@@ -13,7 +13,8 @@ use Rattle.laws.proofs.Bools.{or_inr, or_inl}
 use Rattle.scalar.specs.Scalars.{same_scalar, holds_nan}
 use Rattle.scalar.specs.declared.ScalarValue.{ScalarValue}
 use Rattle.scalar.proofs.ScalarLaws.{same_self, same_left}
-use Rattle.constraint_spec.specs.Sets.{none, blank, held, classes_of, non_nulls, literals, non_null_at, literal_at, entry_at, with_values, with_literals, with_flag}
+use Rattle.constraint_spec.specs.Sets.{none, blank, held, classes_of, non_nulls, literals, non_null_at, literal_at, entry_at, with_values}
+use Rattle.constraint_spec.specs.Sets.{with_literals, with_flag}
 use Rattle.constraint_spec.specs.Sets.{canonical_at, clashes, crossed, add_literal}
 use Rattle.constraint_spec.specs.declared.Holder.{Holder}
 use Rattle.constraint_spec.specs.declared.Entry as En
@@ -106,7 +107,8 @@ module _ (u : ConstraintSet) (rd : Ready u) (i : ℕ) (v : ScalarValue) (p : Pro
         put = unfold literal_cell in λ k. record { non_null = sym nn k; literal = literal-is k; entry = entry_at u r; contradictory = flag_is k }
 
         laid_cell_lem : with_cell u r (laid_cell c v) ≡ laid u r v
-        laid_cell_lem = unfold with_cell in λ k. rest u (set-get_or (non_nulls u) r false k) (set (literals u) r (held v)) (set-get_or u.ranges r blank k)
+        laid_cell_lem = unfold with_cell in λ k. rest u (set-get_or (non_nulls u) r false k) (set (literals u) r (held v)) (set-get_or u.ranges r
+            blank k)
             u.contradictory
 
   -- NaN clashes with every literal

@@ -75,8 +75,10 @@ twice = (apply_predicate plan once below).facts
 -- both are accepted, and the flag is clear. Assumes nothing
 pub between-clear : ((apply_predicate plan fresh above).outcome ≡ Accepted)
     × (((apply_predicate plan once below).outcome ≡ Accepted) × (twice.constraints.contradictory ≡ false))
-unfolding apply_predicate plan_ok counts_within all_from expr_ok_of record_ok lists_ok row_of line_of bits_ok handle_ok count_of more_of item_ok operator_ok_of scans_of any_from
-    count_from facts_ok lineage_ok definition_ok set_ok parents_ok each empty_set empty_classes predicate_applied all_applied conjuncts_to joined_of conjunct_applied
+unfolding apply_predicate plan_ok counts_within all_from expr_ok_of record_ok lists_ok row_of line_of bits_ok handle_ok count_of more_of item_ok
+    operator_ok_of scans_of any_from
+    count_from facts_ok lineage_ok definition_ok set_ok parents_ok each empty_set empty_classes predicate_applied all_applied conjuncts_to joined_of
+    conjunct_applied
     comparison_by expr_data add_range add_bound put_non_null put_range lay_range cross_check root_of climb parent_in lt eq of_int
 between-clear = (refl, (refl, refl))
 

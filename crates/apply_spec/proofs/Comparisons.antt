@@ -30,7 +30,8 @@ pub record Compared (op : BinaryOp) (a b : ScalarValue) : Type 0 where
   pub kind : T (same_kind (kind_of a) (kind_of b))
   pub holds : T (compared op a b)
 
-ordinary-test : (o p q k t : Bool) → T o → is_true_code (cond (p || q) (cond o 1 (known (p && q))) (cond k (known t) (cond o 1 0))) ≡ (not p && (not q && (k && t)))
+ordinary-test : (o p q k t : Bool) → T o → is_true_code (cond (p || q) (cond o 1 (known (p && q))) (cond k (known t) (cond o 1 0))) ≡ (not p && (not q
+    && (k && t)))
 ordinary-test true true q k t o = refl
 ordinary-test true false true k t o = refl
 ordinary-test true false false true true o = refl
@@ -86,7 +87,12 @@ eq_iff a b = (
   λ t.
       let n = and_l (not (is_null a)) (same_scalar a b) t in
       let s = and_r (not (is_null a)) (same_scalar a b) t in
-      of-compared Eq a b tt (record { left = n; right = subst (λ (c : Bool). T (not c)) (T-same-null a b s) n; kind = same_kind_lem a b s n; holds = s }),
+      of-compared Eq a b tt (record {
+        left = n;
+        right = subst (λ (c : Bool). T (not c)) (T-same-null a b s) n;
+        kind = same_kind_lem a b s n;
+        holds = s;
+      }),
 )
 
 distinct_test : (p q k t : Bool) → (p ≡ q) ⊎ T (not t) → (T t → T (not p) → T k) → is_true_code (cond (p || q) (known (p && q)) (cond k (known t) 0))
@@ -132,19 +138,23 @@ kind-turn : (a b : ScalarValue) → T (same_kind (kind_of a) (kind_of b)) → T 
 kind-turn a b t = eq→eqb (sym (eqb→eq (kind_code (kind_of a)) (kind_code (kind_of b)) t))
 
 -- one of the four says the same with its sides exchanged. Assumes values of their types
-pub compare-turned : (op : BinaryOp) (a b : ScalarValue) → Typed a → Typed b → T (bounding op) → compare_of op a b ≡ 2 → compare_of (reversed_op op) b a ≡ 2
+pub compare-turned : (op : BinaryOp) (a b : ScalarValue) → Typed a → Typed b → T (bounding op) → compare_of op a b ≡ 2 → compare_of (reversed_op op) b
+    a ≡ 2
 compare-turned op a b ta tb o e =
     let c = compared-of op a b (bounding-ordinary op o) e in
     of-compared (reversed_op op) b a (bounding-ordinary (reversed_op op) (subst T (sym (reversed_bounding op)) o))
     (record { left = c.right; right = c.left; kind = kind-turn a b c.kind; holds = turned-tests op a b ta tb o c.holds })
 
 -- and back. Assumes values of their types
-pub compare-turned-back : (op : BinaryOp) (a b : ScalarValue) → Typed a → Typed b → T (bounding op) → compare_of (reversed_op op) b a ≡ 2 → compare_of op a b ≡ 2
+pub compare-turned-back : (op : BinaryOp) (a b : ScalarValue) → Typed a → Typed b → T (bounding op) → compare_of (reversed_op op) b a ≡ 2 → compare_of
+    op a b ≡ 2
 compare-turned-back op a b ta tb o e =
-    subst (λ (c : BinaryOp). compare_of c a b ≡ 2) (reversed_twice op) (compare-turned (reversed_op op) b a tb ta (subst T (sym (reversed_bounding op)) o) e)
+    subst (λ (c : BinaryOp). compare_of c a b ≡ 2) (reversed_twice op) (compare-turned (reversed_op op) b a tb ta (subst T (sym (reversed_bounding
+    op)) o) e)
 
 -- the comparison of a value with a literal of its kind is its bound. Assumes values of their types
-pub tests-bound : (op : BinaryOp) → T (bounding op) → (v l : ScalarValue) → T (not (is_null v)) → T (same_kind (kind_of v) (kind_of l)) → Typed v → Typed l
+pub tests-bound : (op : BinaryOp) → T (bounding op) → (v l : ScalarValue) → T (not (is_null v)) → T (same_kind (kind_of v) (kind_of l)) → Typed v →
+    Typed l
     → (x : Float) → scalar_to_f64 l ≡ Of x → compared op v l ≡ ok_range (place_of v) (bounds_by op x)
 tests-bound op o v l n k tv tl x e = go op o (tested v l n k tv tl x e)
   where

@@ -125,13 +125,15 @@ module _ (node : ℕ → ExprData) (items : List ℕ) (row : WholeRow) where
   unfolding joined_of
   conjuncts_on = before-all (λ (h : ℕ). O h → AllOf O (conjuncts_of node items h)) step
     where
-      joined : (h : ℕ) → ((e : ℕ) → e < h → O e → AllOf O (conjuncts_of node items e)) → (es : List ℕ) → AllOf (λ (e : ℕ). truth_of (value_in (vals h) e) ≡ 2) es
+      joined : (h : ℕ) → ((e : ℕ) → e < h → O e → AllOf O (conjuncts_of node items e)) → (es : List ℕ) → AllOf (λ (e : ℕ). truth_of (value_in (vals h)
+          e) ≡ 2) es
           → AllOf O (joined_of (cons h) es)
       joined h ih [] a = tt
       joined h ih (e ∷ es) a =
           all_append O (get_or (cons h) e []) (joined_of (cons h) es)
           (elim (dec_lt e h) [
-            | yes l ↦ subst (AllOf O) (sym (conjuncts_before node items h e l)) (ih e l (ap truth_of (sym (value_in_lem row.cols node items h e l)) ∙ a.0))
+            | yes l ↦ subst (AllOf O) (sym (conjuncts_before node items h e l)) (ih e l (ap truth_of (sym (value_in_lem row.cols node items h e l)) ∙
+                a.0))
             | no l ↦ absurd (null-two (ap truth_of (sym (value-past row.cols node items h e (omega arith))) ∙ a.0))
           ])
           (joined h ih es a.1)
@@ -168,7 +170,8 @@ module _ (node : ℕ → ExprData) (items : List ℕ) (row : WholeRow) where
               joined h hn ih es b.1 (all_right O (get_or (cons h) e []) m a),
             )
 
-        go : (h : ℕ) → h < n → ((e : ℕ) → e < h → e < n → AllOf O (conjuncts_of node items e) → O e) → (x : ExprData) → OperandsBelow items h x → node h ≡ x
+        go : (h : ℕ) → h < n → ((e : ℕ) → e < h → e < n → AllOf O (conjuncts_of node items e) → O e) → (x : ExprData) → OperandsBelow items h x → node
+            h ≡ x
             → AllOf O (conjuncts_by (cons h) items h x) → O h
         go h hn ih (Literal v) b q a = a.0
         go h hn ih (ColumnRef c) b q a = a.0

@@ -87,14 +87,18 @@ abbrev self_plan : Plan
 self_plan = plan_of 4 0 0 0
 
 self-accepted : (apply_predicate self_plan fresh comparison).outcome ≡ Accepted
-unfolding apply_predicate plan_ok counts_within all_from expr_ok_of record_ok lists_ok row_of line_of bits_ok handle_ok count_of more_of item_ok operator_ok_of scans_of any_from
-    count_from facts_ok lineage_ok definition_ok set_ok parents_ok each empty_set empty_classes predicate_applied all_applied conjuncts_to joined_of conjunct_applied
+unfolding apply_predicate plan_ok counts_within all_from expr_ok_of record_ok lists_ok row_of line_of bits_ok handle_ok count_of more_of item_ok
+    operator_ok_of scans_of any_from
+    count_from facts_ok lineage_ok definition_ok set_ok parents_ok each empty_set empty_classes predicate_applied all_applied conjuncts_to joined_of
+    conjunct_applied
     comparison_by expr_data
 self-accepted = refl
 
 self-facts : (apply_predicate self_plan fresh comparison).facts.constraints ≡ add_non_null (union_values empty_set 0 0) 0
-unfolding apply_predicate plan_ok counts_within all_from expr_ok_of record_ok lists_ok row_of line_of bits_ok handle_ok count_of more_of item_ok operator_ok_of scans_of any_from
-    count_from facts_ok lineage_ok definition_ok set_ok parents_ok each empty_set empty_classes predicate_applied all_applied conjuncts_to joined_of conjunct_applied
+unfolding apply_predicate plan_ok counts_within all_from expr_ok_of record_ok lists_ok row_of line_of bits_ok handle_ok count_of more_of item_ok
+    operator_ok_of scans_of any_from
+    count_from facts_ok lineage_ok definition_ok set_ok parents_ok each empty_set empty_classes predicate_applied all_applied conjuncts_to joined_of
+    conjunct_applied
     comparison_by expr_data
 self-facts = refl
 
@@ -107,7 +111,8 @@ self_truth = refl
 
 -- x = x is accepted, and a row with a NaN meets its facts, which say that x is not NULL, though x = x is not TRUE of it. Assumes nothing
 pub nan_case : ((apply_predicate self_plan fresh comparison).outcome ≡ Accepted)
-    × (MeetsFacts self_plan (everywhere (S.Float64 nan)) (apply_predicate self_plan fresh comparison).facts × (On self_plan (everywhere (S.Float64 nan)) 2 → ⊥))
+    × (MeetsFacts self_plan (everywhere (S.Float64 nan)) (apply_predicate self_plan fresh comparison).facts × (On self_plan (everywhere (S.Float64
+    nan)) 2 → ⊥))
 nan_case = (self-accepted, (self-meets, λ e. let z = sym self_truth ∙ e in absurd (omega (arith, z))))
 
 -- ---- z < 5 with an Int32 5, on an Int64 column
@@ -115,14 +120,18 @@ abbrev mixed_plan : Plan
 mixed_plan = plan_of 3 5 2 1
 
 mixed_accepted : (apply_predicate mixed_plan fresh comparison).outcome ≡ Accepted
-unfolding apply_predicate plan_ok counts_within all_from expr_ok_of record_ok lists_ok row_of line_of bits_ok handle_ok count_of more_of item_ok operator_ok_of scans_of any_from
-    count_from facts_ok lineage_ok definition_ok set_ok parents_ok each empty_set empty_classes predicate_applied all_applied conjuncts_to joined_of conjunct_applied
+unfolding apply_predicate plan_ok counts_within all_from expr_ok_of record_ok lists_ok row_of line_of bits_ok handle_ok count_of more_of item_ok
+    operator_ok_of scans_of any_from
+    count_from facts_ok lineage_ok definition_ok set_ok parents_ok each empty_set empty_classes predicate_applied all_applied conjuncts_to joined_of
+    conjunct_applied
     comparison_by expr_data add_range
 mixed_accepted = refl
 
 mixed_facts : (apply_predicate mixed_plan fresh comparison).facts.constraints ≡ add_bound empty_set 0 Lt (of_int binary64 (pos 5))
-unfolding apply_predicate plan_ok counts_within all_from expr_ok_of record_ok lists_ok row_of line_of bits_ok handle_ok count_of more_of item_ok operator_ok_of scans_of any_from
-    count_from facts_ok lineage_ok definition_ok set_ok parents_ok each empty_set empty_classes predicate_applied all_applied conjuncts_to joined_of conjunct_applied
+unfolding apply_predicate plan_ok counts_within all_from expr_ok_of record_ok lists_ok row_of line_of bits_ok handle_ok count_of more_of item_ok
+    operator_ok_of scans_of any_from
+    count_from facts_ok lineage_ok definition_ok set_ok parents_ok each empty_set empty_classes predicate_applied all_applied conjuncts_to joined_of
+    conjunct_applied
     comparison_by expr_data add_range
 mixed_facts = refl
 
@@ -137,7 +146,8 @@ pub mixed_case : ((apply_predicate mixed_plan fresh comparison).outcome ≡ Acce
 mixed_case = (
   mixed_accepted,
   (
-    subst (Meets (On mixed_plan (everywhere (S.Int64 (pos 3)))) threes) (sym mixed_facts) (mixed_meets (On mixed_plan (everywhere (S.Int64 (pos 3))))),
+    subst (Meets (On mixed_plan (everywhere (S.Int64 (pos 3)))) threes) (sym mixed_facts) (mixed_meets (On mixed_plan (everywhere (S.Int64 (pos
+        3))))),
     λ e. let z = sym mixed_truth ∙ e in absurd (omega (arith, z)),
   ),
 )
@@ -147,8 +157,10 @@ abbrev plain_plan : Plan
 plain_plan = plan_of 2 7 2 1
 
 plain-accepted : (apply_predicate plain_plan fresh comparison).outcome ≡ Accepted
-unfolding apply_predicate plan_ok counts_within all_from expr_ok_of record_ok lists_ok row_of line_of bits_ok handle_ok count_of more_of item_ok operator_ok_of scans_of any_from
-    count_from facts_ok lineage_ok definition_ok set_ok parents_ok each empty_set empty_classes predicate_applied all_applied conjuncts_to joined_of conjunct_applied
+unfolding apply_predicate plan_ok counts_within all_from expr_ok_of record_ok lists_ok row_of line_of bits_ok handle_ok count_of more_of item_ok
+    operator_ok_of scans_of any_from
+    count_from facts_ok lineage_ok definition_ok set_ok parents_ok each empty_set empty_classes predicate_applied all_applied conjuncts_to joined_of
+    conjunct_applied
     comparison_by expr_data add_range
 plain-accepted = refl
 
@@ -163,7 +175,8 @@ plain-kinds = record { columns = of-column; comparisons = of-comparison }
   where
     of-column : (c : ℕ) → T (has_lineage lineage c) → T (same_kind (kind_of_code (get_or plain_plan.columns.kind c 0)) K.Int32)
     of-column zero t = tt
-    of-column (suc c) t = absurd (T_not (eqb (get_or (replicate 63 0) c 0) 0) t (subst (λ (k : ℕ). T (eqb k 0)) (sym (get_d_replicate-self 63 c 0)) tt))
+    of-column (suc c) t = absurd (T_not (eqb (get_or (replicate 63 0) c 0) 0) t (subst (λ (k : ℕ). T (eqb k 0)) (sym (get_d_replicate-self 63 c 0))
+        tt))
 
     of-comparison : (h : ℕ) → h < 3 → OneKinded plain_plan.columns.kind (node_at plain_plan) (node_at plain_plan h)
     of-comparison zero l = tt

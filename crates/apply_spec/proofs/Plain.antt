@@ -60,7 +60,8 @@ no_nan k (S.Float64 (fin s m e)) n t = tt
 no_nan k (S.Date32 x) n t = tt
 
 -- so of Int32 and Boolean identities nothing is asked but that values are of their kinds. Assumes nothing
-pub whole_kinded : (kinds : ℕ → Kind) (v : ℕ → ScalarValue) → ((i : ℕ) → T (int_or_boolean (kinds i))) → ((i : ℕ) → T (of_kind (kinds i) (v i))) → Kinded kinds v
+pub whole_kinded : (kinds : ℕ → Kind) (v : ℕ → ScalarValue) → ((i : ℕ) → T (int_or_boolean (kinds i))) → ((i : ℕ) → T (of_kind (kinds i) (v i))) →
+    Kinded kinds v
 whole_kinded kinds v w o = record { of = o; number = λ i. no_nan (kinds i) (v i) (other (kinds i) (w i)) (o i) }
   where
     other : (k : Kind) → T (int_or_boolean k) → T (not (same_kind k K.Float64))
@@ -149,6 +150,7 @@ module _ (p : Plan) (wide : Wide p) (kinds : ℕ → Kind) (row : WholeRow) (k :
 -- kind on both sides. Assumes nothing else
 pub sequence_whole : (p : Plan) → Wide p → (kinds : ℕ → Kind) → ((i : ℕ) → T (int_or_boolean (kinds i))) → (row : WholeRow)
     → ((i : ℕ) → T (of_kind (kinds i) (row.ids i)))
-    → (lineage definitions : List ℕ) → length lineage ≡ 64 → OneKindPlan p lineage kinds → Consistent lineage row → (es : List Expr) (g : LogicalFacts)
+    → (lineage definitions : List ℕ) → length lineage ≡ 64 → OneKindPlan p lineage kinds → Consistent lineage row → (es : List Expr) (g :
+    LogicalFacts)
     → AcceptedAll p (fresh_facts lineage definitions) es g → MeetsFacts p row g ↔ AllOn p row es
 sequence_whole p wide kinds w row o = sequence_plain p wide kinds row (whole_kinded kinds row.ids w o)

@@ -36,7 +36,8 @@ module _ (below : List (List ℕ)) (items : List ℕ) (h : ℕ) where
     pub other-entry : is_and kind code h ≡ false → conjuncts_by below items h (node_of kind code a b bits start h) ≡ h ∷ []
     unfolding expr_data
     other-entry lacks =
-        itself (eqb (get_or kind h 0) 0x20) (eqb (get_or kind h 0) 0x21) (eqb (get_or kind h 0) 0x22) (eqb (get_or kind h 0) 0x23) (eqb (get_or code h 0) 0) _ _ _ _ _ _
+        itself (eqb (get_or kind h 0) 0x20) (eqb (get_or kind h 0) 0x21) (eqb (get_or kind h 0) 0x22) (eqb (get_or kind h 0) 0x23) (eqb (get_or code h
+        0) 0) _ _ _ _ _ _
         _ _ lacks
 
     pub and-entry : is_and kind code h ≡ true

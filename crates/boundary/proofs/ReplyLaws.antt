@@ -27,7 +27,8 @@ use Rattle.rows_spec.specs.declared.Row.{Row}
 use Rattle.rows_spec.specs.declared.Evaluation.{Evaluation}
 use Rattle.simplify_spec.specs.OneOperator as Simplifying
 use Rattle.simplify_spec.specs.declared.Rewritten.{Rewritten}
-use Rattle.boundary.specs.Replies.{head_of, read_reply, on_plan, evaluate_reply, rewrite_reply, simplify_reply, cells_to, known_reply, derived_reply, derive_reply}
+use Rattle.boundary.specs.Replies.{head_of, read_reply, on_plan, evaluate_reply, rewrite_reply, simplify_reply, cells_to, known_reply, derived_reply}
+use Rattle.boundary.specs.Replies.{derive_reply}
 use Rattle.boundary.specs.Replies.{facts_reply, turn_by, in_turn, turn_reply, applied_reply, apply_reply}
 use Rattle.boundary.specs.declared.InTurn.{InTurn}
 
@@ -115,13 +116,19 @@ module _ (p : Plan) (l : List ℕ) where
   unfolding in_turn
   turn-done f k h = rw (drop_of_length-le l {i = k} h)
 
-  module _ (f : LogicalFacts) (k : ℕ) (h : k < length l) (e : ℕ) (ee : e ≡ get_or l k 0) (a : FactsAnswer) (ea : a ≡ apply_predicate p f (record { 0 = e }))
+  module _ (f : LogicalFacts) (k : ℕ) (h : k < length l) (e : ℕ) (ee : e ≡ get_or l k 0) (a : FactsAnswer) (ea : a ≡ apply_predicate p f (record {
+    0 =
+        e;
+  }))
       (n : ℕ) (en : n ≡ Applying.refusal_of a.outcome) where
     told-turn : in_turn p f (drop k l) k ≡ turn_by a k (λ g. in_turn p g (drop (suc k) l) (suc k))
     unfolding in_turn
     told-turn =
         ap (λ (m : List ℕ). in_turn p f m k) (drop-cons l k 0 h)
-        ∙ ap (λ (b : FactsAnswer). turn_by b k (λ g. in_turn p g (drop (suc k) l) (suc k))) (sym (ea ∙ ap (λ (x : ℕ). apply_predicate p f (record { 0 = x })) ee))
+        ∙ ap (λ (b : FactsAnswer). turn_by b k (λ g. in_turn p g (drop (suc k) l) (suc k))) (sym (ea ∙ ap (λ (x : ℕ). apply_predicate p f (record {
+          0
+              = x;
+        })) ee))
 
     pub turn-refused : (n ≡ 0 → ⊥) → record { facts = a.facts; outcome = a.outcome; place = k } ≡ in_turn p f (drop k l) k
     turn-refused z = sym (told-turn ∙ chosen)
@@ -143,13 +150,15 @@ pub read-said : (a b : Answer) → a ≡ b → head_of (Files.refusal_of a.readi
 unfolding read_reply
 read-said a b e = ap read_reply e
 
-pub evaluate_said : (p : Plan) (e : ℕ) (row : Row) (v : Evaluation) (n t : ℕ) → v ≡ Evaluating.evaluate_of p (record { 0 = e }) row → n ≡ Evaluating.refusal_of
+pub evaluate_said : (p : Plan) (e : ℕ) (row : Row) (v : Evaluation) (n t : ℕ) → v ≡ Evaluating.evaluate_of p (record { 0 = e }) row → n ≡
+    Evaluating.refusal_of
     v → t ≡ truth_found v
     → head_of n t ≡ evaluate_reply e row p
 unfolding evaluate_reply
 evaluate_said p e row v n t ev en et = (λ i. head_of (en i) (et i)) ∙ ap (λ (w : Evaluation). head_of (Evaluating.refusal_of w) (truth_found w)) ev
 
-pub simplify_said : (p : Plan) (o : ℕ) (r : Rewritten) (n s : ℕ) → r ≡ Simplifying.simplify_of p (record { 0 = o }) → n ≡ Simplifying.refusal_of r.rewrite
+pub simplify_said : (p : Plan) (o : ℕ) (r : Rewritten) (n s : ℕ) → r ≡ Simplifying.simplify_of p (record { 0 = o }) → n ≡ Simplifying.refusal_of
+    r.rewrite
     → s ≡ standing_of r.rewrite
     → head_of n s ++ written_of r.plan ≡ simplify_reply o p
 unfolding simplify_reply rewrite_reply

@@ -21,10 +21,14 @@ use Rattle.cases.specs.CaseTable.{cases, Holds}
 
 -- every case of the table holds. Assumes nothing
 pub cases_hold : AllOf Holds cases
-unfolding apply_predicate plan_ok counts_within all_from expr_ok_of record_ok lists_ok row_of line_of bits_ok handle_ok count_of more_of item_ok operator_ok_of scans_of any_from
-    count_from facts_ok lineage_ok definition_ok set_ok parents_ok each empty_set empty_classes predicate_applied all_applied conjuncts_to joined_of conjunct_applied
-    comparison_by expr_data add_range add_non_null put_non_null add_literal put_literal add_bound put_range lay_range cross_check union_values normalized non_nulls_moved
-    literals_moved ranges_moved steps_to add_residual push_residual union_of joined root_of climb parent_in lt eq of_int simplify_at simplify_below operands_from nary_of
+unfolding apply_predicate plan_ok counts_within all_from expr_ok_of record_ok lists_ok row_of line_of bits_ok handle_ok count_of more_of item_ok
+    operator_ok_of scans_of any_from
+    count_from facts_ok lineage_ok definition_ok set_ok parents_ok each empty_set empty_classes predicate_applied all_applied conjuncts_to joined_of
+    conjunct_applied
+    comparison_by expr_data add_range add_non_null put_non_null add_literal put_literal add_bound put_range lay_range cross_check union_values
+    normalized non_nulls_moved
+    literals_moved ranges_moved steps_to add_residual push_residual union_of joined root_of climb parent_in lt eq of_int simplify_at simplify_below
+    operands_from nary_of
     rebuilt
 cases_hold = (
   (refl, refl),

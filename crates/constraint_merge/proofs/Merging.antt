@@ -50,7 +50,8 @@ pub chained-none : (ms : Members) (r n m : ℕ) (t : ConstraintSet) → n ≡ 0 
 unfolding chained
 chained-none ms r n m t e = rw e
 
-pub chained-step : (ms : Members) (r n m : ℕ) (t u : ConstraintSet) → 0 < n → m < 128 → u ≡ union_values t r m → chained ms r (n - 1) (get_or ms.next m 0) u
+pub chained-step : (ms : Members) (r n m : ℕ) (t u : ConstraintSet) → 0 < n → m < 128 → u ≡ union_values t r m → chained ms r (n - 1) (get_or ms.next
+    m 0) u
     ≡ chained ms r n m t
 unfolding chained
 chained-step ms r zero m t u z h e = absurd (omega arith)
@@ -78,15 +79,18 @@ module _ (c : ValueEquivalenceClasses) (r : ℕ) where
   to-next m t h e =
       let lo : suc m ≤ next_member c m = omega (arith, first-at-least c (canonical_of c m) (m + 1)) in
       sym (joins m (steps_to f m t) e)
-      ∙ sym (steps-skip f t (next_member c m) (suc m) lo (λ j a b u. idle j u (λ d. first_skips c (canonical_of c m) (m + 1) j (omega arith) b (d ∙ sym e))))
+      ∙ sym (steps-skip f t (next_member c m) (suc m) lo (λ j a b u. idle j u (λ d. first_skips c (canonical_of c m) (m + 1) j (omega arith) b (d ∙
+      sym e))))
 
-  chain_all : (n m : ℕ) (t : ConstraintSet) → 128 ≤ m + n → m ≤ 128 → (m < 128 → canonical_of c m ≡ r) → chained ms r n m (steps_to f m t) ≡ steps_to f 128 t
+  chain_all : (n m : ℕ) (t : ConstraintSet) → 128 ≤ m + n → m ≤ 128 → (m < 128 → canonical_of c m ≡ r) → chained ms r n m (steps_to f m t) ≡ steps_to
+      f 128 t
   unfolding chained
   chain_all zero m t lo hi e = let d : m ≡ 128 = omega arith in rw d
   chain_all (suc n) m t lo hi e = elim (dec_lt m 128) [
     | yes h ↦ (let g = e h in
         rw (lt-ltb _ _ h, next-at c m h, to-next m t h g)
-        (chain_all n (next_member c m) t (omega (arith, first-at-least c (canonical_of c m) (m + 1))) (first-at_most c (canonical_of c m) (m + 1) (omega arith))
+        (chain_all n (next_member c m) t (omega (arith, first-at-least c (canonical_of c m) (m + 1))) (first-at_most c (canonical_of c m) (m + 1)
+        (omega arith))
         (λ b. first_member_lem c (canonical_of c m) (m + 1) (omega arith) b ∙ g)))
     | no h ↦ (let d : m ≡ 128 = omega arith in rw (le-ltb m 128 (omega arith), d))
   ]
@@ -115,10 +119,12 @@ abbrev pub join_chain : Members → ℕ → ConstraintSet → ConstraintSet
 join_chain ms r t = chained ms r 128 (second_of ms r) t
 
 -- all classes
-pub classes-joined : (c : ValueEquivalenceClasses) (s : ConstraintSet) (n : ℕ) → n ≤ 128 → steps_to (join_chain (members_of c)) n s ≡ steps_to (join_class c) n s
+pub classes-joined : (c : ValueEquivalenceClasses) (s : ConstraintSet) (n : ℕ) → n ≤ 128 → steps_to (join_chain (members_of c)) n s ≡ steps_to
+    (join_class c) n s
 unfolding steps_to
 classes-joined c s zero h = refl
-classes-joined c s (suc n) h = chain_class c n (omega arith) (steps_to (join_chain (members_of c)) n s) ∙ ap (join_class c n) (classes-joined c s n (omega arith))
+classes-joined c s (suc n) h = chain_class c n (omega arith) (steps_to (join_chain (members_of c)) n s) ∙ ap (join_class c n) (classes-joined c s n
+    (omega arith))
 
 -- ---- the entries of another set laid into t
 module _ (i : ℕ) (t : ConstraintSet) where

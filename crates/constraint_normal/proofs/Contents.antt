@@ -58,7 +58,8 @@ pub holder-back : (root : Bool) (h : Holder) → (root ≡ false → h ≡ none)
 unfolding ready_holder literal_on blank_scalar
 holder-back root h = go root h.present h.value
   where
-    go : (r p : Bool) (v : ScalarValue) → (r ≡ false → holder p v ≡ none) → literal_on none (holder p v) ≡ holder p v → ready_holder r (holder p v) ≡ true
+    go : (r p : Bool) (v : ScalarValue) → (r ≡ false → holder p v ≡ none) → literal_on none (holder p v) ≡ holder p v → ready_holder r (holder p v) ≡
+        true
     go true true v a s = refl
     go false true v a s = absurd (true≢false (ap (λ (h : Holder). h.present) (a refl)))
     go r false v a s = subst (λ (h : Holder). blank_scalar h.value ≡ true) s refl
@@ -96,7 +97,8 @@ lower-same : (b : Bound) → T (fits binary64 b.value) → ready_bound b ≡ tru
 unfolding ready_bound
 lower-same b = go b.value b.present b.inclusive
   where
-    go : (x : Float) (p i : Bool) → T (fits binary64 x) → ready_bound (bound x p i) ≡ true → lower_by unbounded_range (bound x p i) ≡ between (bound x p i) no_bound
+    go : (x : Float) (p i : Bool) → T (fits binary64 x) → ready_bound (bound x p i) ≡ true → lower_by unbounded_range (bound x p i) ≡ between (bound x
+        p i) no_bound
     go x true i f e = refl
     go x false i f e = ap (λ (c : Bound). between c no_bound) (sym (blank-bound (bound x false i) f e))
 
@@ -104,11 +106,13 @@ upper_same : (l b : Bound) → T (fits binary64 b.value) → ready_bound b ≡ t
 unfolding ready_bound
 upper_same l b = go b.value b.present b.inclusive
   where
-    go : (x : Float) (p i : Bool) → T (fits binary64 x) → ready_bound (bound x p i) ≡ true → upper_by (between l no_bound) (bound x p i) ≡ between l (bound x p i)
+    go : (x : Float) (p i : Bool) → T (fits binary64 x) → ready_bound (bound x p i) ≡ true → upper_by (between l no_bound) (bound x p i) ≡ between l
+        (bound x p i)
     go x true i f e = refl
     go x false i f e = ap (λ (c : Bound). between l c) (sym (blank-bound (bound x false i) f e))
 
-range_same : (l u : Bound) → T (fits binary64 l.value) → T (fits binary64 u.value) → ready_bound l && ready_bound u ≡ true → tighten_by unbounded_range
+range_same : (l u : Bound) → T (fits binary64 l.value) → T (fits binary64 u.value) → ready_bound l && ready_bound u ≡ true → tighten_by
+    unbounded_range
     (between l u) ≡ between l u
 range_same l u fl fu e = ap (λ (t : ValueRange). upper_by t u) (lower-same l fl (and_left (ready_bound l) (ready_bound u) e)) ∙ upper_same l u fu
     (and_right (ready_bound l) (ready_bound u) e)
@@ -116,7 +120,8 @@ range_same l u fl fu e = ap (λ (t : ValueRange). upper_by t u) (lower-same l fl
 abbrev entry : Bool → ValueRange → Entry
 entry p r = record { present = p; range = r }
 
-blank-entry : (l u : Bound) → T (fits binary64 l.value) → T (fits binary64 u.value) → blank_bound l && blank_bound u ≡ true → entry false (between l u)
+blank-entry : (l u : Bound) → T (fits binary64 l.value) → T (fits binary64 u.value) → blank_bound l && blank_bound u ≡ true → entry false (between l
+    u)
     ≡ no_entry
 blank-entry l u fl fu e = λ i. entry false (between (blank-bound l fl (and_left (blank_bound l) (blank_bound u) e) i)
     (blank-bound u fu (and_right (blank_bound l) (blank_bound u) e) i))
@@ -125,7 +130,8 @@ pub entry-away : (e : Entry) → FitsEntry e → ready_entry false e ≡ true �
 unfolding ready_entry
 entry-away e = go e.present e.range.lower e.range.upper
   where
-    go : (p : Bool) (l u : Bound) → FitsEntry (entry p (between l u)) → ready_entry false (entry p (between l u)) ≡ true → entry p (between l u) ≡ no_entry
+    go : (p : Bool) (l u : Bound) → FitsEntry (entry p (between l u)) → ready_entry false (entry p (between l u)) ≡ true → entry p (between l u) ≡
+        no_entry
     go true l u f t = absurd (false≢true t)
     go false l u f t = blank-entry l u f.0 f.1 t
 
@@ -181,7 +187,8 @@ pub entry-back : (root : Bool) (e : Entry) → (root ≡ false → e ≡ no_entr
 unfolding ready_entry range_on
 entry-back root e = go root e.present e.range.lower e.range.upper
   where
-    go : (r p : Bool) (l u : Bound) → (r ≡ false → entry p (between l u) ≡ no_entry) → range_on no_entry (entry p (between l u)) ≡ entry p (between l u)
+    go : (r p : Bool) (l u : Bound) → (r ≡ false → entry p (between l u) ≡ no_entry) → range_on no_entry (entry p (between l u)) ≡ entry p (between l
+        u)
         → Bounded (entry p (between l u)) → ready_entry r (entry p (between l u)) ≡ true
     go true true l u a s t = and_both (ready_bound l) (ready_bound u) (lower-back l u (ap (λ (e : Entry). e.range) s) (t refl).0)
         (upper_back l u (ap (λ (e : Entry). e.range) s) (t refl).1)
@@ -240,7 +247,8 @@ uncrossed flag h e = go flag (e.present && empty_range e.range) (crossed h e)
     go false true c q t = absurd (false≢true q)
     go false false c q t = not-true c q
 
-pub quiet-back : (flag : Bool) (h : Holder) (e : Entry) → ((e.present && empty_range e.range) ≡ true → flag ≡ true) → (crossed h e ≡ true → flag ≡ true)
+pub quiet-back : (flag : Bool) (h : Holder) (e : Entry) → ((e.present && empty_range e.range) ≡ true → flag ≡ true) → (crossed h e ≡ true → flag ≡
+    true)
     → (flag || quiet_place h e) ≡ true
 unfolding quiet_place
 quiet-back flag h e = go flag (e.present && empty_range e.range) (crossed h e)

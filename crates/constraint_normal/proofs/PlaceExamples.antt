@@ -52,14 +52,22 @@ nan-bound : ready_place true true true none (entry_of (record { lower = bound_at
 unfolding ready_place ready_holder blank_scalar ready_entry ready_bound is_nan
 nan-bound = refl
 
-one-bound : ready_place true false true (held (S.Int64 (pos 7))) (entry_of (record { lower = bound_at (fin false 7 (pos 0)) true; upper = no_bound })) ≡ true
+one-bound : ready_place true false true (held (S.Int64 (pos 7))) (entry_of (record { lower = bound_at (fin false 7 (pos 0)) true; upper = no_bound }))
+    ≡ true
 unfolding ready_place ready_holder blank_scalar ready_entry ready_bound blank_bound quiet_place is_nan to_bits lt eq of_int
 one-bound = refl
 
-outside_unsaid : ready_place true false true (held (S.Int64 (pos 7))) (entry_of (record { lower = bound_at (fin false 7 (pos 0)) false; upper = no_bound })) ≡ false
+outside_unsaid : ready_place true false true (held (S.Int64 (pos 7))) (entry_of (record {
+  lower = bound_at (fin false 7 (pos 0)) false;
+  upper =
+      no_bound;
+})) ≡ false
 unfolding ready_place ready_holder blank_scalar ready_entry ready_bound blank_bound quiet_place is_nan to_bits lt eq of_int
 outside_unsaid = refl
 
-outside-said : ready_place true true true (held (S.Int64 (pos 7))) (entry_of (record { lower = bound_at (fin false 7 (pos 0)) false; upper = no_bound })) ≡ true
+outside-said : ready_place true true true (held (S.Int64 (pos 7))) (entry_of (record {
+  lower = bound_at (fin false 7 (pos 0)) false;
+  upper = no_bound;
+})) ≡ true
 unfolding ready_place ready_holder blank_scalar ready_entry ready_bound blank_bound is_nan to_bits
 outside-said = refl

@@ -11,7 +11,8 @@ use Rattle.lists.proofs.RangeLaws.{table, all_of, any_none}
 use Rattle.value_classes.specs.Classes.{classes_ok, empty_classes}
 use Rattle.value_classes.proofs.ClassLaws.{falling-ok, alone_canonical}
 use Rattle.value_classes.proofs.Chains.{empty-sound}
-use Rattle.constraint_spec.specs.Sets.{none, no_entry, blank, classes_of, non_nulls, literals, non_null_at, literal_at, entry_at, canonical_at, crossed_at, empty_set}
+use Rattle.constraint_spec.specs.Sets.{none, no_entry, blank, classes_of, non_nulls, literals, non_null_at, literal_at, entry_at, canonical_at}
+use Rattle.constraint_spec.specs.Sets.{crossed_at, empty_set}
 use Rattle.constraint_spec.specs.declared.Holder.{Holder}
 use Rattle.constraint_spec.specs.declared.Entry.{Entry}
 use Rattle.constraint_spec.specs.declared.ConstraintSet.{ConstraintSet}

@@ -106,7 +106,8 @@ module _ (s : ConstraintSet) (c : Checked s) (r : ℕ) (low : r < 128) (l : Scal
   pub one_place : cross_check after ≡ flag_if (crossed_at after r) after
   one_place = one-place_only s after c r low other stays
 
-  pub literal-checked : (i : ℕ) → i < 128 → r ≡ canonical_at s i → is_null l ≡ false → (u : ConstraintSet) (x : Bool) → u ≡ after → x ≡ crossed_at u r → flag_if x
+  pub literal-checked : (i : ℕ) → i < 128 → r ≡ canonical_at s i → is_null l ≡ false → (u : ConstraintSet) (x : Bool) → u ≡ after → x ≡ crossed_at u r
+      → flag_if x
       u ≡ add_literal s i l
   literal-checked i h d n u x eu ex =
       ap (λ (b : Bool). flag_if b u) ex ∙ ap (λ (v : ConstraintSet). flag_if (crossed_at v r) v) eu ∙ sym one_place

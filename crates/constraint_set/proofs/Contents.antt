@@ -120,7 +120,8 @@ clean_in : (x : Entry) → range_on no_entry x ≡ x → Clean (range_in x)
 unfolding range_on
 clean_in x e = go x.present x.range e
   where
-    go : (p : Bool) (r : ValueRange) → ◌≡◌ {A = Entry} (cond p (entry_of (tighten_by unbounded_range r)) no_entry) (record { present = p; range = r }) → Clean
+    go : (p : Bool) (r : ValueRange) → ◌≡◌ {A = Entry} (cond p (entry_of (tighten_by unbounded_range r)) no_entry) (record { present = p; range = r })
+        → Clean
         (cond p r unbounded_range)
     go true r e = ap (λ (y : Entry). y.range) e
     go false r e = refl
@@ -129,16 +130,23 @@ pub range-again : (x y : Entry) → range_on no_entry x ≡ x → range_on no_en
 unfolding range_on
 range-again x y e = go y.present y.range (λ r. clean-tightened (range_in x) r (clean_in x e))
   where
-    go : (p : Bool) (r : ValueRange) → ((r : ValueRange) → Clean (tighten_by (range_in x) r)) → range_on no_entry (range_on x (record { present = p; range = r }))
+    go : (p : Bool) (r : ValueRange) → ((r : ValueRange) → Clean (tighten_by (range_in x) r)) → range_on no_entry (range_on x (record {
+      present = p;
+      range = r;
+    }))
         ≡ range_on x (record { present = p; range = r })
     go true r c = ap entry_of (c r)
     go false r c = e
 
-pub range_tells : (x y : Entry) → range_on no_entry x ≡ x → range_bad no_entry (range_on x y) ≡ true → (range_bad x y ≡ true) ⊎ (range_bad no_entry x ≡ true)
+pub range_tells : (x y : Entry) → range_on no_entry x ≡ x → range_bad no_entry (range_on x y) ≡ true → (range_bad x y ≡ true) ⊎ (range_bad no_entry x
+    ≡ true)
 unfolding range_on range_bad
 range_tells x y e t = go y.present y.range (λ r. clean-tightened (range_in x) r (clean_in x e)) t
   where
-    go : (p : Bool) (r : ValueRange) → ((r : ValueRange) → Clean (tighten_by (range_in x) r)) → range_bad no_entry (range_on x (record { present = p; range = r }))
+    go : (p : Bool) (r : ValueRange) → ((r : ValueRange) → Clean (tighten_by (range_in x) r)) → range_bad no_entry (range_on x (record {
+      present = p;
+      range = r;
+    }))
         ≡ true
         → (range_bad x (record { present = p; range = r }) ≡ true) ⊎ (range_bad no_entry x ≡ true)
     go true r c t = inl (ap empty_range (sym (c r)) ∙ t)
@@ -180,12 +188,14 @@ module _ (s : ConstraintSet) where
   lit_up l f = with_flag (with_literals s l) f
 
   one-literal : (l : List Holder) (f : Bool) (r : ℕ) (h : Holder)
-      → cond h.present (put_literal (lit_up l f) r h.value) (lit_up l f) ≡ lit_up (set l r (literal_on (get_or l r none) h)) (f || literal_bad (get_or l r none) h)
+      → cond h.present (put_literal (lit_up l f) r h.value) (lit_up l f) ≡ lit_up (set l r (literal_on (get_or l r none) h)) (f || literal_bad (get_or
+      l r none) h)
   unfolding put_literal literal_on literal_bad
   one-literal l f r h = go h.present h.value
     where
       go : (p : Bool) (v : ScalarValue) → cond p (put_literal (lit_up l f) r v) (lit_up l f)
-          ≡ lit_up (set l r (cond p (cond (clashes (get_or l r none) v) (get_or l r none) (held v)) (get_or l r none))) (f || (p && clashes (get_or l r none) v))
+          ≡ lit_up (set l r (cond p (cond (clashes (get_or l r none) v) (get_or l r none) (held v)) (get_or l r none))) (f || (p && clashes (get_or l
+          r none) v))
       go true v = refl
       go false v = λ i. lit_up (sym (set-get_or l r none) i) (sym (or-false f) i)
 
@@ -210,7 +220,8 @@ module _ (s : ConstraintSet) where
         ∙ ap (λ (x : Holder). lit_up (literals_to (suc k)) (clash_to k || literal_bad x (literal_at s k)))
         (filled_at none literal_on (canonical_at s) none (literals s) low k (canonical_at s k) (omega arith) (low k (omega arith)))
 
-    ranges_are : (k : ℕ) → k ≤ 128 → steps_to (move_range s) k (with_ranges s (replicate 128 no_entry)) ≡ with_flag (with_ranges s (ranges_to k)) (empty_to k)
+    ranges_are : (k : ℕ) → k ≤ 128 → steps_to (move_range s) k (with_ranges s (replicate 128 no_entry)) ≡ with_flag (with_ranges s (ranges_to k))
+        (empty_to k)
     unfolding steps_to filled_to flag_to
     ranges_are zero h = refl
     ranges_are (suc k) h =

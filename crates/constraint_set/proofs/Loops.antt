@@ -21,7 +21,8 @@ use Rattle.constraint_spec.specs.declared.ConstraintSet.{ConstraintSet}
 use Rattle.constraint_spec.proofs.Steps.{steps_next}
 
 -- a test that is kept in a flag, place by place
-pub any-again : (f : ℕ → Bool) (i e : ℕ) (bad all : Bool) → i < e → (bad || any_from f i (e - i)) ≡ all → ((bad || f i) || any_from f (i + 1) (e - (i + 1))) ≡ all
+pub any-again : (f : ℕ → Bool) (i e : ℕ) (bad all : Bool) → i < e → (bad || any_from f i (e - i)) ≡ all → ((bad || f i) || any_from f (i + 1) (e - (i
+    + 1))) ≡ all
 any-again f i e bad all h v = assoc bad (f i) (any_from f (i + 1) (e - (i + 1))) ∙ ap (λ (b : Bool). bad || b) (sym (any_step f i e h)) ∙ v
   where
     assoc : (a b c : Bool) → ((a || b) || c) ≡ (a || (b || c))
@@ -44,12 +45,14 @@ pub literal-put : (t : ConstraintSet) (r : ℕ) (l : ScalarValue) (clash : Bool)
 unfolding put_literal
 literal-put t r l clash now ec en = rw (← ec, ← en)
 
-pub range_lay : (t : ConstraintSet) (r : ℕ) (new range : ValueRange) (now : Entry) → range ≡ tighten_by (range_in (entry_at t r)) new → now ≡ entry_of range
+pub range_lay : (t : ConstraintSet) (r : ℕ) (new range : ValueRange) (now : Entry) → range ≡ tighten_by (range_in (entry_at t r)) new → now ≡ entry_of
+    range
     → range_written t r now ≡ lay_range t r new
 unfolding lay_range
 range_lay t r new range now er en = rw (← er, ← en)
 
-pub range-put : (t : ConstraintSet) (r : ℕ) (new range : ValueRange) (now : Entry) (empty : Bool) → range ≡ tighten_by (range_in (entry_at t r)) new → now
+pub range-put : (t : ConstraintSet) (r : ℕ) (new range : ValueRange) (now : Entry) (empty : Bool) → range ≡ tighten_by (range_in (entry_at t r)) new →
+    now
     ≡ entry_of range → empty ≡ empty_range range
     → flag_if empty (range_written t r now) ≡ put_range t r new
 unfolding put_range lay_range
@@ -60,7 +63,8 @@ abbrev pub null_written : ConstraintSet → ℕ → ConstraintSet
 null_written s r = with_non_nulls s (set (non_nulls s) r true)
 
 module _ (s : ConstraintSet) (i : ℕ) (h : i < 128) (r : ℕ) (d : r ≡ canonical_at s i) where
-  pub literal-added : (l : ScalarValue) (u q : ConstraintSet) → is_null l ≡ false → u ≡ put_literal (put_non_null s r) r l → q ≡ cross_check u → q ≡ add_literal s i l
+  pub literal-added : (l : ScalarValue) (u q : ConstraintSet) → is_null l ≡ false → u ≡ put_literal (put_non_null s r) r l → q ≡ cross_check u → q ≡
+      add_literal s i l
   unfolding add_literal
   literal-added l u q n eu eq = rw (lt-ltb _ _ h, n, ← d) (eq ∙ ap cross_check eu)
 
@@ -75,7 +79,8 @@ unfoldable pub ranges_after : ConstraintSet → ℕ → ConstraintSet
 ranges_after s i = steps_to (move_range s) i (with_ranges s (replicate 128 no_entry))
 
 module _ (s : ConstraintSet) (i : ℕ) (t : ConstraintSet) where
-  pub null-moved : (r : ℕ) → t ≡ nulls_after s i → non_null_at s i ≡ true → r ≡ canonical_at s i → with_non_nulls t (set (non_nulls t) r true) ≡ nulls_after s (i + 1)
+  pub null-moved : (r : ℕ) → t ≡ nulls_after s i → non_null_at s i ≡ true → r ≡ canonical_at s i → with_non_nulls t (set (non_nulls t) r true) ≡
+      nulls_after s (i + 1)
   unfolding nulls_after put_non_null
   null-moved r v e d = steps_next (move_non_null s) _ i t _ v (rw (e, ← d))
 
@@ -84,7 +89,8 @@ module _ (s : ConstraintSet) (i : ℕ) (t : ConstraintSet) where
   null-idle v e = steps_next (move_non_null s) _ i t t v (rw e)
 
   pub literal-moved : (r : ℕ) (clash : Bool) (now : Holder) → t ≡ literals_after s i → (literal_at s i).present ≡ true → r ≡ canonical_at s i
-      → clash ≡ clashes (literal_at t r) (literal_at s i).value → now ≡ cond clash (literal_at t r) (held (literal_at s i).value) → literal_written t r now clash
+      → clash ≡ clashes (literal_at t r) (literal_at s i).value → now ≡ cond clash (literal_at t r) (held (literal_at s i).value) → literal_written t
+      r now clash
       ≡ literals_after s (i + 1)
   unfolding literals_after
   literal-moved r clash now v e d ec en = steps_next (move_literal s) _ i t _ v (rw (e, ← d) (literal-put t r (literal_at s i).value clash now ec en))
@@ -93,11 +99,14 @@ module _ (s : ConstraintSet) (i : ℕ) (t : ConstraintSet) where
   unfolding literals_after
   literal-idle v e = steps_next (move_literal s) _ i t t v (rw e)
 
-  pub range_moved : (r : ℕ) (range : ValueRange) (empty : Bool) (now : Entry) → t ≡ ranges_after s i → (entry_at s i).present ≡ true → r ≡ canonical_at s i
-      → range ≡ tighten_by (range_in (entry_at t r)) (entry_at s i).range → empty ≡ empty_range range → now ≡ entry_of range → flag_if empty (range_written t r now)
+  pub range_moved : (r : ℕ) (range : ValueRange) (empty : Bool) (now : Entry) → t ≡ ranges_after s i → (entry_at s i).present ≡ true → r ≡
+      canonical_at s i
+      → range ≡ tighten_by (range_in (entry_at t r)) (entry_at s i).range → empty ≡ empty_range range → now ≡ entry_of range → flag_if empty
+      (range_written t r now)
       ≡ ranges_after s (i + 1)
   unfolding ranges_after
-  range_moved r range empty now v e d er ee en = steps_next (move_range s) _ i t _ v (rw (e, ← d) (range-put t r (entry_at s i).range range now empty er en ee))
+  range_moved r range empty now v e d er ee en = steps_next (move_range s) _ i t _ v (rw (e, ← d) (range-put t r (entry_at s i).range range now empty
+      er en ee))
 
   pub range-idle : t ≡ ranges_after s i → (entry_at s i).present ≡ false → t ≡ ranges_after s (i + 1)
   unfolding ranges_after
@@ -117,7 +126,8 @@ ranges_done s i e = rw e
 
 -- ---- the literals of another set laid into t
 module _ (i : ℕ) (t : ConstraintSet) where
-  pub literal-laid : (l : List Holder) (u : ConstraintSet) → (get_or l i none).present ≡ true → u ≡ add_literal t i (get_or l i none).value → u ≡ merge_literal l i t
+  pub literal-laid : (l : List Holder) (u : ConstraintSet) → (get_or l i none).present ≡ true → u ≡ add_literal t i (get_or l i none).value → u ≡
+      merge_literal l i t
   literal-laid l u e d = rw e d
 
   pub literal-left : (l : List Holder) → (get_or l i none).present ≡ false → t ≡ merge_literal l i t

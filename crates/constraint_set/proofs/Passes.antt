@@ -94,7 +94,8 @@ module _ {A : Type 0} (none : A) (put : A → A → A) (root : ℕ → ℕ) (d :
     told zero r e = absurd (subst (λ (b : Bool). cond b Unit ⊥) (sym e ∙ calm) tt)
     told (suc k) r e = elim (ℕ_discrete (root k) r) [
       | yes q ↦ ⊎_elim
-          (λ (u : bad (gathered r k) (get_or l k d) ≡ true). or_inr (flag_to bad f k) _ (subst (λ (x : ℕ). bad (gathered x k) (get_or l k d) ≡ true) (sym q) u))
+          (λ (u : bad (gathered r k) (get_or l k d) ≡ true). or_inr (flag_to bad f k) _ (subst (λ (x : ℕ). bad (gathered x k) (get_or l k d) ≡ true)
+          (sym q) u))
           (λ u. or_inl (flag_to bad f k) _ (told k r u))
           (tells (gathered r k) (get_or l k d) (gathered-has (λ (x : A). put none x ≡ x) empty again r k) (rw (eq-eqb _ _ q) at e))
       | no n ↦ or_inl (flag_to bad f k) _ (told k r (rw (ne_eqb _ _ n) at e))
@@ -126,7 +127,8 @@ module _ {A : Type 0} (none : A) (put : A → A → A) (root : ℕ → ℕ) (d :
   step : (r i : ℕ) → i < 128 → now r (suc i) ≡ cond (eqb (goes_to a b i) r) (put (now r i) (old i)) (now r i)
   unfolding gathered
   step r i h =
-      ⊎_elim (λ (e : old i ≡ none). same_cond (eqb (root i) r) (eqb (goes_to a b i) r) (put (now r i) (old i)) (now r i) (ap (put (now r i)) e ∙ idle (now r i)))
+      ⊎_elim (λ (e : old i ≡ none). same_cond (eqb (root i) r) (eqb (goes_to a b i) r) (put (now r i) (old i)) (now r i) (ap (put (now r i)) e ∙ idle
+      (now r i)))
       (λ e. ap (λ (x : ℕ). cond (eqb x r) (put (now r i) (old i)) (now r i)) e)
       (goes i h)
 
@@ -192,7 +194,8 @@ module _ {A : Type 0} (none : A) (put : A → A → A) (root : ℕ → ℕ) (d :
   filled-moved low long =
       ext_get_or d (filled_to none put root d l 128) (moved_to l a b (put (old a) (old b)) none)
       (filled-length none put root d l 128 ∙ sym (length-set (set l a _) b none ∙ length-set l a _ ∙ long))
-      (λ i h. let g : i < 128 = omega (arith, filled-length none put root d l 128) in filled_at none put root d l low 128 i (omega arith) g ∙ sym (place i g))
+      (λ i h. let g : i < 128 = omega (arith, filled-length none put root d l 128) in filled_at none put root d l low 128 i (omega arith) g ∙ sym
+      (place i g))
     where
       place : (i : ℕ) → i < 128 → get_or (moved_to l a b (put (old a) (old b)) none) i d ≡ now i 128
       place i h = elim (ℕ_discrete i b) [
@@ -204,37 +207,39 @@ module _ {A : Type 0} (none : A) (put : A → A → A) (root : ℕ → ℕ) (d :
       ]
 
   -- ---- its flag
-  module _ (bad : A → A → Bool) (f : Bool) (calm : (x : A) → bad x none ≡ false) (quiet : (i : ℕ) → i < 128 → bad none (old i) ≡ true → f ≡ true) where
-    abbrev flag : ℕ → Bool
-    flag k = flag_to none put root d l bad f k
+  module _ (bad : A → A → Bool) (f : Bool) (calm : (x : A) → bad x none ≡ false) (quiet : (i : ℕ) → i < 128 → bad none (old i) ≡ true → f ≡ true)
+    where
+      abbrev flag : ℕ → Bool
+      flag k = flag_to none put root d l bad f k
 
-    hushed : (i : ℕ) → i < 128 → (i ≡ b → ⊥) → bad (now (root i) i) (old i) ≡ true → f ≡ true
-    hushed i h m =
-        ⊎_elim (λ (e : old i ≡ none) (t : bad (now (root i) i) (old i) ≡ true). absurd
-        (subst (λ (c : Bool). cond c Unit ⊥) (sym t ∙ ap (bad (now (root i) i)) e ∙ calm (now (root i) i)) tt))
-        (λ e t. quiet i h (subst (λ (x : A). bad x (old i) ≡ true) (ap (λ (r : ℕ). now r i) (e ∙ goes_other a b i m) ∙ before i h m) t))
-        (goes i h)
+      hushed : (i : ℕ) → i < 128 → (i ≡ b → ⊥) → bad (now (root i) i) (old i) ≡ true → f ≡ true
+      hushed i h m =
+          ⊎_elim (λ (e : old i ≡ none) (t : bad (now (root i) i) (old i) ≡ true). absurd
+          (subst (λ (c : Bool). cond c Unit ⊥) (sym t ∙ ap (bad (now (root i) i)) e ∙ calm (now (root i) i)) tt))
+          (λ e t. quiet i h (subst (λ (x : A). bad x (old i) ≡ true) (ap (λ (r : ℕ). now r i) (e ∙ goes_other a b i m) ∙ before i h m) t))
+          (goes i h)
 
-    flag-before : (k : ℕ) → k ≤ b → flag k ≡ f
-    unfolding flag_to
-    flag-before zero h = refl
-    flag-before (suc k) h = ap (λ (c : Bool). c || bad (now (root k) k) (old k)) (flag-before k (omega arith)) ∙ or_keeps f _
-        (hushed k (omega arith) (omega arith))
+      flag-before : (k : ℕ) → k ≤ b → flag k ≡ f
+      unfolding flag_to
+      flag-before zero h = refl
+      flag-before (suc k) h = ap (λ (c : Bool). c || bad (now (root k) k) (old k)) (flag-before k (omega arith)) ∙ or_keeps f _
+          (hushed k (omega arith) (omega arith))
 
-    met : bad (now (root b) b) (old b) ≡ bad (old a) (old b)
-    met = ⊎_elim (λ (e : old b ≡ none). ap (bad (now (root b) b)) e ∙ calm _ ∙ sym (ap (bad (old a)) e ∙ calm _))
-        (λ e. ap (λ (x : A). bad x (old b)) (ap (λ (r : ℕ). now r b) (e ∙ goes_b a b) ∙ until_b))
-        (goes b high)
+      met : bad (now (root b) b) (old b) ≡ bad (old a) (old b)
+      met = ⊎_elim (λ (e : old b ≡ none). ap (bad (now (root b) b)) e ∙ calm _ ∙ sym (ap (bad (old a)) e ∙ calm _))
+          (λ e. ap (λ (x : A). bad x (old b)) (ap (λ (r : ℕ). now r b) (e ∙ goes_b a b) ∙ until_b))
+          (goes b high)
 
-    flag-after : (k : ℕ) → b < k → k ≤ 128 → flag k ≡ (f || bad (old a) (old b))
-    unfolding flag_to
-    flag-after zero lo hi = absurd (omega arith)
-    flag-after (suc k) lo hi = elim (ℕ_discrete k b) [
-      | yes e ↦ ap (λ (j : ℕ). flag j || bad (now (root j) j) (old j)) e ∙ ap (λ (c : Bool). c || bad (now (root b) b) (old b)) (flag-before b (omega arith))
-          ∙ ap (λ (c : Bool). f || c) met
-      | no n ↦ ap (λ (c : Bool). c || bad (now (root k) k) (old k)) (flag-after k (omega arith) (omega arith))
-          ∙ or_keeps (f || bad (old a) (old b)) _ (λ t. or_inl f _ (hushed k (omega arith) n t))
-    ]
+      flag-after : (k : ℕ) → b < k → k ≤ 128 → flag k ≡ (f || bad (old a) (old b))
+      unfolding flag_to
+      flag-after zero lo hi = absurd (omega arith)
+      flag-after (suc k) lo hi = elim (ℕ_discrete k b) [
+        | yes e ↦ ap (λ (j : ℕ). flag j || bad (now (root j) j) (old j)) e ∙ ap (λ (c : Bool). c || bad (now (root b) b) (old b)) (flag-before b (omega
+            arith))
+            ∙ ap (λ (c : Bool). f || c) met
+        | no n ↦ ap (λ (c : Bool). c || bad (now (root k) k) (old k)) (flag-after k (omega arith) (omega arith))
+            ∙ or_keeps (f || bad (old a) (old b)) _ (λ t. or_inl f _ (hushed k (omega arith) n t))
+      ]
 
-    pub flag-moved : flag 128 ≡ (f || bad (old a) (old b))
-    flag-moved = flag-after 128 (omega arith) (omega arith)
+      pub flag-moved : flag 128 ≡ (f || bad (old a) (old b))
+      flag-moved = flag-after 128 (omega arith) (omega arith)

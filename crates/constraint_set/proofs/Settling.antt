@@ -13,7 +13,8 @@ use Rattle.laws.proofs.Bools.{or_inl}
 use Rattle.value_classes.specs.declared.ValueEquivalenceClasses.{ValueEquivalenceClasses}
 use Rattle.value_classes.proofs.ClassLaws.{falling, falling-ok, canonical_small, canonical_idempotent, roots_whole, roots_falling, root-stays, root-goes}
 use Rattle.constraint_spec.specs.Sets.{none, no_entry, blank, classes_of, non_nulls, literals, non_null_at, literal_at, entry_at, canonical_at}
-use Rattle.constraint_spec.specs.Sets.{with_values, with_classes, with_non_nulls, with_literals, with_flag, flag_if, crossed, crossed_at, cross_check, ranges_moved}
+use Rattle.constraint_spec.specs.Sets.{with_values, with_classes, with_non_nulls, with_literals, with_flag, flag_if, crossed, crossed_at}
+use Rattle.constraint_spec.specs.Sets.{cross_check, ranges_moved}
 use Rattle.constraint_spec.specs.Sets.{literals_moved, normalized}
 use Rattle.constraint_spec.specs.declared.Holder.{Holder}
 use Rattle.constraint_spec.specs.declared.Entry.{Entry}
@@ -165,7 +166,8 @@ module _ (s : ConstraintSet) (g : Settled s) (a b : ℕ) (less : a < b) (high : 
   others : (j : ℕ) → j < 128 → (j ≡ a → ⊥) → crossed_at u j ≡ true → u.contradictory ≡ true
   others j h n e = elim (ℕ_discrete j b) [
     | yes q ↦ absurd (subst (λ (c : Bool). cond c Unit ⊥)
-        (sym e ∙ ap (λ (x : Holder). crossed x (entry_at u j)) (ap (literal_at u) q ∙ moved_b (literals s) a b holder none none less high g.equal.long)) tt)
+        (sym e ∙ ap (λ (x : Holder). crossed x (entry_at u j)) (ap (literal_at u) q ∙ moved_b (literals s) a b holder none none less high
+        g.equal.long)) tt)
     | no m ↦ flagged j h
         (sym (ap₂ crossed (moved_other (literals s) a b holder none none less high g.equal.long j n m)
         (moved_other s.ranges a b entry no_entry blank less high g.within.long j n m)) ∙ e)

@@ -51,7 +51,8 @@ le_cases a b = iff (le_z a b) (lt_z a b || eq_z a b) (to a b) (from a b)
     to (pos a) (negsuc b) t = absurd t
     to (negsuc a) (pos b) t = tt
     to (negsuc a) (negsuc b) t =
-        T_or_elim (ltb b a) (eqb b a) (nat b a (leb→le b a t)) (T_or_inl (ltb b a) (eqb a b)) (λ e. T_or_inr (ltb b a) (eqb a b) (eq→eqb (sym (eqb→eq b a e))))
+        T_or_elim (ltb b a) (eqb b a) (nat b a (leb→le b a t)) (T_or_inl (ltb b a) (eqb a b)) (λ e. T_or_inr (ltb b a) (eqb a b) (eq→eqb (sym (eqb→eq
+        b a e))))
 
 below-cases : (p : Place) (z : ℤ) → below_p true p z ≡ (below_p false p z || same_place p (point z))
 below-cases nowhere z = refl
@@ -93,7 +94,8 @@ record Measured (v l : ScalarValue) (z : ℤ) : Type 0 where
 
 -- both are of one variant, and no NULL
 abbrev paired : ScalarValue → ScalarValue → Bool
-paired = pairwise false (λ (k l : Kind). false) (λ (x y : Bool). true) (λ (x y : ℤ). true) (λ (x y : ℤ). true) (λ (x y : Float). true) (λ (x y : ℤ). true)
+paired = pairwise false (λ (k l : Kind). false) (λ (x y : Bool). true) (λ (x y : ℤ). true) (λ (x y : ℤ). true) (λ (x y : Float). true) (λ (x y : ℤ).
+    true)
 
 one-kind : (v l : ScalarValue) → T (not (is_null v)) → T (not (is_null l)) → T (same_kind (kind_of v) (kind_of l)) → T (paired v l)
 one-kind (S.Null x) (S.Null y) n m k = absurd n
@@ -150,7 +152,8 @@ measured =
     eqs : (a b : ℤ) → eq_z (whole_in binary64 a) (whole_in binary64 b) ≡ eq_z a b
     eqs a b = eq_z_scale a b (2 ^ low binary64) (pow_pos (low binary64))
 
-    float : (x y : Float) → T true → T (fits binary64 x) → T (fits binary64 y) → (u : Float) → scalar_to_f64 (S.Float64 y) ≡ Of u → Measured (S.Float64 x)
+    float : (x y : Float) → T true → T (fits binary64 x) → T (fits binary64 y) → (u : Float) → scalar_to_f64 (S.Float64 y) ≡ Of u → Measured
+        (S.Float64 x)
         (S.Float64 y) (exact_in binary64 y)
     float x nan t p q u e = no_number u e
     float x (inf s) t p q u e = no_number u e
@@ -178,7 +181,8 @@ pub record Tested (v l : ScalarValue) (x : Float) : Type 0 where
   pub at_least : (less_scalar l v || same_scalar l v) ≡ ok_range (place_of v) (bounds_by GtEq x)
 
 -- of a value and a literal of one kind, neither NULL, each of the four comparisons is its bound. Assumes nothing
-pub tested : (v l : ScalarValue) → T (not (is_null v)) → T (same_kind (kind_of v) (kind_of l)) → Typed v → Typed l → (x : Float) → scalar_to_f64 l ≡ Of x → Tested v
+pub tested : (v l : ScalarValue) → T (not (is_null v)) → T (same_kind (kind_of v) (kind_of l)) → Typed v → Typed l → (x : Float) → scalar_to_f64 l ≡
+    Of x → Tested v
     l x
 tested v l n k tv tl x e =
     go (subst (Measured v l) (sym (converts l x tl e).same) (measured v l (one-kind v l n (number-not-null l x e) k) tv tl x e))

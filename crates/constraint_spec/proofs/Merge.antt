@@ -111,7 +111,8 @@ module _ (b : ConstraintSet) (g : Good b) where
     pairs-together q i h = elim (ℕ_discrete i (canonical_at b i)) [
       | yes e ↦ inl e
       | no n ↦ (let r = canonical_at b i in
-          like_sym v tv r i (q r (canonical_below b g i h) i h (and_i (eqb r r) (not (eqb i r)) (eqb_refl r) (not_T (eqb i r) (λ t. n (eqb→eq i r t))))))
+          like_sym v tv r i (q r (canonical_below b g i h) i h (and_i (eqb r r) (not (eqb i r)) (eqb_refl r) (not_T (eqb i r) (λ t. n (eqb→eq i r
+          t))))))
     ]
 
     together-pairs : Together v (classes_of b) → (r : ℕ) → r < 128 → (i : ℕ) → i < 128 → Pair r i
@@ -125,10 +126,13 @@ module _ (b : ConstraintSet) (g : Good b) where
         pick-iff (Meets on v) (literal_at b i).present (equals (v i) (literal_at b i).value) (add_literal t i (literal_at b i).value) t
         (λ c. add_literal-iff t f i hi on v tv (literal_at b i).value (g.typed i hi c))
 
-    range-step : (i : ℕ) → i < 128 → (t : ConstraintSet) → Good t → Meets on v (merge_range b.ranges i t) ↔ (Meets on v t × T (entry_ok (v i) (entry_at b i)))
+    range-step : (i : ℕ) → i < 128 → (t : ConstraintSet) → Good t → Meets on v (merge_range b.ranges i t) ↔ (Meets on v t × T (entry_ok (v i)
+        (entry_at b i)))
     range-step i hi t f =
-        pick-iff (Meets on v) (entry_at b i).present (ok_range (place_of (v i)) (entry_at b i).range) (lay_range t (canonical_at t i) (entry_at b i).range) t
-        (λ c. meets-by on v t (lay_range t (canonical_at t i) (entry_at b i).range) (beside_lay t t (beside_self t) (canonical_at t i) (entry_at b i).range)
+        pick-iff (Meets on v) (entry_at b i).present (ok_range (place_of (v i)) (entry_at b i).range) (lay_range t (canonical_at t i) (entry_at b
+        i).range) t
+        (λ c. meets-by on v t (lay_range t (canonical_at t i) (entry_at b i).range) (beside_lay t t (beside_self t) (canonical_at t i) (entry_at b
+        i).range)
         (T (ok_range (place_of (v i)) (entry_at b i).range))
         (λ w.
         let r = canonical_at t i in
@@ -152,7 +156,8 @@ module _ (b : ConstraintSet) (g : Good b) where
     residual-steps t f zero room = (λ m. (m, λ i h. absurd (omega arith)), λ m. m.0)
     residual-steps t f (suc k) room =
         let before = steps_to (merge_residual (handles b)) k t in
-        let one = residual-iff before (residual-steps-good t f k) (handle_at b k) on v (and_r (room_to t (handles b) k) (room_for before (handle_at b k)) room) in
+        let one = residual-iff before (residual-steps-good t f k) (handle_at b k) on v (and_r (room_to t (handles b) k) (room_for before (handle_at b
+        k)) room) in
         let rest = residual-steps t f k (and_l (room_to t (handles b) k) (room_for before (handle_at b k)) room) in (
           λ m.
               let x = one.0 m in
@@ -193,7 +198,8 @@ module _ (b : ConstraintSet) (g : Good b) where
       classes-iff : Meets on v (merge_classes (flag_if b.contradictory a) b.equivalence_classes) ↔
           (Meets on v (flag_if b.contradictory a) × ((r : ℕ) → r < 128 → (i : ℕ) → i < 128 → Pair r i))
       unfolding merge_classes
-      classes-iff = steps-iff Good (Meets on v) (join_class b.equivalence_classes) (λ (r : ℕ). (i : ℕ) → i < 128 → Pair r i) 128 class_good class_iff 128
+      classes-iff = steps-iff Good (Meets on v) (join_class b.equivalence_classes) (λ (r : ℕ). (i : ℕ) → i < 128 → Pair r i) 128 class_good class_iff
+          128
           (omega arith) (flag_if b.contradictory a) (start-good a ga)
 
       values-iff : Meets on v (merge_values a b) ↔ (Meets on v a × (Core v b × Together v (classes_of b)))
@@ -202,11 +208,13 @@ module _ (b : ConstraintSet) (g : Good b) where
           let u1 = merge_classes (flag_if b.contradictory a) b.equivalence_classes in
           let u2 = merge_literals u1 (literals b) in
           let u3 = merge_ranges u2 b.ranges in
-          let l = steps-iff Good (Meets on v) (merge_literal (literals b)) (λ (i : ℕ). T (literal_ok (v i) (literal_at b i))) 128 literal-step-good literal-step
+          let l = steps-iff Good (Meets on v) (merge_literal (literals b)) (λ (i : ℕ). T (literal_ok (v i) (literal_at b i))) 128 literal-step-good
+          literal-step
           128 (omega arith) u1 (classes-merged-good a ga) in
           let r = steps-iff Good (Meets on v) (merge_range b.ranges) (λ (i : ℕ). T (entry_ok (v i) (entry_at b i))) 128 range-step-good range-step 128
           (omega arith) u2 (literals-merged-good a ga) in
-          let n = steps-iff Good (Meets on v) (merge_non_null (non_nulls b)) (λ (i : ℕ). T (null_ok (v i) (non_null_at b i))) 128 null-step-good null-step 128
+          let n = steps-iff Good (Meets on v) (merge_non_null (non_nulls b)) (λ (i : ℕ). T (null_ok (v i) (non_null_at b i))) 128 null-step-good
+          null-step 128
           (omega arith) u3 (ranges_merged-good a ga) in (
             λ m.
                 let x = n.0 m in

@@ -93,7 +93,8 @@ module _ (s : ConstraintSet) (g : Good s) where
     unfolding non_nulls_moved
     nulls-moved-core =
         let f = steps-iff Good (Core v) (move_non_null s) (λ (i : ℕ). T (null_ok (v (root i)) (non_null_at s i))) 128 null-step-good
-        (λ i h t f. pick-iff (Core v) (non_null_at s i) (not (is_null (v (root i)))) (put_non_null t (root i)) t (λ b. null-iff v tv t f (root i) (root< i h))) 128
+        (λ i h t f. pick-iff (Core v) (non_null_at s i) (not (is_null (v (root i)))) (put_non_null t (root i)) t (λ b. null-iff v tv t f (root i)
+        (root< i h))) 128
         (omega arith) s1 g1 in (
           λ m.
               let k = f.0 m in
@@ -115,7 +116,8 @@ module _ (s : ConstraintSet) (g : Good s) where
     unfolding literals_moved
     literals-moved-core =
         let f = steps-iff Good (Core v) (move_literal s) (λ (i : ℕ). T (literal_ok (v (root i)) (literal_at s i))) 128 literal-step-good
-        (λ i h t f. pick-iff (Core v) (literal_at s i).present (equals (v (root i)) (literal_at s i).value) (put_literal t (root i) (literal_at s i).value) t
+        (λ i h t f. pick-iff (Core v) (literal_at s i).present (equals (v (root i)) (literal_at s i).value) (put_literal t (root i) (literal_at s
+        i).value) t
         (λ b. literal-iff v tv t f (root i) (root< i h) (literal_at s i).value (g.typed i h b))) 128 (omega arith) s2 g2 in (
           λ m.
               let k = f.0 m in
@@ -137,12 +139,19 @@ module _ (s : ConstraintSet) (g : Good s) where
     unfolding ranges_moved
     ranges_moved-core =
         let f = steps-iff Good (Core v) (move_range s) (λ (i : ℕ). T (entry_ok (v (root i)) (entry_at s i))) 128 range-step-good
-        (λ i h t f. pick-iff (Core v) (entry_at s i).present (ok_range (place_of (v (root i))) (entry_at s i).range) (put_range t (root i) (entry_at s i).range) t
+        (λ i h t f. pick-iff (Core v) (entry_at s i).present (ok_range (place_of (v (root i))) (entry_at s i).range) (put_range t (root i) (entry_at s
+        i).range) t
         (λ b. range-iff v tv t f (root i) (root< i h) (entry_at s i).range (g.sound i h b))) 128 (omega arith) s3 g3 in (
           λ m.
               let k = f.0 m in
               let a = k.0 in
-              record { clear = a.clear; nulls = a.nulls; equal = a.equal; within = λ i h. like_entry_ok v tv (root i) i (down i h) (entry_at s i) (k.1 i h) },
+              record {
+                clear = a.clear;
+                nulls = a.nulls;
+                equal = a.equal;
+                within = λ i h. like_entry_ok v tv (root i) i (down i h) (entry_at s i) (k.1
+                    i h);
+              },
           λ m.
               f.1 (
                 core_ranges m (replicate 128 no_entry) (λ i h. at-replicate (λ (e : Entry). T (entry_ok (v i) e)) no_entry blank tt i h),

@@ -100,7 +100,8 @@ module _ (on : ℕ → Type 0) (v : ℕ → ScalarValue) (s t : ConstraintSet) (
   )
 
 -- normalizing changes nothing for a row. Assumes a good set
-pub normalize_meets : (on : ℕ → Type 0) (v : ℕ → ScalarValue) → ((i : ℕ) → Typed (v i)) → (s : ConstraintSet) → Good s → Meets on v (normalized s) ↔ Meets on
+pub normalize_meets : (on : ℕ → Type 0) (v : ℕ → ScalarValue) → ((i : ℕ) → Typed (v i)) → (s : ConstraintSet) → Good s → Meets on v (normalized s) ↔
+    Meets on
     v s
 normalize_meets on v tv s g =
     let b = beside_normalized s s (beside_self s) in (
@@ -202,7 +203,8 @@ module _ (s : ConstraintSet) (g : Good s) (i : ℕ) (hi : i < 128) where
   unfolding add_literal
   literal_in_lem l = rw (lt-ltb _ _ hi)
 
-  bound_in_lem : (op : BinaryOp) (x : Float) → add_bound s i op x ≡ cond (bounding op) (cross_check (put_range s1 r (bounds_by op x))) (lay_range s1 r (bounds_by op x))
+  bound_in_lem : (op : BinaryOp) (x : Float) → add_bound s i op x ≡ cond (bounding op) (cross_check (put_range s1 r (bounds_by op x))) (lay_range s1 r
+      (bounds_by op x))
   unfolding add_bound
   bound_in_lem op x = rw (lt-ltb _ _ hi)
 
@@ -271,7 +273,8 @@ module _ (s : ConstraintSet) (g : Good s) (i : ℕ) (hi : i < 128) where
     Bounded op x = T (not (is_null (v i))) × T (ok_range (place_of (v i)) (bounds_by op x))
 
     -- with the bounds of a comparison, exactly if i is not NULL and within them. Assumes a good set and a number
-    pub add_bound-iff : (op : BinaryOp) (x : Float) → T (finite x) → T (fits binary64 x) → Meets on v (add_bound s i op x) ↔ (Meets on v s × Bounded op x)
+    pub add_bound-iff : (op : BinaryOp) (x : Float) → T (finite x) → T (fits binary64 x) → Meets on v (add_bound s i op x) ↔ (Meets on v s × Bounded
+        op x)
     add_bound-iff op x fx hx = meets-by on v s (add_bound s i op x) (add_bound_beside s i op x) (Bounded op x) core
       where
         n : ValueRange
@@ -359,7 +362,8 @@ module _ (s : ConstraintSet) (g : Good s) (h : ℕ) where
                 record {
                   core = record { clear = m.core.clear; nulls = m.core.nulls; equal = m.core.equal; within = m.core.within };
                   together = m.together;
-                  residual = λ k b. subst on (get_or-set_other (handles s) s.residuals k h 0 (λ e. absurd (omega arith))) (m.residual k (omega arith));
+                  residual = λ k b. subst on (get_or-set_other (handles s) s.residuals k h 0 (λ e. absurd (omega arith))) (m.residual k (omega
+                      arith));
                 },
                 subst on (get_or-set_same (handles s) s.residuals h 0 c) (m.residual s.residuals (omega arith)),
               ),

@@ -96,18 +96,22 @@ pub ruled-merged : (a b : ConstraintSet) → Ruled a → Ruled (merged_set a b)
 unfolding merged_set merge_residuals merge_non_nulls merge_ranges merge_literals merge_classes
 ruled-merged a b ra =
     ruled-normalized _
-    (steps-good Ruled (merge_residual (handles b)) (min b.residuals 64) (λ k h t r. ruled-residual t (handle_at b k) r) (min b.residuals 64) (omega arith) _
+    (steps-good Ruled (merge_residual (handles b)) (min b.residuals 64) (λ k h t r. ruled-residual t (handle_at b k) r) (min b.residuals 64) (omega
+    arith) _
     (steps-good Ruled (merge_non_null (non_nulls b)) 128
-    (λ i h t r. cond_T_elim Ruled (non_null_at b i) (put_non_null t i) t (λ c. ruled_beside t (put_non_null t i) (beside_null t t (beside_self t) i) r) r) 128
+    (λ i h t r. cond_T_elim Ruled (non_null_at b i) (put_non_null t i) t (λ c. ruled_beside t (put_non_null t i) (beside_null t t (beside_self t) i)
+    r) r) 128
     (omega arith) _
     (steps-good Ruled (merge_range b.ranges) 128
     (λ i h t r. cond_T_elim Ruled (entry_at b i).present (lay_range t (canonical_at t i) (entry_at b i).range) t
-    (λ c. ruled_beside t (lay_range t (canonical_at t i) (entry_at b i).range) (beside_lay t t (beside_self t) (canonical_at t i) (entry_at b i).range) r) r) 128
+    (λ c. ruled_beside t (lay_range t (canonical_at t i) (entry_at b i).range) (beside_lay t t (beside_self t) (canonical_at t i) (entry_at b
+    i).range) r) r) 128
     (omega arith) _
     (steps-good Ruled (merge_literal (literals b)) 128
     (λ i h t r. cond_T_elim Ruled (literal_at b i).present (add_literal t i (literal_at b i).value) t
     (λ c. ruled_beside t (add_literal t i (literal_at b i).value) (add_literal_beside t i (literal_at b i).value) r) r) 128 (omega arith) _
     (steps-good Ruled (join_class b.equivalence_classes) 128
     (λ q hq t r. steps-good Ruled (join_member b.equivalence_classes q) 128
-    (λ i hi u w. cond_T_elim Ruled (eqb (canonical_at b i) q && not (eqb i q)) (union_values u q i) u (λ c. ruled_union u q i hq hi w) w) 128 (omega arith) t r)
+    (λ i hi u w. cond_T_elim Ruled (eqb (canonical_at b i) q && not (eqb i q)) (union_values u q i) u (λ c. ruled_union u q i hq hi w) w) 128 (omega
+    arith) t r)
     128 (omega arith) (flag_if b.contradictory a) ra)))))

@@ -45,32 +45,38 @@ zero-kept = refl
 
 -- of two equal literals that a union brings together the later identity's stays
 later-stays : literal_at (union_values (add_literal (add_literal empty_set 1 zero_neg) 5 zero_pos) 5 1) 1 ≡ held zero_pos
-unfolding union_values union_of joined normalized non_nulls_moved literals_moved ranges_moved steps_to add_literal put_non_null put_literal put_range lay_range cross_check
+unfolding union_values union_of joined normalized non_nulls_moved literals_moved ranges_moved steps_to add_literal put_non_null put_literal put_range
+    lay_range cross_check
     any_from empty_set empty_classes root_of climb parent_in each lt eq
 later-stays = refl
 
 -- literals that differ meet in a union: the flag is set, and the first identity's stays
 differ : (union_values (add_literal (add_literal empty_set 1 (S.Int32 (pos 5))) 5 (S.Int64 (pos 5))) 5 1).contradictory ≡ true
-unfolding union_values union_of joined normalized non_nulls_moved literals_moved ranges_moved steps_to add_literal put_non_null put_literal put_range lay_range cross_check
+unfolding union_values union_of joined normalized non_nulls_moved literals_moved ranges_moved steps_to add_literal put_non_null put_literal put_range
+    lay_range cross_check
     any_from empty_set empty_classes root_of climb parent_in each lt eq of_int in_float
 differ = refl
 
 -- a literal outside the bounds sets the flag: 7 is not below 7, and is at most 7
 below-seven : (add_literal (add_bound empty_set 0 Lt (of_int binary64 (pos 7))) 0 (S.Int32 (pos 7))).contradictory ≡ true
-unfolding add_bound add_literal put_non_null put_literal put_range lay_range cross_check any_from empty_set empty_classes root_of climb parent_in each lt eq of_int in_float
+unfolding add_bound add_literal put_non_null put_literal put_range lay_range cross_check any_from empty_set empty_classes root_of climb parent_in each
+    lt eq of_int in_float
 below-seven = refl
 
 at_most_seven : (add_literal (add_bound empty_set 0 LtEq (of_int binary64 (pos 7))) 0 (S.Int32 (pos 7))).contradictory ≡ false
-unfolding add_bound add_literal put_non_null put_literal put_range lay_range cross_check any_from empty_set empty_classes root_of climb parent_in each lt eq of_int in_float
+unfolding add_bound add_literal put_non_null put_literal put_range lay_range cross_check any_from empty_set empty_classes root_of climb parent_in each
+    lt eq of_int in_float
 at_most_seven = refl
 
 -- 3 below x below 4 is not empty, 4 below x below 4 is
 between : (add_bound (add_bound empty_set 0 Gt (of_int binary64 (pos 3))) 0 Lt (of_int binary64 (pos 4))).contradictory ≡ false
-unfolding add_bound add_literal put_non_null put_literal put_range lay_range cross_check any_from empty_set empty_classes root_of climb parent_in each lt eq of_int in_float
+unfolding add_bound add_literal put_non_null put_literal put_range lay_range cross_check any_from empty_set empty_classes root_of climb parent_in each
+    lt eq of_int in_float
 between = refl
 
 nothing-between : (add_bound (add_bound empty_set 0 Gt (of_int binary64 (pos 4))) 0 Lt (of_int binary64 (pos 4))).contradictory ≡ true
-unfolding add_bound add_literal put_non_null put_literal put_range lay_range cross_check any_from empty_set empty_classes root_of climb parent_in each lt eq of_int in_float
+unfolding add_bound add_literal put_non_null put_literal put_range lay_range cross_check any_from empty_set empty_classes root_of climb parent_in each
+    lt eq of_int in_float
 nothing-between = refl
 
 -- a comparison that gives no bound makes an entry without bounds
@@ -86,14 +92,18 @@ abbrev right : ConstraintSet
 right = add_literal (union_values empty_set 3 9) 9 (S.Int32 (pos 2))
 
 merged_class : canonical_at (merged_set left right) 9 ≡ 0
-unfolding merged_set merge_classes merge_literals merge_ranges merge_non_nulls merge_residuals add_bound union_values union_of joined normalized non_nulls_moved
-    literals_moved ranges_moved steps_to add_literal put_non_null put_literal put_range lay_range cross_check any_from push_residual empty_set empty_classes root_of climb
+unfolding merged_set merge_classes merge_literals merge_ranges merge_non_nulls merge_residuals add_bound union_values union_of joined normalized
+    non_nulls_moved
+    literals_moved ranges_moved steps_to add_literal put_non_null put_literal put_range lay_range cross_check any_from push_residual empty_set
+    empty_classes root_of climb
     parent_in each lt eq of_int in_float
 merged_class = refl
 
 merged-flag : (merged_set left right).contradictory ≡ true
-unfolding merged_set merge_classes merge_literals merge_ranges merge_non_nulls merge_residuals add_bound union_values union_of joined normalized non_nulls_moved
-    literals_moved ranges_moved steps_to add_literal put_non_null put_literal put_range lay_range cross_check any_from push_residual empty_set empty_classes root_of climb
+unfolding merged_set merge_classes merge_literals merge_ranges merge_non_nulls merge_residuals add_bound union_values union_of joined normalized
+    non_nulls_moved
+    literals_moved ranges_moved steps_to add_literal put_non_null put_literal put_range lay_range cross_check any_from push_residual empty_set
+    empty_classes root_of climb
     parent_in each lt eq of_int in_float
 merged-flag = refl
 

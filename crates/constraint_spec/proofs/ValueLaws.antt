@@ -70,7 +70,8 @@ same_place_lem =
     (λ x y t p q. ap (λ (z : ℤ). place_of (S.Date32 z)) (eq_z→eq x y t))
 
 -- one that is the same as another is the same as whatever that is the same as
-pub T-same_trans : (v w : ScalarValue) → T (same_scalar v w) → Typed v → Typed w → (u : ScalarValue) → Typed u → T (same_scalar w u) → T (same_scalar v u)
+pub T-same_trans : (v w : ScalarValue) → T (same_scalar v w) → Typed v → Typed w → (u : ScalarValue) → Typed u → T (same_scalar w u) → T (same_scalar
+    v u)
 T-same_trans v w t p q u r k = subst T (sym (same_trans v w u (is_true (same_scalar v w) t) (is_true (same_scalar w u) k))) tt
 
 pub same-sym : (v w : ScalarValue) → T (same_scalar v w) → Typed v → Typed w → T (same_scalar w v)
@@ -91,13 +92,15 @@ module _ (v w : ScalarValue) (tv : Typed v) (tw : Typed w) where
   pub alike-sym : T (same v w) → T (same w v)
   alike-sym t =
       T_or_elim (is_null v && is_null w) (same_scalar v w) t
-      (λ n. T_or_inl (is_null w && is_null v) (same_scalar w v) (and_i (is_null w) (is_null v) (and_r (is_null v) (is_null w) n) (and_l (is_null v) (is_null w) n)))
+      (λ n. T_or_inl (is_null w && is_null v) (same_scalar w v) (and_i (is_null w) (is_null v) (and_r (is_null v) (is_null w) n) (and_l (is_null v)
+      (is_null w) n)))
       (λ s. T_or_inr (is_null w && is_null v) (same_scalar w v) (same-sym v w s tv tw))
 
   pub alike_trans : (u : ScalarValue) → Typed u → T (same v w) → T (same w u) → T (same v u)
   alike_trans u tu t k =
       T_or_elim (is_null w && is_null u) (same_scalar w u) k
-      (λ n. T_or_inl (is_null v && is_null u) (same_scalar v u) (and_i (is_null v) (is_null u) (subst T (sym (alike-null t)) (and_l (is_null w) (is_null u) n))
+      (λ n. T_or_inl (is_null v && is_null u) (same_scalar v u) (and_i (is_null v) (is_null u) (subst T (sym (alike-null t)) (and_l (is_null w)
+      (is_null u) n))
       (and_r (is_null w) (is_null u) n)))
       (λ s.
       T_or_elim (is_null v && is_null w) (same_scalar v w) t

@@ -144,7 +144,8 @@ module _ (p : Plan) (few : p.columns.count ≤ 64) where
   }
 
   -- the identity of a column reference, for a column of the plan
-  value-right : (l : List ℕ) → RightEntries (RightIdentity nc) nc l → (c : ℕ) → c < nc → (x : ExprData) → RightEntry (RightIdentity nc) nc c (value_for_expr l x)
+  value-right : (l : List ℕ) → RightEntries (RightIdentity nc) nc l → (c : ℕ) → c < nc → (x : ExprData) → RightEntry (RightIdentity nc) nc c
+      (value_for_expr l x)
   value-right l r c m (Literal v) = inl refl
   value-right l r c m (ColumnRef k) = moved (RightIdentity nc) nc k.0 c (get_or l k.0 0) m (r k.0)
   value-right l r c m (Unary op e) = inl refl
@@ -187,7 +188,8 @@ module _ (p : Plan) (few : p.columns.count ≤ 64) where
   unfolding projected
   projected-right g items r q =
       steps-good Right (project_step g items r) r.count
-      (λ k l t w. carried-right g t (item_at items r k) (item_at items r k) w (q.lineage (item_at items r k)) (q.definitions (item_at items r k))) r.count
+      (λ k l t w. carried-right g t (item_at items r k) (item_at items r k) w (q.lineage (item_at items r k)) (q.definitions (item_at items r k)))
+      r.count
       (omega arith) no_columns (nothing_right nc ne)
 
   pub renamed-right : (g : ColumnFacts) (items originals : List ℕ) (r : Run) → ItemsBelow nc items r → Right g → Right (renamed g items originals r)
@@ -202,7 +204,8 @@ module _ (p : Plan) (few : p.columns.count ≤ 64) where
       (q.definitions (item_at originals r k))))
       r.count (omega arith) no_columns (nothing_right nc ne)
 
-  pub mapped-right : (node : ℕ → ExprData) (items exprs : List ℕ) (r : Run) (g : ColumnFacts) → ItemsBelow nc items r → ItemsBelow ne exprs r → Right g
+  pub mapped-right : (node : ℕ → ExprData) (items exprs : List ℕ) (r : Run) (g : ColumnFacts) → ItemsBelow nc items r → ItemsBelow ne exprs r → Right
+      g
       → Right (mapped ids node items exprs r g)
   unfolding mapped
   mapped-right node items exprs r g b m q =
@@ -214,5 +217,6 @@ module _ (p : Plan) (few : p.columns.count ≤ 64) where
   unfolding keys_of
   aggregated-right node items keys aggregates g b q =
       derived_columns-right items aggregates (keys_of node g items keys) b
-      (steps-good Right (key_step node g items keys) keys.count (λ k l t w. keyed-right g t q w (node (item_at items keys k))) keys.count (omega arith)
+      (steps-good Right (key_step node g items keys) keys.count (λ k l t w. keyed-right g t q w (node (item_at items keys k))) keys.count (omega
+      arith)
       no_columns (nothing_right nc ne))

@@ -43,7 +43,8 @@ abbrev padded : ℕ → List ℕ → List ℕ
 padded n l = l ++ replicate (n - length l) 0
 
 -- column kinds; then kind, code, a, b, start and bits of the expressions; kind, code, a, b, c and start of the operators; the items
-abbrev plan_of : List ℕ → List ℕ → List ℕ → List ℕ → List ℕ → List ℕ → List ℕ → List ℕ → List ℕ → List ℕ → List ℕ → List ℕ → List ℕ → List ℕ → List ℕ → Plan
+abbrev plan_of : List ℕ → List ℕ → List ℕ → List ℕ → List ℕ → List ℕ → List ℕ → List ℕ → List ℕ → List ℕ → List ℕ → List ℕ → List ℕ → List ℕ → List ℕ
+    → Plan
 plan_of kinds ek ec ea eb es bits ok oc oa ob od os ia ib = record {
   columns = record { count = length kinds; name = replicate 64 0; kind = padded 64 kinds };
   expressions = record {
@@ -97,11 +98,16 @@ worked =
 
 -- `facts 1 0`, `column 0 b0`, `column 1 b1`, `class b0 b1`, `nonnull b0`, `range b0 - 401c000000000000x`
 worked_case : derive_of worked 1 ≡ facts_of (1 ∷ 2 ∷ []) [] (set_of (roots_joined alone 0 1) true none (below 7) [] false)
-unfolding derive_of plan_ok counts_within all_from expr_ok_of record_ok lists_ok row_of line_of bits_ok handle_ok count_of more_of item_ok operator_ok_of scans_of any_from
-    count_from answer_of answers_to operator_data identities_of filled base_of by_key table_in first_from number_by lineage_entry definition_entry scanned derived_columns
-    projected renamed mapped computed carried keys_ok keys_of key_column grouped steps_to assigned defined given filtered empty_facts predicate_applied all_applied
-    conjuncts_to joined_of conjunct_applied comparison_by expr_data inputs_merged overridden add_range add_bound add_non_null add_literal add_residual push_residual
-    union_values union_of joined normalized non_nulls_moved literals_moved ranges_moved put_non_null put_literal put_range lay_range cross_check empty_set empty_classes
+unfolding derive_of plan_ok counts_within all_from expr_ok_of record_ok lists_ok row_of line_of bits_ok handle_ok count_of more_of item_ok
+    operator_ok_of scans_of any_from
+    count_from answer_of answers_to operator_data identities_of filled base_of by_key table_in first_from number_by lineage_entry definition_entry
+    scanned derived_columns
+    projected renamed mapped computed carried keys_ok keys_of key_column grouped steps_to assigned defined given filtered empty_facts
+    predicate_applied all_applied
+    conjuncts_to joined_of conjunct_applied comparison_by expr_data inputs_merged overridden add_range add_bound add_non_null add_literal add_residual
+    push_residual
+    union_values union_of joined normalized non_nulls_moved literals_moved ranges_moved put_non_null put_literal put_range lay_range cross_check
+    empty_set empty_classes
     each root_of climb parent_in lt eq of_int
 worked_case = refl
 
@@ -113,21 +119,31 @@ less_plan n =
 
 -- case 1: the bound 2^53, exclusive
 case_1 : derive_of (less_plan 9007199254740992) 1 ≡ facts_of (1 ∷ []) [] (set_of alone true none (below 9007199254740992) [] false)
-unfolding derive_of plan_ok counts_within all_from expr_ok_of record_ok lists_ok row_of line_of bits_ok handle_ok count_of more_of item_ok operator_ok_of scans_of any_from
-    count_from answer_of answers_to operator_data identities_of filled base_of by_key table_in first_from number_by lineage_entry definition_entry scanned derived_columns
-    projected renamed mapped computed carried keys_ok keys_of key_column grouped steps_to assigned defined given filtered empty_facts predicate_applied all_applied
-    conjuncts_to joined_of conjunct_applied comparison_by expr_data inputs_merged overridden add_range add_bound add_non_null add_literal add_residual push_residual
-    union_values union_of joined normalized non_nulls_moved literals_moved ranges_moved put_non_null put_literal put_range lay_range cross_check empty_set empty_classes
+unfolding derive_of plan_ok counts_within all_from expr_ok_of record_ok lists_ok row_of line_of bits_ok handle_ok count_of more_of item_ok
+    operator_ok_of scans_of any_from
+    count_from answer_of answers_to operator_data identities_of filled base_of by_key table_in first_from number_by lineage_entry definition_entry
+    scanned derived_columns
+    projected renamed mapped computed carried keys_ok keys_of key_column grouped steps_to assigned defined given filtered empty_facts
+    predicate_applied all_applied
+    conjuncts_to joined_of conjunct_applied comparison_by expr_data inputs_merged overridden add_range add_bound add_non_null add_literal add_residual
+    push_residual
+    union_values union_of joined normalized non_nulls_moved literals_moved ranges_moved put_non_null put_literal put_range lay_range cross_check
+    empty_set empty_classes
     each root_of climb parent_in lt eq of_int
 case_1 = refl
 
 -- case 2: residual only
 case_2 : derive_of (less_plan 9007199254740993) 1 ≡ facts_of (1 ∷ []) [] (set_of alone false none no_entry (2 ∷ []) false)
-unfolding derive_of plan_ok counts_within all_from expr_ok_of record_ok lists_ok row_of line_of bits_ok handle_ok count_of more_of item_ok operator_ok_of scans_of any_from
-    count_from answer_of answers_to operator_data identities_of filled base_of by_key table_in first_from number_by lineage_entry definition_entry scanned derived_columns
-    projected renamed mapped computed carried keys_ok keys_of key_column grouped steps_to assigned defined given filtered empty_facts predicate_applied all_applied
-    conjuncts_to joined_of conjunct_applied comparison_by expr_data inputs_merged overridden add_range add_bound add_non_null add_literal add_residual push_residual
-    union_values union_of joined normalized non_nulls_moved literals_moved ranges_moved put_non_null put_literal put_range lay_range cross_check empty_set empty_classes
+unfolding derive_of plan_ok counts_within all_from expr_ok_of record_ok lists_ok row_of line_of bits_ok handle_ok count_of more_of item_ok
+    operator_ok_of scans_of any_from
+    count_from answer_of answers_to operator_data identities_of filled base_of by_key table_in first_from number_by lineage_entry definition_entry
+    scanned derived_columns
+    projected renamed mapped computed carried keys_ok keys_of key_column grouped steps_to assigned defined given filtered empty_facts
+    predicate_applied all_applied
+    conjuncts_to joined_of conjunct_applied comparison_by expr_data inputs_merged overridden add_range add_bound add_non_null add_literal add_residual
+    push_residual
+    union_values union_of joined normalized non_nulls_moved literals_moved ranges_moved put_non_null put_literal put_range lay_range cross_check
+    empty_set empty_classes
     each root_of climb parent_in lt eq of_int
 case_2 = refl
 
@@ -138,20 +154,30 @@ twice_plan =
     (0x30 ∷ 0x33 ∷ 0x33 ∷ []) [] (0 ∷ 2 ∷ 4 ∷ []) (1 ∷ 0 ∷ 1 ∷ []) [] [] (0 ∷ []) []
 
 case_9 : derive_of twice_plan 2 ≡ facts_of (1 ∷ []) [] (set_of alone true (held (S.Int32 (pos 5))) no_entry [] true)
-unfolding derive_of plan_ok counts_within all_from expr_ok_of record_ok lists_ok row_of line_of bits_ok handle_ok count_of more_of item_ok operator_ok_of scans_of any_from
-    count_from answer_of answers_to operator_data identities_of filled base_of by_key table_in first_from number_by lineage_entry definition_entry scanned derived_columns
-    projected renamed mapped computed carried keys_ok keys_of key_column grouped steps_to assigned defined given filtered empty_facts predicate_applied all_applied
-    conjuncts_to joined_of conjunct_applied comparison_by expr_data inputs_merged overridden add_range add_bound add_non_null add_literal add_residual push_residual
-    union_values union_of joined normalized non_nulls_moved literals_moved ranges_moved put_non_null put_literal put_range lay_range cross_check empty_set empty_classes
+unfolding derive_of plan_ok counts_within all_from expr_ok_of record_ok lists_ok row_of line_of bits_ok handle_ok count_of more_of item_ok
+    operator_ok_of scans_of any_from
+    count_from answer_of answers_to operator_data identities_of filled base_of by_key table_in first_from number_by lineage_entry definition_entry
+    scanned derived_columns
+    projected renamed mapped computed carried keys_ok keys_of key_column grouped steps_to assigned defined given filtered empty_facts
+    predicate_applied all_applied
+    conjuncts_to joined_of conjunct_applied comparison_by expr_data inputs_merged overridden add_range add_bound add_non_null add_literal add_residual
+    push_residual
+    union_values union_of joined normalized non_nulls_moved literals_moved ranges_moved put_non_null put_literal put_range lay_range cross_check
+    empty_set empty_classes
     each root_of climb parent_in lt eq of_int
 case_9 = refl
 
 before_9 : derive_of twice_plan 1 ≡ facts_of (1 ∷ []) [] (set_of alone true (held (S.Int32 (pos 5))) no_entry [] false)
-unfolding derive_of plan_ok counts_within all_from expr_ok_of record_ok lists_ok row_of line_of bits_ok handle_ok count_of more_of item_ok operator_ok_of scans_of any_from
-    count_from answer_of answers_to operator_data identities_of filled base_of by_key table_in first_from number_by lineage_entry definition_entry scanned derived_columns
-    projected renamed mapped computed carried keys_ok keys_of key_column grouped steps_to assigned defined given filtered empty_facts predicate_applied all_applied
-    conjuncts_to joined_of conjunct_applied comparison_by expr_data inputs_merged overridden add_range add_bound add_non_null add_literal add_residual push_residual
-    union_values union_of joined normalized non_nulls_moved literals_moved ranges_moved put_non_null put_literal put_range lay_range cross_check empty_set empty_classes
+unfolding derive_of plan_ok counts_within all_from expr_ok_of record_ok lists_ok row_of line_of bits_ok handle_ok count_of more_of item_ok
+    operator_ok_of scans_of any_from
+    count_from answer_of answers_to operator_data identities_of filled base_of by_key table_in first_from number_by lineage_entry definition_entry
+    scanned derived_columns
+    projected renamed mapped computed carried keys_ok keys_of key_column grouped steps_to assigned defined given filtered empty_facts
+    predicate_applied all_applied
+    conjuncts_to joined_of conjunct_applied comparison_by expr_data inputs_merged overridden add_range add_bound add_non_null add_literal add_residual
+    push_residual
+    union_values union_of joined normalized non_nulls_moved literals_moved ranges_moved put_non_null put_literal put_range lay_range cross_check
+    empty_set empty_classes
     each root_of climb parent_in lt eq of_int
 before_9 = refl
 
@@ -165,11 +191,16 @@ map_plan =
     (0 ∷ 1 ∷ 2 ∷ 3 ∷ 3 ∷ []) (0 ∷ 0 ∷ 1 ∷ 2 ∷ 0 ∷ [])
 
 map_case : derive_of map_plan 1 ≡ facts_of (1 ∷ 1 ∷ 1 ∷ 1 ∷ []) (0 ∷ 0 ∷ 0 ∷ 3 ∷ []) empty_set
-unfolding derive_of plan_ok counts_within all_from expr_ok_of record_ok lists_ok row_of line_of bits_ok handle_ok count_of more_of item_ok operator_ok_of scans_of any_from
-    count_from answer_of answers_to operator_data identities_of filled base_of by_key table_in first_from number_by lineage_entry definition_entry scanned derived_columns
-    projected renamed mapped computed carried keys_ok keys_of key_column grouped steps_to assigned defined given filtered empty_facts predicate_applied all_applied
-    conjuncts_to joined_of conjunct_applied comparison_by expr_data inputs_merged overridden add_range add_bound add_non_null add_literal add_residual push_residual
-    union_values union_of joined normalized non_nulls_moved literals_moved ranges_moved put_non_null put_literal put_range lay_range cross_check empty_set empty_classes
+unfolding derive_of plan_ok counts_within all_from expr_ok_of record_ok lists_ok row_of line_of bits_ok handle_ok count_of more_of item_ok
+    operator_ok_of scans_of any_from
+    count_from answer_of answers_to operator_data identities_of filled base_of by_key table_in first_from number_by lineage_entry definition_entry
+    scanned derived_columns
+    projected renamed mapped computed carried keys_ok keys_of key_column grouped steps_to assigned defined given filtered empty_facts
+    predicate_applied all_applied
+    conjuncts_to joined_of conjunct_applied comparison_by expr_data inputs_merged overridden add_range add_bound add_non_null add_literal add_residual
+    push_residual
+    union_values union_of joined normalized non_nulls_moved literals_moved ranges_moved put_non_null put_literal put_range lay_range cross_check
+    empty_set empty_classes
     each root_of climb parent_in lt eq of_int
 map_case = refl
 
@@ -184,31 +215,46 @@ keep_plan =
 
 -- the renamed column alone, with the input's constraints
 rename_case : derive_of keep_plan 2 ≡ facts_of (0 ∷ 1 ∷ []) [] (set_of alone true none (below 5) [] false)
-unfolding derive_of plan_ok counts_within all_from expr_ok_of record_ok lists_ok row_of line_of bits_ok handle_ok count_of more_of item_ok operator_ok_of scans_of any_from
-    count_from answer_of answers_to operator_data identities_of filled base_of by_key table_in first_from number_by lineage_entry definition_entry scanned derived_columns
-    projected renamed mapped computed carried keys_ok keys_of key_column grouped steps_to assigned defined given filtered empty_facts predicate_applied all_applied
-    conjuncts_to joined_of conjunct_applied comparison_by expr_data inputs_merged overridden add_range add_bound add_non_null add_literal add_residual push_residual
-    union_values union_of joined normalized non_nulls_moved literals_moved ranges_moved put_non_null put_literal put_range lay_range cross_check empty_set empty_classes
+unfolding derive_of plan_ok counts_within all_from expr_ok_of record_ok lists_ok row_of line_of bits_ok handle_ok count_of more_of item_ok
+    operator_ok_of scans_of any_from
+    count_from answer_of answers_to operator_data identities_of filled base_of by_key table_in first_from number_by lineage_entry definition_entry
+    scanned derived_columns
+    projected renamed mapped computed carried keys_ok keys_of key_column grouped steps_to assigned defined given filtered empty_facts
+    predicate_applied all_applied
+    conjuncts_to joined_of conjunct_applied comparison_by expr_data inputs_merged overridden add_range add_bound add_non_null add_literal add_residual
+    push_residual
+    union_values union_of joined normalized non_nulls_moved literals_moved ranges_moved put_non_null put_literal put_range lay_range cross_check
+    empty_set empty_classes
     each root_of climb parent_in lt eq of_int
 rename_case = refl
 
 -- the key's lineage and the aggregate, Derived, without constraints
 aggregation_case : derive_of keep_plan 3 ≡ facts_of (1 ∷ 66 ∷ []) [] empty_set
-unfolding derive_of plan_ok counts_within all_from expr_ok_of record_ok lists_ok row_of line_of bits_ok handle_ok count_of more_of item_ok operator_ok_of scans_of any_from
-    count_from answer_of answers_to operator_data identities_of filled base_of by_key table_in first_from number_by lineage_entry definition_entry scanned derived_columns
-    projected renamed mapped computed carried keys_ok keys_of key_column grouped steps_to assigned defined given filtered empty_facts predicate_applied all_applied
-    conjuncts_to joined_of conjunct_applied comparison_by expr_data inputs_merged overridden add_range add_bound add_non_null add_literal add_residual push_residual
-    union_values union_of joined normalized non_nulls_moved literals_moved ranges_moved put_non_null put_literal put_range lay_range cross_check empty_set empty_classes
+unfolding derive_of plan_ok counts_within all_from expr_ok_of record_ok lists_ok row_of line_of bits_ok handle_ok count_of more_of item_ok
+    operator_ok_of scans_of any_from
+    count_from answer_of answers_to operator_data identities_of filled base_of by_key table_in first_from number_by lineage_entry definition_entry
+    scanned derived_columns
+    projected renamed mapped computed carried keys_ok keys_of key_column grouped steps_to assigned defined given filtered empty_facts
+    predicate_applied all_applied
+    conjuncts_to joined_of conjunct_applied comparison_by expr_data inputs_merged overridden add_range add_bound add_non_null add_literal add_residual
+    push_residual
+    union_values union_of joined normalized non_nulls_moved literals_moved ranges_moved put_non_null put_literal put_range lay_range cross_check
+    empty_set empty_classes
     each root_of climb parent_in lt eq of_int
 aggregation_case = refl
 
 -- both lineages, and nothing of the right's constraints
 outer_case : derive_of keep_plan 5 ≡ facts_of (1 ∷ 66 ∷ []) [] empty_set
-unfolding derive_of plan_ok counts_within all_from expr_ok_of record_ok lists_ok row_of line_of bits_ok handle_ok count_of more_of item_ok operator_ok_of scans_of any_from
-    count_from answer_of answers_to operator_data identities_of filled base_of by_key table_in first_from number_by lineage_entry definition_entry scanned derived_columns
-    projected renamed mapped computed carried keys_ok keys_of key_column grouped steps_to assigned defined given filtered empty_facts predicate_applied all_applied
-    conjuncts_to joined_of conjunct_applied comparison_by expr_data inputs_merged overridden add_range add_bound add_non_null add_literal add_residual push_residual
-    union_values union_of joined normalized non_nulls_moved literals_moved ranges_moved put_non_null put_literal put_range lay_range cross_check empty_set empty_classes
+unfolding derive_of plan_ok counts_within all_from expr_ok_of record_ok lists_ok row_of line_of bits_ok handle_ok count_of more_of item_ok
+    operator_ok_of scans_of any_from
+    count_from answer_of answers_to operator_data identities_of filled base_of by_key table_in first_from number_by lineage_entry definition_entry
+    scanned derived_columns
+    projected renamed mapped computed carried keys_ok keys_of key_column grouped steps_to assigned defined given filtered empty_facts
+    predicate_applied all_applied
+    conjuncts_to joined_of conjunct_applied comparison_by expr_data inputs_merged overridden add_range add_bound add_non_null add_literal add_residual
+    push_residual
+    union_values union_of joined normalized non_nulls_moved literals_moved ranges_moved put_non_null put_literal put_range lay_range cross_check
+    empty_set empty_classes
     each root_of climb parent_in lt eq of_int
 outer_case = refl
 
@@ -221,41 +267,61 @@ refuse_plan =
 
 -- a key that is no column reference
 key-refused : derive_of refuse_plan 1 ≡ refused (UnsupportedKey (record { 0 = 1 }))
-unfolding derive_of plan_ok counts_within all_from expr_ok_of record_ok lists_ok row_of line_of bits_ok handle_ok count_of more_of item_ok operator_ok_of scans_of any_from
-    count_from answer_of answers_to operator_data identities_of filled base_of by_key table_in first_from number_by lineage_entry definition_entry scanned derived_columns
-    projected renamed mapped computed carried keys_ok keys_of key_column grouped steps_to assigned defined given filtered empty_facts predicate_applied all_applied
-    conjuncts_to joined_of conjunct_applied comparison_by expr_data inputs_merged overridden add_range add_bound add_non_null add_literal add_residual push_residual
-    union_values union_of joined normalized non_nulls_moved literals_moved ranges_moved put_non_null put_literal put_range lay_range cross_check empty_set empty_classes
+unfolding derive_of plan_ok counts_within all_from expr_ok_of record_ok lists_ok row_of line_of bits_ok handle_ok count_of more_of item_ok
+    operator_ok_of scans_of any_from
+    count_from answer_of answers_to operator_data identities_of filled base_of by_key table_in first_from number_by lineage_entry definition_entry
+    scanned derived_columns
+    projected renamed mapped computed carried keys_ok keys_of key_column grouped steps_to assigned defined given filtered empty_facts
+    predicate_applied all_applied
+    conjuncts_to joined_of conjunct_applied comparison_by expr_data inputs_merged overridden add_range add_bound add_non_null add_literal add_residual
+    push_residual
+    union_values union_of joined normalized non_nulls_moved literals_moved ranges_moved put_non_null put_literal put_range lay_range cross_check
+    empty_set empty_classes
     each root_of climb parent_in lt eq of_int
 key-refused = refl
 
 -- the outer input counts, though the inner one has the lower handle
 outer_refused : derive_of refuse_plan 3 ≡ refused (UnsupportedKey (record { 0 = 2 }))
-unfolding derive_of plan_ok counts_within all_from expr_ok_of record_ok lists_ok row_of line_of bits_ok handle_ok count_of more_of item_ok operator_ok_of scans_of any_from
-    count_from answer_of answers_to operator_data identities_of filled base_of by_key table_in first_from number_by lineage_entry definition_entry scanned derived_columns
-    projected renamed mapped computed carried keys_ok keys_of key_column grouped steps_to assigned defined given filtered empty_facts predicate_applied all_applied
-    conjuncts_to joined_of conjunct_applied comparison_by expr_data inputs_merged overridden add_range add_bound add_non_null add_literal add_residual push_residual
-    union_values union_of joined normalized non_nulls_moved literals_moved ranges_moved put_non_null put_literal put_range lay_range cross_check empty_set empty_classes
+unfolding derive_of plan_ok counts_within all_from expr_ok_of record_ok lists_ok row_of line_of bits_ok handle_ok count_of more_of item_ok
+    operator_ok_of scans_of any_from
+    count_from answer_of answers_to operator_data identities_of filled base_of by_key table_in first_from number_by lineage_entry definition_entry
+    scanned derived_columns
+    projected renamed mapped computed carried keys_ok keys_of key_column grouped steps_to assigned defined given filtered empty_facts
+    predicate_applied all_applied
+    conjuncts_to joined_of conjunct_applied comparison_by expr_data inputs_merged overridden add_range add_bound add_non_null add_literal add_residual
+    push_residual
+    union_values union_of joined normalized non_nulls_moved literals_moved ranges_moved put_non_null put_literal put_range lay_range cross_check
+    empty_set empty_classes
     each root_of climb parent_in lt eq of_int
 outer_refused = refl
 
 -- an operator that is not reached does not refuse
 unreached : derive_of refuse_plan 4 ≡ facts_of (1 ∷ []) [] empty_set
-unfolding derive_of plan_ok counts_within all_from expr_ok_of record_ok lists_ok row_of line_of bits_ok handle_ok count_of more_of item_ok operator_ok_of scans_of any_from
-    count_from answer_of answers_to operator_data identities_of filled base_of by_key table_in first_from number_by lineage_entry definition_entry scanned derived_columns
-    projected renamed mapped computed carried keys_ok keys_of key_column grouped steps_to assigned defined given filtered empty_facts predicate_applied all_applied
-    conjuncts_to joined_of conjunct_applied comparison_by expr_data inputs_merged overridden add_range add_bound add_non_null add_literal add_residual push_residual
-    union_values union_of joined normalized non_nulls_moved literals_moved ranges_moved put_non_null put_literal put_range lay_range cross_check empty_set empty_classes
+unfolding derive_of plan_ok counts_within all_from expr_ok_of record_ok lists_ok row_of line_of bits_ok handle_ok count_of more_of item_ok
+    operator_ok_of scans_of any_from
+    count_from answer_of answers_to operator_data identities_of filled base_of by_key table_in first_from number_by lineage_entry definition_entry
+    scanned derived_columns
+    projected renamed mapped computed carried keys_ok keys_of key_column grouped steps_to assigned defined given filtered empty_facts
+    predicate_applied all_applied
+    conjuncts_to joined_of conjunct_applied comparison_by expr_data inputs_merged overridden add_range add_bound add_non_null add_literal add_residual
+    push_residual
+    union_values union_of joined normalized non_nulls_moved literals_moved ranges_moved put_non_null put_literal put_range lay_range cross_check
+    empty_set empty_classes
     each root_of climb parent_in lt eq of_int
 unreached = refl
 
 -- an operator that is not there: the number that was asked for
 no_such : derive_of refuse_plan 5 ≡ refused (NoSuch (record { 0 = 5 }))
-unfolding derive_of plan_ok counts_within all_from expr_ok_of record_ok lists_ok row_of line_of bits_ok handle_ok count_of more_of item_ok operator_ok_of scans_of any_from
-    count_from answer_of answers_to operator_data identities_of filled base_of by_key table_in first_from number_by lineage_entry definition_entry scanned derived_columns
-    projected renamed mapped computed carried keys_ok keys_of key_column grouped steps_to assigned defined given filtered empty_facts predicate_applied all_applied
-    conjuncts_to joined_of conjunct_applied comparison_by expr_data inputs_merged overridden add_range add_bound add_non_null add_literal add_residual push_residual
-    union_values union_of joined normalized non_nulls_moved literals_moved ranges_moved put_non_null put_literal put_range lay_range cross_check empty_set empty_classes
+unfolding derive_of plan_ok counts_within all_from expr_ok_of record_ok lists_ok row_of line_of bits_ok handle_ok count_of more_of item_ok
+    operator_ok_of scans_of any_from
+    count_from answer_of answers_to operator_data identities_of filled base_of by_key table_in first_from number_by lineage_entry definition_entry
+    scanned derived_columns
+    projected renamed mapped computed carried keys_ok keys_of key_column grouped steps_to assigned defined given filtered empty_facts
+    predicate_applied all_applied
+    conjuncts_to joined_of conjunct_applied comparison_by expr_data inputs_merged overridden add_range add_bound add_non_null add_literal add_residual
+    push_residual
+    union_values union_of joined normalized non_nulls_moved literals_moved ranges_moved put_non_null put_literal put_range lay_range cross_check
+    empty_set empty_classes
     each root_of climb parent_in lt eq of_int
 no_such = refl
 
@@ -288,29 +354,44 @@ join_plan = record {
 
 -- right lineage overrides left; RightOuter keeps the right's constraints, FullOuter none
 right_case : derive_of join_plan 3 ≡ facts_of (1 ∷ []) [] (set_of alone true none (below 5) [] false)
-unfolding derive_of plan_ok counts_within all_from expr_ok_of record_ok lists_ok row_of line_of bits_ok handle_ok count_of more_of item_ok operator_ok_of scans_of any_from
-    count_from answer_of answers_to operator_data identities_of filled base_of by_key table_in first_from number_by lineage_entry definition_entry scanned derived_columns
-    projected renamed mapped computed carried keys_ok keys_of key_column grouped steps_to assigned defined given filtered empty_facts predicate_applied all_applied
-    conjuncts_to joined_of conjunct_applied comparison_by expr_data inputs_merged overridden add_range add_bound add_non_null add_literal add_residual push_residual
-    union_values union_of joined normalized non_nulls_moved literals_moved ranges_moved put_non_null put_literal put_range lay_range cross_check empty_set empty_classes
+unfolding derive_of plan_ok counts_within all_from expr_ok_of record_ok lists_ok row_of line_of bits_ok handle_ok count_of more_of item_ok
+    operator_ok_of scans_of any_from
+    count_from answer_of answers_to operator_data identities_of filled base_of by_key table_in first_from number_by lineage_entry definition_entry
+    scanned derived_columns
+    projected renamed mapped computed carried keys_ok keys_of key_column grouped steps_to assigned defined given filtered empty_facts
+    predicate_applied all_applied
+    conjuncts_to joined_of conjunct_applied comparison_by expr_data inputs_merged overridden add_range add_bound add_non_null add_literal add_residual
+    push_residual
+    union_values union_of joined normalized non_nulls_moved literals_moved ranges_moved put_non_null put_literal put_range lay_range cross_check
+    empty_set empty_classes
     each root_of climb parent_in lt eq of_int
 right_case = refl
 
 full_case : derive_of join_plan 4 ≡ facts_of (1 ∷ []) [] empty_set
-unfolding derive_of plan_ok counts_within all_from expr_ok_of record_ok lists_ok row_of line_of bits_ok handle_ok count_of more_of item_ok operator_ok_of scans_of any_from
-    count_from answer_of answers_to operator_data identities_of filled base_of by_key table_in first_from number_by lineage_entry definition_entry scanned derived_columns
-    projected renamed mapped computed carried keys_ok keys_of key_column grouped steps_to assigned defined given filtered empty_facts predicate_applied all_applied
-    conjuncts_to joined_of conjunct_applied comparison_by expr_data inputs_merged overridden add_range add_bound add_non_null add_literal add_residual push_residual
-    union_values union_of joined normalized non_nulls_moved literals_moved ranges_moved put_non_null put_literal put_range lay_range cross_check empty_set empty_classes
+unfolding derive_of plan_ok counts_within all_from expr_ok_of record_ok lists_ok row_of line_of bits_ok handle_ok count_of more_of item_ok
+    operator_ok_of scans_of any_from
+    count_from answer_of answers_to operator_data identities_of filled base_of by_key table_in first_from number_by lineage_entry definition_entry
+    scanned derived_columns
+    projected renamed mapped computed carried keys_ok keys_of key_column grouped steps_to assigned defined given filtered empty_facts
+    predicate_applied all_applied
+    conjuncts_to joined_of conjunct_applied comparison_by expr_data inputs_merged overridden add_range add_bound add_non_null add_literal add_residual
+    push_residual
+    union_values union_of joined normalized non_nulls_moved literals_moved ranges_moved put_non_null put_literal put_range lay_range cross_check
+    empty_set empty_classes
     each root_of climb parent_in lt eq of_int
 full_case = refl
 
 -- LeftMark gives the left's facts, and the marker is Derived
 mark_case : derive_of join_plan 5 ≡ facts_of (65 ∷ 66 ∷ []) [] empty_set
-unfolding derive_of plan_ok counts_within all_from expr_ok_of record_ok lists_ok row_of line_of bits_ok handle_ok count_of more_of item_ok operator_ok_of scans_of any_from
-    count_from answer_of answers_to operator_data identities_of filled base_of by_key table_in first_from number_by lineage_entry definition_entry scanned derived_columns
-    projected renamed mapped computed carried keys_ok keys_of key_column grouped steps_to assigned defined given filtered empty_facts predicate_applied all_applied
-    conjuncts_to joined_of conjunct_applied comparison_by expr_data inputs_merged overridden add_range add_bound add_non_null add_literal add_residual push_residual
-    union_values union_of joined normalized non_nulls_moved literals_moved ranges_moved put_non_null put_literal put_range lay_range cross_check empty_set empty_classes
+unfolding derive_of plan_ok counts_within all_from expr_ok_of record_ok lists_ok row_of line_of bits_ok handle_ok count_of more_of item_ok
+    operator_ok_of scans_of any_from
+    count_from answer_of answers_to operator_data identities_of filled base_of by_key table_in first_from number_by lineage_entry definition_entry
+    scanned derived_columns
+    projected renamed mapped computed carried keys_ok keys_of key_column grouped steps_to assigned defined given filtered empty_facts
+    predicate_applied all_applied
+    conjuncts_to joined_of conjunct_applied comparison_by expr_data inputs_merged overridden add_range add_bound add_non_null add_literal add_residual
+    push_residual
+    union_values union_of joined normalized non_nulls_moved literals_moved ranges_moved put_non_null put_literal put_range lay_range cross_check
+    empty_set empty_classes
     each root_of climb parent_in lt eq of_int
 mark_case = refl

@@ -53,7 +53,8 @@ Fine p h = (length (residuals_at p h) ≤ 64) × (keys_fine p (operator_at p h) 
 -- what the answer d of the operator h says
 pub data Told (p : Plan) (h : ℕ) (d : DeriveAnswer) : Type 0 where
   -- facts, with no more residuals than there is room for; its inputs have facts too
-  facts : d.outcome ≡ Accepted → Roomy d.facts.constraints → Fine p h → ((i : ℕ) → IsInput (operator_at p h) i → (answer_of p i).outcome ≡ Accepted) → Told
+  facts : d.outcome ≡ Accepted → Roomy d.facts.constraints → Fine p h → ((i : ℕ) → IsInput (operator_at p h) i → (answer_of p i).outcome ≡ Accepted) →
+      Told
       p h d
   -- refusal 7 by an operator that is reached, whose list would pass 64
   full : (q : ℕ) → Reached p h q → d.outcome ≡ Residuals (numbered q) → 64 < length (residuals_at p q) → Told p h d
@@ -66,8 +67,10 @@ module _ (p : Plan) (h : ℕ) where
       → (d.outcome ≡ Accepted → Roomy d.facts.constraints → Told p h (make d.facts)) → Told p h (given d make)
   unfolding given
   given-told d make i u (facts e r fine up) f = subst (λ (o : DeriveOutcome). Told p h (cond (is_accepted o) (make d.facts) d)) (sym e) (f e r)
-  given-told d make i u (full q w e n) f = subst (λ (o : DeriveOutcome). Told p h (cond (is_accepted o) (make d.facts) d)) (sym e) (full q (through u w) e n)
-  given-told d make i u (key q w e n) f = subst (λ (o : DeriveOutcome). Told p h (cond (is_accepted o) (make d.facts) d)) (sym e) (key q (through u w) e n)
+  given-told d make i u (full q w e n) f = subst (λ (o : DeriveOutcome). Told p h (cond (is_accepted o) (make d.facts) d)) (sym e) (full q (through u
+      w) e n)
+  given-told d make i u (key q w e n) f = subst (λ (o : DeriveOutcome). Told p h (cond (is_accepted o) (make d.facts) d)) (sym e) (key q (through u w)
+      e n)
 
   -- an input's answer is used as it is by Sort, Limit and Output
   passed_on : (d : DeriveAnswer) (i : ℕ) → IsInput (operator_at p h) i → Told p i d → (d.outcome ≡ Accepted → Roomy d.facts.constraints → Told p h d)
@@ -89,14 +92,16 @@ module _ (p : Plan) (h : ℕ) where
     -- h is fine, and its inputs have facts
     fine_here : length list_here ≤ 64 → keys_fine p o ≡ true → Fine p h
     fine_here n k =
-        subst (λ (x : OperatorData). (length (operator_list p (answer_of p (outer_of x)).facts (answer_of p (inner_of x)).facts x) ≤ 64) × (keys_fine p x ≡ true))
+        subst (λ (x : OperatorData). (length (operator_list p (answer_of p (outer_of x)).facts (answer_of p (inner_of x)).facts x) ≤ 64) × (keys_fine
+        p x ≡ true))
         (sym is) (n, k)
 
     abbrev Inputs : Type 0
     Inputs = (i : ℕ) → IsInput (operator_at p h) i → (answer_of p i).outcome ≡ Accepted
 
     -- what applying and merging say
-    answered-told : Inputs → keys_fine p o ≡ true → (old f : LogicalFacts) (a : Applied) → Kept a list_here → Told p h (fitted (numbered h) (answered old f a))
+    answered-told : Inputs → keys_fine p o ≡ true → (old f : LogicalFacts) (a : Applied) → Kept a list_here → Told p h (fitted (numbered h) (answered
+        old f a))
     answered-told up k old f a (inl m) =
         subst (λ (t : Bool). Told p h
         (fitted (numbered h)
@@ -165,25 +170,29 @@ module _ (p : Plan) (h : ℕ) where
     input o is i u = subst (λ (x : OperatorData). IsInput x i) (sym is) u
 
     -- all inputs have facts where those of the node have
-    inputs : (o : OperatorData) → operator_at p h ≡ o → ((i : ℕ) → IsInput o i → (answer_of p i).outcome ≡ Accepted) → (i : ℕ) → IsInput (operator_at p h) i
+    inputs : (o : OperatorData) → operator_at p h ≡ o → ((i : ℕ) → IsInput o i → (answer_of p i).outcome ≡ Accepted) → (i : ℕ) → IsInput (operator_at
+        p h) i
         → (answer_of p i).outcome ≡ Accepted
     inputs o is f i u = f i (subst (λ (x : OperatorData). IsInput x i) is u)
 
     one : (j : ℕ) → (answer_of p j).outcome ≡ Accepted → (i : ℕ) → i ≡ j → (answer_of p i).outcome ≡ Accepted
     one j e i w = subst (λ (k : ℕ). (answer_of p k).outcome ≡ Accepted) (sym w) e
 
-    two : (j k : ℕ) → (answer_of p j).outcome ≡ Accepted → (answer_of p k).outcome ≡ Accepted → (i : ℕ) → (i ≡ j) ⊎ (i ≡ k) → (answer_of p i).outcome ≡ Accepted
+    two : (j k : ℕ) → (answer_of p j).outcome ≡ Accepted → (answer_of p k).outcome ≡ Accepted → (i : ℕ) → (i ≡ j) ⊎ (i ≡ k) → (answer_of p i).outcome
+        ≡ Accepted
     two j k e f i (inl w) = one j e i w
     two j k e f i (inr w) = one k f i w
 
     -- an answer with a set that has room, by a node that adds no residual
     module _ (o : OperatorData) (is : operator_at p h ≡ o) (none : list_here o is ≡ []) (k : keys_fine p o ≡ true) where
-      plain : ((i : ℕ) → IsInput o i → (answer_of p i).outcome ≡ Accepted) → (d : DeriveAnswer) → d.outcome ≡ Accepted → Roomy d.facts.constraints → Told p
+      plain : ((i : ℕ) → IsInput o i → (answer_of p i).outcome ≡ Accepted) → (d : DeriveAnswer) → d.outcome ≡ Accepted → Roomy d.facts.constraints →
+          Told p
           h d
       plain up d e r = facts e r (fine_here o is (subst (λ (l : List ℕ). length l ≤ 64) (sym none) (omega arith)) k) (inputs o is up)
 
       -- over one input, which is made into something else
-      single : (i : ℕ) (make : LogicalFacts → DeriveAnswer) → IsInput o i → ((j : ℕ) → IsInput o j → j ≡ i) → ((f : LogicalFacts) → (make f).outcome ≡ Accepted)
+      single : (i : ℕ) (make : LogicalFacts → DeriveAnswer) → IsInput o i → ((j : ℕ) → IsInput o j → j ≡ i) → ((f : LogicalFacts) → (make f).outcome ≡
+          Accepted)
           → ((f : LogicalFacts) → Roomy f.constraints → Roomy (make f).facts.constraints) → Told p h (given (answer_of p i) make)
       single i make u only yes-said room =
           given-told (answer_of p i) make i (input o is i u) (told i (input o is i u))
@@ -203,7 +212,8 @@ module _ (p : Plan) (h : ℕ) where
         (answer_of p outer.0).facts (answer_of p inner.0).facts rf rg refl
     joined-told LeftSemi on outer inner is eo ei rf rg = plain (Join LeftSemi on outer inner) is refl refl (two outer.0 inner.0 eo ei) _ refl rf
     joined-told LeftAnti on outer inner is eo ei rf rg = plain (Join LeftAnti on outer inner) is refl refl (two outer.0 inner.0 eo ei) _ refl rf
-    joined-told (LeftMark c) on outer inner is eo ei rf rg = plain (Join (LeftMark c) on outer inner) is refl refl (two outer.0 inner.0 eo ei) _ refl rf
+    joined-told (LeftMark c) on outer inner is eo ei rf rg = plain (Join (LeftMark c) on outer inner) is refl refl (two outer.0 inner.0 eo ei) _ refl
+        rf
     joined-told LeftOuter on outer inner is eo ei rf rg = plain (Join LeftOuter on outer inner) is refl refl (two outer.0 inner.0 eo ei) _ refl rf
     joined-told Single on outer inner is eo ei rf rg = plain (Join Single on outer inner) is refl refl (two outer.0 inner.0 eo ei) _ refl rf
     joined-told RightOuter on outer inner is eo ei rf rg = plain (Join RightOuter on outer inner) is refl refl (two outer.0 inner.0 eo ei) _ refl rg
@@ -222,7 +232,8 @@ module _ (p : Plan) (h : ℕ) where
         go true e = plain (Aggregation i keys aggregates) is refl e (one i.0 up) _ refl roomy-empty
         go false e = key h here refl (ap (keys_fine p) is ∙ e)
 
-    operator-told : (o : OperatorData) → operator_at p h ≡ o → Told p h (operator_derived p ids (numbered h) (answer_of p (outer_of o)) (answer_of p (inner_of o)) o)
+    operator-told : (o : OperatorData) → operator_at p h ≡ o → Told p h (operator_derived p ids (numbered h) (answer_of p (outer_of o)) (answer_of p
+        (inner_of o)) o)
     operator-told (Scan table columns) is = plain (Scan table columns) is refl refl (λ i u. absurd u) _ refl roomy-empty
     operator-told (ConstScan columns) is = plain (ConstScan columns) is refl refl (λ i u. absurd u) _ refl roomy-empty
     operator-told (TableFunction columns) is = plain (TableFunction columns) is refl refl (λ i u. absurd u) _ refl roomy-empty
@@ -264,7 +275,8 @@ module _ (p : Plan) (ok : plan_ok p ≡ true) where
   by-inputs h l r l2 r2 (ConstScan columns) f g = refl
   by-inputs h l r l2 r2 (TableFunction columns) f g = refl
   by-inputs h l r l2 r2 (Selection e i) f g = λ j. operator_derived p (identities_of p) (numbered h) (f i.0 refl refl j) r (Selection e i)
-  by-inputs h l r l2 r2 (Projection i columns) f g = λ j. operator_derived p (identities_of p) (numbered h) (f i.0 refl refl j) r (Projection i columns)
+  by-inputs h l r l2 r2 (Projection i columns) f g = λ j. operator_derived p (identities_of p) (numbered h) (f i.0 refl refl j) r (Projection i
+      columns)
   by-inputs h l r l2 r2 (Rename i defs) f g = λ j. operator_derived p (identities_of p) (numbered h) (f i.0 refl refl j) r (Rename i defs)
   by-inputs h l r l2 r2 (Map i computations) f g = λ j. operator_derived p (identities_of p) (numbered h) (f i.0 refl refl j) r (Map i computations)
   by-inputs h l r l2 r2 (Aggregation i keys aggregates) f g = λ j. operator_derived p (identities_of p) (numbered h) (f i.0 refl refl j) r
@@ -274,7 +286,8 @@ module _ (p : Plan) (ok : plan_ok p ≡ true) where
   by-inputs h l r l2 r2 (Output i) f g = f i.0 refl refl
   by-inputs h l r l2 r2 (CrossProduct o i) f g = λ j. operator_derived p (identities_of p) (numbered h) (f o.0 (inl refl) refl j)
       (g i.0 (inr refl) refl j) (CrossProduct o i)
-  by-inputs h l r l2 r2 (Join how on o i) f g = λ j. operator_derived p (identities_of p) (numbered h) (f o.0 (inl refl) refl j) (g i.0 (inr refl) refl j)
+  by-inputs h l r l2 r2 (Join how on o i) f g = λ j. operator_derived p (identities_of p) (numbered h) (f o.0 (inl refl) refl j) (g i.0 (inr refl)
+      refl j)
       (Join how on o i)
 
   module _ (h : ℕ) (l : h < p.operators.count) where
@@ -286,7 +299,8 @@ module _ (p : Plan) (ok : plan_ok p ≡ true) where
         (answer_of p (inner_of (operator_at p h))) (operator_at p h)
     answer-rule =
         answer-made p h
-        ∙ by-inputs h _ _ _ _ (operator_at p h) (λ i u e. input-answer i (outer_of (operator_at p h)) u e) (λ i u e. input-answer i (inner_of (operator_at p h)) u e)
+        ∙ by-inputs h _ _ _ _ (operator_at p h) (λ i u e. input-answer i (outer_of (operator_at p h)) u e) (λ i u e. input-answer i (inner_of
+        (operator_at p h)) u e)
 
   -- every answer is told, by the handles before it
   told_below : (n h : ℕ) → h < n → h < p.operators.count → Told p h (answer_of p h)

@@ -44,7 +44,8 @@ each-one n e r k q eq ats ea =
 pub each_none : (n : ℕ) (es : ℕ → ℕ) (r : Each) → r ≡ each_to n es r.st 0 → r ≡ each_to n es r.st 0
 each_none n es r e = e
 
-pub each_more : (n : ℕ) (es : ℕ → ℕ) (st : Tables) (k e : ℕ) (r q : Each) → r ≡ each_to n es st k → e ≡ es k → q ≡ each_with n e r k → q ≡ each_to n es st (k + 1)
+pub each_more : (n : ℕ) (es : ℕ → ℕ) (st : Tables) (k e : ℕ) (r q : Each) → r ≡ each_to n es st k → e ≡ es k → q ≡ each_with n e r k → q ≡ each_to n
+    es st (k + 1)
 unfolding each_to
 each_more n es st k e r q er ee eq =
     eq ∙ ap₂ (λ (x : ℕ) (y : Each). each_with n x y k) ee er ∙ ap (λ (j : ℕ). each_to n es st j) (sym (add-one k))
@@ -58,7 +59,8 @@ held_items ia ib u v held = fun_ext (go held)
     go (Seconds start count) k = refl
     go (Firsts start count more) k = refl
 
-pub each-done : (n : ℕ) (items : Items) (held : Held) (st : Tables) (k c : ℕ) (r : Each) → r ≡ each_to n (held_at (items_of items.a items.b 0) held) st k
+pub each-done : (n : ℕ) (items : Items) (held : Held) (st : Tables) (k c : ℕ) (r : Each) → r ≡ each_to n (held_at (items_of items.a items.b 0) held)
+    st k
     → k ≤ c → c ≤ k → c ≡ held_count held → r ≡ each_to n (held_at items held) st (held_count held)
 each-done n items held st k c r er le ge ec =
     let e : k ≡ c = omega arith in
@@ -108,10 +110,12 @@ module _ (p : Plan) (st : Tables) (d : OperatorData) (held : Held) (at : ℕ →
   abbrev test : ℕ → Bool
   test m = ltb p.operators.count 128 && leb (st.items.count + m) 2048
 
-  pub operator-off : not (ltb p.operators.count 128 && leb (st.items.count + n) 2048) ≡ true → (w : Rewritten) → w ≡ answered p Room → w ≡ add_operator p
+  pub operator-off : not (ltb p.operators.count 128 && leb (st.items.count + n) 2048) ≡ true → (w : Rewritten) → w ≡ answered p Room → w ≡
+      add_operator p
       st d held at
   operator-off e w ew =
-      ew ∙ (λ j. cond (sym (sym (ap test en) ∙ not-true (test n) e) j) (answered (plan_added p st d held at) (Replace (operator_handle p.operators.count)))
+      ew ∙ (λ j. cond (sym (sym (ap test en) ∙ not-true (test n) e) j) (answered (plan_added p st d held at) (Replace (operator_handle
+      p.operators.count)))
       (answered p Room))
 
   pub items-fit : not (ltb p.operators.count 128 && leb (st.items.count + n) 2048) ≡ false → st.items.count + n ≤ 2048
@@ -136,9 +140,11 @@ module _ (p : Plan) (st : Tables) (d : OperatorData) (held : Held) (at : ℕ →
       (er
       ∙ (λ j. cond (lt-leb 128 p.operators.count free j) (no_room (base items))
       (added_at (with_operator (base items) y st.items.count) p.operators.count))
-      ∙ (λ j. added_at (with_operator (base ((ei ∙ ap (λ (m : ℕ). with_list st.items m (item_first p.items held at) (item_second held at)) en) j)) (ey j)
+      ∙ (λ j. added_at (with_operator (base ((ei ∙ ap (λ (m : ℕ). with_list st.items m (item_first p.items held at) (item_second held at)) en) j)) (ey
+      j)
       st.items.count) p.operators.count))
-      ∙ (λ j. cond (sym (sym (ap test en) ∙ t) j) (answered (plan_added p st d held at) (Replace (operator_handle p.operators.count))) (answered p Room))
+      ∙ (λ j. cond (sym (sym (ap test en) ∙ t) j) (answered (plan_added p st d held at) (Replace (operator_handle p.operators.count))) (answered p
+      Room))
 
 -- ---- Selection(true, input)
 module _ (p : Plan) (st : Tables) (d : OperatorData) (held : Held) (at : ℕ → ℕ) (x : Record) (start : ℕ) (v : Bool)
@@ -153,7 +159,8 @@ module _ (p : Plan) (st : Tables) (d : OperatorData) (held : Held) (at : ℕ →
       ∙ (λ j. cond (sym l j) (answered (plan_with p st) (Replace (operator_handle x.b))) (add_operator p st d held at))
       ∙ rw k
 
-  pub input-other : (eqb x.kind 0x33 && v) ≡ false → (w : Rewritten) → w ≡ add_operator p st d held at → w ≡ input_or p st d held at (operator_data x start)
+  pub input-other : (eqb x.kind 0x33 && v) ≡ false → (w : Rewritten) → w ≡ add_operator p st d held at → w ≡ input_or p st d held at (operator_data x
+      start)
   unfolding operator_data
   input-other e w ew = ew ∙ go
     where
@@ -186,13 +193,15 @@ module _ (p : Plan) (st : Tables) (d : OperatorData) (held : Held) (at : ℕ →
 module _ (p : Plan) (d : OperatorData) (r : Each) (er : r ≡ each_of p d) where
   pub rewrite_room : r.ok ≡ false → (w : Rewritten) → w ≡ answered p Room → w ≡ rewrite_of p d (each_of p d)
   unfolding rewrite_of
-  rewrite_room o w ew = ew ∙ (λ j. cond (sym o j) (cond r.st.changed (input_or p r.st d (held_of d) (λ (k : ℕ). get_or r.ats k 0) d) (answered p Keep))
+  rewrite_room o w ew = ew ∙ (λ j. cond (sym o j) (cond r.st.changed (input_or p r.st d (held_of d) (λ (k : ℕ). get_or r.ats k 0) d) (answered p
+      Keep))
       (answered p Room)) ∙ ap (rewrite_of p d) er
 
   pub rewrite_keep : r.ok ≡ true → r.st.changed ≡ false → (w : Rewritten) → w ≡ answered p Keep → w ≡ rewrite_of p d (each_of p d)
   unfolding rewrite_of
   rewrite_keep o c w ew =
-      ew ∙ (λ j. cond (sym o j) (cond (sym c j) (input_or p r.st d (held_of d) (λ (k : ℕ). get_or r.ats k 0) d) (answered p Keep)) (answered p Room)) ∙ ap
+      ew ∙ (λ j. cond (sym o j) (cond (sym c j) (input_or p r.st d (held_of d) (λ (k : ℕ). get_or r.ats k 0) d) (answered p Keep)) (answered p Room))
+      ∙ ap
       (rewrite_of p d) er
 
   pub rewrite_changed : r.ok ≡ true → r.st.changed ≡ true → (held : Held) → held ≡ held_of d

@@ -41,7 +41,8 @@ file_of s t = (s, t)
 unfoldable pub files : List Case
 files =
     -- the listing's input
-    file_of (0x01 ∷ 0x00 ∷ 0x00 ∷ 0x02 ∷ 0x01 ∷ 0x00 ∷ 0x01 ∷ 0x02 ∷ 0x20 ∷ 0x00 ∷ 0x00 ∷ 0x20 ∷ 0x00 ∷ 0x01 ∷ 0x22 ∷ 0x00 ∷ 0x00 ∷ 0x00 ∷ 0x00 ∷ 0x01 ∷ 0x12 ∷
+    file_of (0x01 ∷ 0x00 ∷ 0x00 ∷ 0x02 ∷ 0x01 ∷ 0x00 ∷ 0x01 ∷ 0x02 ∷ 0x20 ∷ 0x00 ∷ 0x00 ∷ 0x20 ∷ 0x00 ∷ 0x01 ∷ 0x22 ∷ 0x00 ∷ 0x00 ∷ 0x00 ∷ 0x00 ∷ 0x01
+    ∷ 0x12 ∷
     0x00 ∷ 0x00 ∷ 0x00 ∷ 0x07 ∷ 0x22 ∷ 0x02 ∷ 0x00 ∷ 0x01 ∷ 0x00 ∷ 0x03 ∷ 0x23 ∷ 0x00 ∷ 0x00 ∷ 0x02 ∷ 0x24 ∷ 0x00 ∷ 0x02 ∷ 0x24 ∷ 0x00 ∷ 0x04 ∷ 0x30 ∷
     0x00 ∷ 0x00 ∷ 0x00 ∷ 0x02 ∷ 0x40 ∷ 0x00 ∷ 0x00 ∷ 0x40 ∷ 0x00 ∷ 0x01 ∷ 0x33 ∷ 0x00 ∷ 0x05 ∷ 0x00 ∷ 0x00 ∷ []) (told Whole 2 6 2 4) ∷
     -- nothing
@@ -63,7 +64,8 @@ files =
     -- a record where an item is wanted
     file_of (0x01 ∷ 0x00 ∷ 0x00 ∷ 0x02 ∷ 0x31 ∷ 0x00 ∷ 0x01 ∷ 0x11 ∷ 0x00 ∷ []) (told (Unknown 7) 0 0 0 0) ∷
     -- an aggregate where a key is wanted
-    file_of (0x01 ∷ 0x00 ∷ 0x00 ∷ 0x02 ∷ 0x20 ∷ 0x00 ∷ 0x00 ∷ 0x31 ∷ 0x00 ∷ 0x00 ∷ 0x37 ∷ 0x00 ∷ 0x00 ∷ 0x00 ∷ 0x01 ∷ 0x00 ∷ 0x01 ∷ 0x40 ∷ 0x00 ∷ 0x00 ∷ [])
+    file_of (0x01 ∷ 0x00 ∷ 0x00 ∷ 0x02 ∷ 0x20 ∷ 0x00 ∷ 0x00 ∷ 0x31 ∷ 0x00 ∷ 0x00 ∷ 0x37 ∷ 0x00 ∷ 0x00 ∷ 0x00 ∷ 0x01 ∷ 0x00 ∷ 0x01 ∷ 0x40 ∷ 0x00 ∷ 0x00
+    ∷ [])
     (told (Unknown 17) 0 0 0 0) ∷
     -- a column of kind 6
     file_of (0x01 ∷ 0x00 ∷ 0x00 ∷ 0x06 ∷ []) (told (Unknown 0) 0 0 0 0) ∷
@@ -86,25 +88,30 @@ files =
     -- a marker not there
     file_of (0x11 ∷ 0x00 ∷ 0x31 ∷ 0x00 ∷ 0x00 ∷ 0x3D ∷ 0x00 ∷ 0x00 ∷ 0x00 ∷ 0x00 ∷ 0x00 ∷ 0x00 ∷ 0x00 ∷ 0x00 ∷ []) (told (Handle 5) 0 0 0 0) ∷
     -- a column in a second Scan
-    file_of (0x01 ∷ 0x00 ∷ 0x00 ∷ 0x02 ∷ 0x30 ∷ 0x00 ∷ 0x00 ∷ 0x00 ∷ 0x01 ∷ 0x40 ∷ 0x00 ∷ 0x00 ∷ 0x30 ∷ 0x00 ∷ 0x01 ∷ 0x00 ∷ 0x01 ∷ 0x40 ∷ 0x00 ∷ 0x00 ∷ [])
+    file_of (0x01 ∷ 0x00 ∷ 0x00 ∷ 0x02 ∷ 0x30 ∷ 0x00 ∷ 0x00 ∷ 0x00 ∷ 0x01 ∷ 0x40 ∷ 0x00 ∷ 0x00 ∷ 0x30 ∷ 0x00 ∷ 0x01 ∷ 0x00 ∷ 0x01 ∷ 0x40 ∷ 0x00 ∷ 0x00
+    ∷ [])
     (told (ScannedTwice 17) 0 0 0 0) ∷
     -- the second item
-    file_of (0x01 ∷ 0x00 ∷ 0x00 ∷ 0x02 ∷ 0x01 ∷ 0x00 ∷ 0x00 ∷ 0x02 ∷ 0x30 ∷ 0x00 ∷ 0x00 ∷ 0x00 ∷ 0x01 ∷ 0x40 ∷ 0x00 ∷ 0x00 ∷ 0x30 ∷ 0x00 ∷ 0x01 ∷ 0x00 ∷ 0x02 ∷
+    file_of (0x01 ∷ 0x00 ∷ 0x00 ∷ 0x02 ∷ 0x01 ∷ 0x00 ∷ 0x00 ∷ 0x02 ∷ 0x30 ∷ 0x00 ∷ 0x00 ∷ 0x00 ∷ 0x01 ∷ 0x40 ∷ 0x00 ∷ 0x00 ∷ 0x30 ∷ 0x00 ∷ 0x01 ∷ 0x00
+    ∷ 0x02 ∷
     0x40 ∷ 0x00 ∷ 0x01 ∷ 0x40 ∷ 0x00 ∷ 0x00 ∷ []) (told (ScannedTwice 24) 0 0 0 0) ∷
     -- a column not there in a second Scan
-    file_of (0x01 ∷ 0x00 ∷ 0x00 ∷ 0x02 ∷ 0x30 ∷ 0x00 ∷ 0x00 ∷ 0x00 ∷ 0x01 ∷ 0x40 ∷ 0x00 ∷ 0x00 ∷ 0x30 ∷ 0x00 ∷ 0x01 ∷ 0x00 ∷ 0x01 ∷ 0x40 ∷ 0x00 ∷ 0x01 ∷ [])
+    file_of (0x01 ∷ 0x00 ∷ 0x00 ∷ 0x02 ∷ 0x30 ∷ 0x00 ∷ 0x00 ∷ 0x00 ∷ 0x01 ∷ 0x40 ∷ 0x00 ∷ 0x00 ∷ 0x30 ∷ 0x00 ∷ 0x01 ∷ 0x00 ∷ 0x01 ∷ 0x40 ∷ 0x00 ∷ 0x01
+    ∷ [])
     (told (Handle 17) 0 0 0 0) ∷
     -- a column twice in one Scan
     file_of (0x01 ∷ 0x00 ∷ 0x00 ∷ 0x02 ∷ 0x30 ∷ 0x00 ∷ 0x00 ∷ 0x00 ∷ 0x03 ∷ 0x40 ∷ 0x00 ∷ 0x00 ∷ 0x40 ∷ 0x00 ∷ 0x00 ∷ 0x40 ∷ 0x00 ∷ 0x00 ∷ [])
     (told Whole 1 0 1 3) ∷
     -- a column reference after a Scan
-    file_of (0x01 ∷ 0x00 ∷ 0x00 ∷ 0x02 ∷ 0x01 ∷ 0x00 ∷ 0x00 ∷ 0x02 ∷ 0x30 ∷ 0x00 ∷ 0x00 ∷ 0x00 ∷ 0x01 ∷ 0x40 ∷ 0x00 ∷ 0x00 ∷ 0x30 ∷ 0x00 ∷ 0x00 ∷ 0x00 ∷ 0x01 ∷
+    file_of (0x01 ∷ 0x00 ∷ 0x00 ∷ 0x02 ∷ 0x01 ∷ 0x00 ∷ 0x00 ∷ 0x02 ∷ 0x30 ∷ 0x00 ∷ 0x00 ∷ 0x00 ∷ 0x01 ∷ 0x40 ∷ 0x00 ∷ 0x00 ∷ 0x30 ∷ 0x00 ∷ 0x00 ∷ 0x00
+    ∷ 0x01 ∷
     0x40 ∷ 0x00 ∷ 0x01 ∷ 0x20 ∷ 0x00 ∷ 0x00 ∷ []) (told Whole 2 1 2 2) ∷
     -- a ConstScan of a column before its Scan
     file_of (0x01 ∷ 0x00 ∷ 0x00 ∷ 0x02 ∷ 0x31 ∷ 0x00 ∷ 0x01 ∷ 0x40 ∷ 0x00 ∷ 0x00 ∷ 0x30 ∷ 0x00 ∷ 0x00 ∷ 0x00 ∷ 0x01 ∷ 0x40 ∷ 0x00 ∷ 0x00 ∷ [])
     (told Whole 1 0 2 2) ∷
     -- an Aggregation
-    file_of (0x01 ∷ 0x00 ∷ 0x07 ∷ 0x01 ∷ 0x01 ∷ 0xFF ∷ 0xFF ∷ 0x05 ∷ 0x11 ∷ 0x01 ∷ 0x10 ∷ 0x03 ∷ 0x31 ∷ 0x00 ∷ 0x00 ∷ 0x31 ∷ 0x00 ∷ 0x00 ∷ 0x37 ∷ 0x00 ∷ 0x01 ∷
+    file_of (0x01 ∷ 0x00 ∷ 0x07 ∷ 0x01 ∷ 0x01 ∷ 0xFF ∷ 0xFF ∷ 0x05 ∷ 0x11 ∷ 0x01 ∷ 0x10 ∷ 0x03 ∷ 0x31 ∷ 0x00 ∷ 0x00 ∷ 0x31 ∷ 0x00 ∷ 0x00 ∷ 0x37 ∷ 0x00
+    ∷ 0x01 ∷
     0x00 ∷ 0x02 ∷ 0x00 ∷ 0x01 ∷ 0x43 ∷ 0x00 ∷ 0x00 ∷ 0x43 ∷ 0x00 ∷ 0x01 ∷ 0x40 ∷ 0x00 ∷ 0x01 ∷ []) (told Whole 2 2 3 3) ∷
     []
 
@@ -113,8 +120,10 @@ AllOf [] = Unit {0}
 AllOf (c ∷ cs) = (told_of c.0 ≡ c.1) × AllOf cs
 
 pub files-read : AllOf files
-unfolding AllOf files told_of code_from word_from bits_from record_from kind_wanted kind_ok fault_of append_of less_one wanted_after scans_after appended_step judged_step
-    row_step record_step step_of start_state steps_of answer_of read_of row_of line_of handle_ok count_of more_of empty_plan append_column append_expr append_operator
+unfolding AllOf files told_of code_from word_from bits_from record_from kind_wanted kind_ok fault_of append_of less_one wanted_after scans_after
+    appended_step judged_step
+    row_step record_step step_of start_state steps_of answer_of read_of row_of line_of handle_ok count_of more_of empty_plan append_column append_expr
+    append_operator
     append_item
 files-read = (
   refl,
@@ -166,39 +175,52 @@ abbrev pub entry : ℕ → ℕ → ℕ → ℕ → ℕ → Record
 entry k c a b bits = record { kind = k; code = c; a = a; b = b; c = 0; d = 0; bits = bits }
 
 pub listing-columns : map (column_record (read_of listing).plan) (0 ∷ 1 ∷ []) ≡ entry 0x01 2 0 0 0 ∷ entry 0x01 2 1 0 0 ∷ []
-unfolding listing files code_from word_from bits_from record_from kind_wanted kind_ok fault_of append_of less_one wanted_after scans_after appended_step judged_step
-    row_step record_step step_of start_state steps_of answer_of read_of row_of line_of handle_ok count_of more_of empty_plan append_column append_expr append_operator
+unfolding listing files code_from word_from bits_from record_from kind_wanted kind_ok fault_of append_of less_one wanted_after scans_after
+    appended_step judged_step
+    row_step record_step step_of start_state steps_of answer_of read_of row_of line_of handle_ok count_of more_of empty_plan append_column append_expr
+    append_operator
     append_item
 listing-columns = refl
 
 pub listing-expressions :
     map (expr_record (read_of listing).plan) (0 ∷ 1 ∷ 2 ∷ 3 ∷ 4 ∷ 5 ∷ []) ≡
     entry 0x20 0 0 0 0 ∷ entry 0x20 0 1 0 0 ∷ entry 0x22 0 0 1 0 ∷ entry 0x12 0 0 0 7 ∷ entry 0x22 2 1 3 0 ∷ entry 0x23 0 2 0 0 ∷ []
-unfolding listing files code_from word_from bits_from record_from kind_wanted kind_ok fault_of append_of less_one wanted_after scans_after appended_step judged_step
-    row_step record_step step_of start_state steps_of answer_of read_of row_of line_of handle_ok count_of more_of empty_plan append_column append_expr append_operator
+unfolding listing files code_from word_from bits_from record_from kind_wanted kind_ok fault_of append_of less_one wanted_after scans_after
+    appended_step judged_step
+    row_step record_step step_of start_state steps_of answer_of read_of row_of line_of handle_ok count_of more_of empty_plan append_column append_expr
+    append_operator
     append_item
 listing-expressions = refl
 
 pub listing-operators : map (operator_record (read_of listing).plan) (0 ∷ 1 ∷ []) ≡ entry 0x30 0 0 2 0 ∷ entry 0x33 0 5 0 0 ∷ []
-unfolding listing files code_from word_from bits_from record_from kind_wanted kind_ok fault_of append_of less_one wanted_after scans_after appended_step judged_step
-    row_step record_step step_of start_state steps_of answer_of read_of row_of line_of handle_ok count_of more_of empty_plan append_column append_expr append_operator
+unfolding listing files code_from word_from bits_from record_from kind_wanted kind_ok fault_of append_of less_one wanted_after scans_after
+    appended_step judged_step
+    row_step record_step step_of start_state steps_of answer_of read_of row_of line_of handle_ok count_of more_of empty_plan append_column append_expr
+    append_operator
     append_item
 listing-operators = refl
 
-pub listing-items : map (item_record (read_of listing).plan) (0 ∷ 1 ∷ 2 ∷ 3 ∷ []) ≡ entry 0 0 2 0 0 ∷ entry 0 0 4 0 0 ∷ entry 0 0 0 0 0 ∷ entry 0 0 1 0 0 ∷ []
-unfolding listing files code_from word_from bits_from record_from kind_wanted kind_ok fault_of append_of less_one wanted_after scans_after appended_step judged_step
-    row_step record_step step_of start_state steps_of answer_of read_of row_of line_of handle_ok count_of more_of empty_plan append_column append_expr append_operator
+pub listing-items : map (item_record (read_of listing).plan) (0 ∷ 1 ∷ 2 ∷ 3 ∷ []) ≡ entry 0 0 2 0 0 ∷ entry 0 0 4 0 0 ∷ entry 0 0 0 0 0 ∷ entry 0 0 1
+    0 0 ∷ []
+unfolding listing files code_from word_from bits_from record_from kind_wanted kind_ok fault_of append_of less_one wanted_after scans_after
+    appended_step judged_step
+    row_step record_step step_of start_state steps_of answer_of read_of row_of line_of handle_ok count_of more_of empty_plan append_column append_expr
+    append_operator
     append_item
 listing-items = refl
 
 pub listing-starts : map (expr_start (read_of listing).plan) (4 ∷ 5 ∷ []) ≡ 0 ∷ 0 ∷ []
-unfolding listing files code_from word_from bits_from record_from kind_wanted kind_ok fault_of append_of less_one wanted_after scans_after appended_step judged_step
-    row_step record_step step_of start_state steps_of answer_of read_of row_of line_of handle_ok count_of more_of empty_plan append_column append_expr append_operator
+unfolding listing files code_from word_from bits_from record_from kind_wanted kind_ok fault_of append_of less_one wanted_after scans_after
+    appended_step judged_step
+    row_step record_step step_of start_state steps_of answer_of read_of row_of line_of handle_ok count_of more_of empty_plan append_column append_expr
+    append_operator
     append_item
 listing-starts = refl
 
 pub listing-operator-starts : map (operator_start (read_of listing).plan) (0 ∷ 1 ∷ []) ≡ 2 ∷ 4 ∷ []
-unfolding listing files code_from word_from bits_from record_from kind_wanted kind_ok fault_of append_of less_one wanted_after scans_after appended_step judged_step
-    row_step record_step step_of start_state steps_of answer_of read_of row_of line_of handle_ok count_of more_of empty_plan append_column append_expr append_operator
+unfolding listing files code_from word_from bits_from record_from kind_wanted kind_ok fault_of append_of less_one wanted_after scans_after
+    appended_step judged_step
+    row_step record_step step_of start_state steps_of answer_of read_of row_of line_of handle_ok count_of more_of empty_plan append_column append_expr
+    append_operator
     append_item
 listing-operator-starts = refl

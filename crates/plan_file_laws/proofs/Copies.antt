@@ -84,7 +84,12 @@ unfolding kind_wanted
 kind_at x m h =
     elim (dec_lt m (first_of x)) [
       | yes l ↦ rw (lt-ltb 0 (first_of x - m) (omega arith), lt-ltb m (first_of x) l)
-      | no l ↦ rw (le-ltb 0 (first_of x - m) (omega arith), lt-ltb 0 (second_of x - (m - first_of x)) (omega arith), le-ltb m (first_of x) (omega arith))
+      | no l ↦ rw (
+        le-ltb 0 (first_of x - m) (omega arith),
+        lt-ltb 0 (second_of x - (m - first_of x)) (omega arith),
+        le-ltb m (first_of x) (omega
+            arith),
+      )
     ]
 
 pub kind-end : (x : Record) → kind_wanted (wanted_at x (total_of x)) ≡ 0
@@ -102,7 +107,8 @@ pub record Copy (p r : Plan) (c e o : ℕ) : Type 0 where
   pub column : (i : ℕ) → i < c → column_record r i ≡ column_record p i
   pub expr : (i : ℕ) → i < e → expr_record r i ≡ expr_record p i
   pub expr-start : (i : ℕ) → i < e → expr_start r i ≡ expr_items p i
-  pub expr-items : (i : ℕ) → i < e → (k : ℕ) → k < total_of (expr_record p i) → item_record r (expr_start r i + k) ≡ item_record p (expr_start p i + k)
+  pub expr-items : (i : ℕ) → i < e → (k : ℕ) → k < total_of (expr_record p i) → item_record r (expr_start r i + k) ≡ item_record p (expr_start p i +
+      k)
   pub expr-whole : (i : ℕ) → i < e → expr_start r i + total_of (expr_record p i) ≤ r.items.count
   pub operator : (i : ℕ) → i < o → operator_record r i ≡ operator_record p i
   pub operator-start : (i : ℕ) → i < o → operator_start r i ≡ expr_items p p.expressions.count + operator_items p i
@@ -111,7 +117,8 @@ pub record Copy (p r : Plan) (c e o : ℕ) : Type 0 where
   pub operator-whole : (i : ℕ) → i < o → operator_start r i + total_of (operator_record p i) ≤ r.items.count
 
 -- a copy that grows stays one
-pub copy_grow : (p r u : Plan) (c e o : ℕ) → Extends r u → c ≤ r.columns.count → e ≤ r.expressions.count → o ≤ r.operators.count → Copy p r c e o → Copy
+pub copy_grow : (p r u : Plan) (c e o : ℕ) → Extends r u → c ≤ r.columns.count → e ≤ r.expressions.count → o ≤ r.operators.count → Copy p r c e o →
+    Copy
     p u c e o
 copy_grow p r u c e o g hc he ho y =
     record {
@@ -185,7 +192,8 @@ item-right p x st m nc me mp np h g =
     record {
       code = zero-code (row_of (item_kind x m)) (item_of p x st m) (item-low (item_kind x m) s) refl;
       bits = bits-ok-zero (row_of (item_kind x m)) (item_of p x st m) (no_bits (item_kind x m) (λ e. omega arith)) refl;
-      handles = handles-part (row_of (item_kind x m)) (item_record p (st + m)) (item_of p x st m) nc me mp np (item-row (item_kind x m) s) refl refl refl refl g;
+      handles = handles-part (row_of (item_kind x m)) (item_record p (st + m)) (item_of p x st m) nc me mp np (item-row (item_kind x m) s) refl refl
+          refl refl g;
     }
 
 -- ---- one item more
@@ -256,8 +264,11 @@ mid_run H p xs q c e o ce co n x st g d (suc m) h =
     let v = mid_run H p xs q c e o ce co n x st g d m (omega arith) in
     let ys = xs ++ (x ∷ items_of p x st m) in
     let u = mid_next H p ys v.0 c e o ce co n x st m g.grows g.exprs g.operators h (omega (arith, g.room)) (g.right m h)
-    (g.once m h ys v.0 v.1) v.1 in
-    (u.0, subst (λ (zs : List Record). Mid H p zs u.0 c e o ce co n x st (suc m)) (append_assoc xs (x ∷ items_of p x st m) (item_of p x st m ∷ [])) u.1)
+    (g.once m h ys v.0 v.1) v.1 in (
+      u.0,
+      subst (λ (zs : List Record). Mid H p zs u.0 c e o ce co n x st (suc m)) (append_assoc xs (x ∷ items_of p x st m) (item_of p x st m ∷ []))
+          u.1,
+    )
 
 -- ---- the plan that is copied
 -- it keeps the rules, and its lists, taken one after the other, fit the table of items
@@ -293,7 +304,13 @@ unfolding record_ok
 record_parts sort x nc ne np e =
     let a = and_right (eqb (row_of x.kind).sort sort) _ e in
     let b = and_right (code_ok (row_of x.kind) x) _ a in
-    record { sort-is = eqb-true _ _ (and_left _ _ e); code = and_left _ _ a; bits = and_left _ _ b; handles = and_right (bits_ok (row_of x.kind) x) _ b }
+    record {
+      sort-is = eqb-true _ _ (and_left _ _ e);
+      code = and_left _ _ a;
+      bits = and_left _ _ b;
+      handles = and_right (bits_ok (row_of x.kind) x) _
+          b;
+    }
 
 pub expr-parts : (p : Plan) (i : ℕ) → expr_ok p i ≡ true → Record-ok 2 (expr_record p i) p.columns.count i p.operators.count
     × (lists_ok p.items.a p.items.b p.items.count (expr_record p i) (expr_start p i) p.columns.count (suc i) p.operators.count ≡ true)
@@ -318,7 +335,8 @@ and-false-first : (a b c : Bool) → (((a && false) && b) && c) ≡ false
 and-false-first true b c = refl
 and-false-first false b c = refl
 
-pub other-once : (r : Row) (x y : Record) (m : ℕ) (w : Wanted) (scans : List ℕ) (np : ℕ) → w ≡ wanted_at y m → (y.kind ≡ 0x30 → ⊥) → scanned_twice r x w scans
+pub other-once : (r : Row) (x y : Record) (m : ℕ) (w : Wanted) (scans : List ℕ) (np : ℕ) → w ≡ wanted_at y m → (y.kind ≡ 0x30 → ⊥) → scanned_twice r x
+    w scans
     np ≡ false
 other-once r x y m w scans np e n = rw (ap (λ (v : Wanted). v.scan) e ∙ ne_eqb y.kind 0x30 n) (and-false-first (eqb r.sort 4) _ _)
 
@@ -327,6 +345,7 @@ pub column-sort : (row_of 0x01).sort ≡ 1
 unfolding row_of line_of
 column-sort = refl
 
-pub column-right : (p : Plan) (i nc ne np : ℕ) → (leb 1 (column_record p i).code && leb (column_record p i).code 5) ≡ true → Right (column_record p i) nc ne np
+pub column-right : (p : Plan) (i nc ne np : ℕ) → (leb 1 (column_record p i).code && leb (column_record p i).code 5) ≡ true → Right (column_record p i)
+    nc ne np
 unfolding row_of line_of bits_ok handle_ok
 column-right p i nc ne np e = record { code = e; bits = refl; handles = refl }

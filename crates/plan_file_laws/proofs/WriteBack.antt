@@ -196,12 +196,15 @@ read-plan s b e =
 -- the items of a list that stands at the same place
 module _ (p r : Plan) (e : (i : ℕ) → i < p.expressions.count → expr_start p i ≡ expr_start r i)
     (o : (i : ℕ) → i < p.operators.count → operator_start p i ≡ operator_start r i)
-    (ei : (i : ℕ) → i < p.expressions.count → (k : ℕ) → k < total_of (expr_record p i) → item_record p (expr_start p i + k) ≡ item_record r (expr_start r i + k))
+    (ei : (i : ℕ) → i < p.expressions.count → (k : ℕ) → k < total_of (expr_record p i) → item_record p (expr_start p i + k) ≡ item_record r
+    (expr_start r i + k))
     (oi : (i : ℕ) → i < p.operators.count → (k : ℕ) → k < total_of (operator_record p i) → item_record p (operator_start p i + k) ≡ item_record r
     (operator_start r i + k)) where
   same-items : (j : ℕ) → Covered p j → item_record p j ≡ item_record r j
-  same-items j (by-expr i k h l s) = ap (item_record p) (sym s) ∙ ei i h k l ∙ ap (λ (n : ℕ). item_record r (n + k)) (sym (e i h)) ∙ ap (item_record r) s
-  same-items j (by-operator i k h l s) = ap (item_record p) (sym s) ∙ oi i h k l ∙ ap (λ (n : ℕ). item_record r (n + k)) (sym (o i h)) ∙ ap (item_record r) s
+  same-items j (by-expr i k h l s) = ap (item_record p) (sym s) ∙ ei i h k l ∙ ap (λ (n : ℕ). item_record r (n + k)) (sym (e i h)) ∙ ap (item_record
+      r) s
+  same-items j (by-operator i k h l s) = ap (item_record p) (sym s) ∙ oi i h k l ∙ ap (λ (n : ℕ). item_record r (n + k)) (sym (o i h)) ∙ ap
+      (item_record r) s
 
 placed_same : (p : Plan) (w : WasRead p) → Placed p → p ≡ w.back.plan
 placed_same p w l =
@@ -224,7 +227,8 @@ placed_same p w l =
     })
 
 -- Reading what the writer writes of an accepted plan in the writer's placement gives the very plan back. Assumes nothing.
-pub placed-back : (s : List ℕ) → Bytes s → is_whole (read_of s).reading ≡ true → Placed (read_of s).plan → read_of (write_of (read_of s).plan) ≡ record
+pub placed-back : (s : List ℕ) → Bytes s → is_whole (read_of s).reading ≡ true → Placed (read_of s).plan → read_of (write_of (read_of s).plan) ≡
+    record
     { plan = (read_of s).plan; reading = Whole }
 placed-back s b e l =
     let w = read-plan s b e in
@@ -236,7 +240,8 @@ back-placed p w =
     let c = w.copy in
     let e : (i : ℕ) → i ≤ p.expressions.count → expr_items w.plan i ≡ expr_items p i = λ i h. sums_same (expr_record w.plan) (expr_record p) i
     (λ j u. c.expr j (omega arith)) in
-    let o : (i : ℕ) → i ≤ p.operators.count → operator_items w.plan i ≡ operator_items p i = λ i h. sums_same (operator_record w.plan) (operator_record p)
+    let o : (i : ℕ) → i ≤ p.operators.count → operator_items w.plan i ≡ operator_items p i = λ i h. sums_same (operator_record w.plan)
+    (operator_record p)
     i (λ j u. c.operator j (omega arith)) in
     record {
       expr = λ i h. c.expr-start i (omega (arith, w.exprs)) ∙ sym (e i (omega (arith, w.exprs)));
@@ -247,7 +252,8 @@ back-placed p w =
 -- ---- files in the writer's order
 -- A file whose columns come first, then its expressions, then its operators, is what the writer writes of its plan. Assumes nothing.
 pub in_order_lem :
-    (s : List ℕ) → Bytes s → is_whole (read_of s).reading ≡ true → records_of s ≡ part_of 1 (records_of s) ++ (part_of 2 (records_of s) ++ part_of 3 (records_of s))
+    (s : List ℕ) → Bytes s → is_whole (read_of s).reading ≡ true → records_of s ≡ part_of 1 (records_of s) ++ (part_of 2 (records_of s) ++ part_of 3
+    (records_of s))
     → s ≡ write_of (read_of s).plan
 in_order_lem s b e o =
     let f = file_of_lem s b e in
@@ -262,7 +268,8 @@ module _ (s t : List ℕ) (bs : Bytes s) (bt : Bytes t) (es : is_whole (read_of 
   abbrev plan_t : Plan
   plan_t = (read_of t).plan
 
-  same-records : Three (records_of s) (part_of 1 (records_of t)) (part_of 2 (records_of t)) (part_of 3 (records_of t)) → plan_records plan_s ≡ plan_records plan_t
+  same-records : Three (records_of s) (part_of 1 (records_of t)) (part_of 2 (records_of t)) (part_of 3 (records_of t)) → plan_records plan_s ≡
+      plan_records plan_t
   same-records h =
       let u = parts-read s bs es in
       let v = parts-read t bt et in
@@ -300,7 +307,8 @@ module _ (s t : List ℕ) (bs : Bytes s) (bt : Bytes t) (es : is_whole (read_of 
         operator = or;
         operator-start = o;
         item = λ j l. same-items plan_s plan_t e o
-            (λ i m k n. sym (x.copy.expr-items i m k n) ∙ ap (λ (p : Plan). item_record p (expr_start p i + k)) q ∙ y.copy.expr-items i (omega arith) k
+            (λ i m k n. sym (x.copy.expr-items i m k n) ∙ ap (λ (p : Plan). item_record p (expr_start p i + k)) q ∙ y.copy.expr-items i (omega arith)
+            k
             (subst (λ (z : Record). k < total_of z) (er i m) n))
             (λ i m k n. sym (x.copy.operator-items i m k n) ∙ ap (λ (p : Plan). item_record p (operator_start p i + k)) q ∙ y.copy.operator-items i
             (omega arith) k (subst (λ (z : Record). k < total_of z) (or i m) n))

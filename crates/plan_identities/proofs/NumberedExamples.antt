@@ -37,7 +37,8 @@ sample =
 
 -- it keeps the rules of a plan
 rules-kept : plan_ok sample ≡ true
-unfolding plan_ok counts_within all_from any_from count_from expr_ok_of operator_ok_of record_ok lists_ok item_ok scans_of bits_ok handle_ok count_of more_of row_of line_of
+unfolding plan_ok counts_within all_from any_from count_from expr_ok_of operator_ok_of record_ok lists_ok item_ok scans_of bits_ok handle_ok count_of
+    more_of row_of line_of
 rules-kept = refl
 
 -- the tables: a column that no Scan lists is past every table

@@ -34,7 +34,8 @@ use Rattle.rows_laws.specs.References.{node_refers, refers_next, references, ref
 use Rattle.rows_laws.proofs.NodeRules.{NodeOk, node_ok}
 
 -- two lists made entry by entry are the same where each next entry is, over the entries of one of them
-in_order_same : {A : Type 0} (entry other : List A → ℕ → A) (n : ℕ) → ((k : ℕ) → k < n → entry (in_order entry k) k ≡ other (in_order entry k) k) → in_order
+in_order_same : {A : Type 0} (entry other : List A → ℕ → A) (n : ℕ) → ((k : ℕ) → k < n → entry (in_order entry k) k ≡ other (in_order entry k) k) →
+    in_order
     entry n ≡ in_order other n
 unfolding in_order
 in_order_same entry other zero h = refl
@@ -50,7 +51,8 @@ SameRun items more (Unary op e) = Unit {0}
 SameRun items more (Binary op l r) = Unit {0}
 SameRun items more (Nary op es) = operands_of more es ≡ operands_of items es
 
-run_value : (cell value : ℕ → ScalarValue) (items more : List ℕ) (x : ExprData) → SameRun items more x → node_value cell value (operands_of items) x ≡ node_value
+run_value : (cell value : ℕ → ScalarValue) (items more : List ℕ) (x : ExprData) → SameRun items more x → node_value cell value (operands_of items) x ≡
+    node_value
     cell value (operands_of more) x
 run_value cell value items more (Literal v) s = refl
 run_value cell value items more (ColumnRef c) s = refl
@@ -58,7 +60,8 @@ run_value cell value items more (Unary op e) s = refl
 run_value cell value items more (Binary op l r) s = refl
 run_value cell value items more (Nary op es) s = ap (λ (l : List ℕ). of_truth (nary_of op (truths value l))) (sym s)
 
-run_refers : (c : ℕ) (refers : ℕ → Bool) (items more : List ℕ) (x : ExprData) → SameRun items more x → node_refers c refers (operands_of items) x ≡ node_refers c
+run_refers : (c : ℕ) (refers : ℕ → Bool) (items more : List ℕ) (x : ExprData) → SameRun items more x → node_refers c refers (operands_of items) x ≡
+    node_refers c
     refers (operands_of more) x
 run_refers c refers items more (Literal v) s = refl
 run_refers c refers items more (ColumnRef k) s = refl
@@ -105,7 +108,8 @@ module _ (node other : ℕ → ExprData) (items more : List ℕ) (n : ℕ)
     boolean_same h lt = ap (λ (k : Kind). same_kind k K.Boolean) (ap (kind_of_node wider) (nodes h lt) ∙ kinds h lt)
 
     wanted-same : (k : ℕ) → k < n → (e : ℕ)
-        → wanted (flagged (typings columns node items k)) (boolean_at columns node) e ≡ wanted (flagged (typings columns node items k)) (boolean_at wider other) e
+        → wanted (flagged (typings columns node items k)) (boolean_at columns node) e ≡ wanted (flagged (typings columns node items k)) (boolean_at
+        wider other) e
     wanted-same k lt e =
         ⊎_elim (λ l. ap (λ (b : Bool). flagged (typings columns node items k) e && b) (sym (boolean_same e (omega arith))))
         (λ g. rw (typing_past columns node items k e g)) (below_or_not e k)
@@ -117,9 +121,11 @@ module _ (node other : ℕ → ExprData) (items more : List ℕ) (n : ℕ)
         (sym
         (in_order_same (typing_next columns node items) (typing_next wider other more) (suc h)
         (λ k l.
-        run_typed (flagged (in_order (typing_next columns node items) k)) (boolean_at columns node) (boolean_at wider other) (wanted-same k (omega arith)) items
+        run_typed (flagged (in_order (typing_next columns node items) k)) (boolean_at columns node) (boolean_at wider other) (wanted-same k (omega
+        arith)) items
         more (node k) (runs k (omega arith))
-        ∙ ap (node_typed (flagged (in_order (typing_next columns node items) k)) (boolean_at wider other) (operands_of more)) (sym (nodes k (omega arith))))))
+        ∙ ap (node_typed (flagged (in_order (typing_next columns node items) k)) (boolean_at wider other) (operands_of more)) (sym (nodes k (omega
+        arith))))))
 
 module _ (p q : Plan) (r : Rules p) (e : Extends p q) (sp : Sized p) (sq : Sized q) where
   -- the expressions that p had are the same nodes in q

@@ -51,7 +51,8 @@ node-same cell other v w refers run operand (Nary op es) h =
     ap (λ (l : List ℕ). of_truth (nary_of op l)) (truths-same v w refers (λ (c : ℕ). cell c ≡ other c) operand (run es) h)
 
 module _ (node : ℕ → ExprData) (items : List ℕ) where
-  reference_step : (c n h : ℕ) → h < n → flagged (references node items c n) h ≡ node_refers c (flagged (references node items c h)) (operands_of items) (node h)
+  reference_step : (c n h : ℕ) → h < n → flagged (references node items c n) h ≡ node_refers c (flagged (references node items c h)) (operands_of
+      items) (node h)
   unfolding references
   reference_step c n h lt = in_order_at (refers_next node items c) false n h lt
 
@@ -59,23 +60,28 @@ module _ (node : ℕ → ExprData) (items : List ℕ) where
   reference_in c n h lt = reference_step c n h lt ∙ sym (reference_step c (suc h) h (omega arith))
 
   module _ (cell other : ℕ → ScalarValue) where
-    alike : (n h : ℕ) → h < n → ((c : ℕ) → refers_to node items h c ≡ true → cell c ≡ other c) → value_at cell node items h ≡ value_at other node items h
+    alike : (n h : ℕ) → h < n → ((c : ℕ) → refers_to node items h c ≡ true → cell c ≡ other c) → value_at cell node items h ≡ value_at other node
+        items h
     alike zero h lt s = absurd (omega arith)
     alike (suc n) h lt s =
         value-step cell node items (suc h) h (omega arith)
-        ∙ node-same cell other (value_in (values cell node items h)) (value_in (values other node items h)) (λ (c : ℕ). flagged (references node items c h))
+        ∙ node-same cell other (value_in (values cell node items h)) (value_in (values other node items h)) (λ (c : ℕ). flagged (references node items
+        c h))
         (operands_of items)
         (λ e r.
-        ⊎_elim (λ l. value_in_lem cell node items h e l ∙ alike n e (omega arith) (λ c q. r c (reference_in c h e l ∙ q)) ∙ sym (value_in_lem other node items h e l))
+        ⊎_elim (λ l. value_in_lem cell node items h e l ∙ alike n e (omega arith) (λ c q. r c (reference_in c h e l ∙ q)) ∙ sym (value_in_lem other
+        node items h e l))
         (λ g. value-past cell node items h e g ∙ sym (value-past other node items h e g)) (below_or_not e h))
         (node h) (λ c q. s c (reference_step c (suc h) h (omega arith) ∙ q))
         ∙ sym (value-step other node items (suc h) h (omega arith))
 
     -- two rows that agree on the columns that h refers to give it the same value
-    pub by-references : (h : ℕ) → ((c : ℕ) → refers_to node items h c ≡ true → cell c ≡ other c) → value_at cell node items h ≡ value_at other node items h
+    pub by-references : (h : ℕ) → ((c : ℕ) → refers_to node items h c ≡ true → cell c ≡ other c) → value_at cell node items h ≡ value_at other node
+        items h
     by-references h = alike (suc h) h (omega arith)
 
 -- the same of an expression of a plan
 pub value-by-references :
-    (p : Plan) (row other : Row) (h : ℕ) → ((c : ℕ) → expr_refers_to p h c ≡ true → cell_at row c ≡ cell_at other c) → value_on p row h ≡ value_on p other h
+    (p : Plan) (row other : Row) (h : ℕ) → ((c : ℕ) → expr_refers_to p h c ≡ true → cell_at row c ≡ cell_at other c) → value_on p row h ≡ value_on p
+    other h
 value-by-references p row other h s = by-references (node_at p) p.items.a (cell_at row) (cell_at other) h s

@@ -48,7 +48,8 @@ truth_boolean t = go (is_false_code t) (is_true_code t)
     go false false = refl
 
 -- a node's value is NULL or of its kind, where a column's is
-node-kind : (columns : List ℕ) (cell value : ℕ → ScalarValue) (run : Run → List ℕ) (nc : ℕ) → ((c : ℕ) → c < nc → fits_kind (get_or columns c 0) (cell c) ≡ true)
+node-kind : (columns : List ℕ) (cell value : ℕ → ScalarValue) (run : Run → List ℕ) (nc : ℕ) → ((c : ℕ) → c < nc → fits_kind (get_or columns c 0) (cell
+    c) ≡ true)
     → (items : List ℕ) (used h : ℕ) (x : ExprData) → NodeOk nc items used h x → of_kind (kind_of_node columns x) (node_value cell value run x) ≡ true
 node-kind columns cell value run nc fits items used h (Literal v) ok = or_inr (is_null v) (same_kind (kind_of v) (kind_of v)) (kind-self (kind_of v))
 node-kind columns cell value run nc fits items used h (ColumnRef c) ok = fits c.0 ok
@@ -60,7 +61,8 @@ node-kind columns cell value run nc fits items used h (Binary op l r) ok = truth
 node-kind columns cell value run nc fits items used h (Nary op es) ok = truth_boolean (nary_of op (truths value (run es)))
 
 -- a row that is right for a plan has for each column a value that is NULL or of the column's kind
-pub row_fits : (p : Plan) (row : Row) → row_ok p row ≡ true → (c : ℕ) → c < p.columns.count → fits_kind (get_or p.columns.kind c 0) (cell_at row c) ≡ true
+pub row_fits : (p : Plan) (row : Row) → row_ok p row ≡ true → (c : ℕ) → c < p.columns.count → fits_kind (get_or p.columns.kind c 0) (cell_at row c) ≡
+    true
 unfolding cell_ok
 row_fits p row ok c lt =
     and_right (listed_literal (get_or row.case c 0) (get_or row.code c 0) (get_or row.bits c 0)) _

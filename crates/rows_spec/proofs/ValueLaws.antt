@@ -20,7 +20,8 @@ use Rattle.rows_spec.proofs.PartLaws.{part-done, part-past, part-more}
 
 module _ (cell : ℕ → ScalarValue) (node : ℕ → ExprData) (items : List ℕ) where
   -- the value of h in a list of values is that of its node over those before it
-  pub value-step : (n h : ℕ) → h < n → value_in (values cell node items n) h ≡ node_value cell (value_in (values cell node items h)) (operands_of items) (node h)
+  pub value-step : (n h : ℕ) → h < n → value_in (values cell node items n) h ≡ node_value cell (value_in (values cell node items h)) (operands_of
+      items) (node h)
   unfolding values
   value-step n h lt = in_order_at (value_next cell node items) (S.Null K.Boolean) n h lt
 
@@ -91,7 +92,8 @@ module _ (value : ℕ → ScalarValue) (items : List ℕ) (op : NaryOp) (at n : 
     pub joined-past : length items ≤ j → t ≡ nary_of op (truths value (take n (drop at items)))
     joined-past h = ended (part-past items j left h)
 
-    pub joined-more : 0 < left → j < length items → (e : ℕ) (v : ScalarValue) (x u : ℕ) → e ≡ get_or items j 0 → v ≡ value e → x ≡ truth_of v → u ≡ join_of op t x
+    pub joined-more : 0 < left → j < length items → (e : ℕ) (v : ScalarValue) (x u : ℕ) → e ≡ get_or items j 0 → v ≡ value e → x ≡ truth_of v → u ≡
+        join_of op t x
         → Joined value items op at n u (j + 1) (left - 1)
     unfolding truths
     joined-more p h e v x u pe pv px pu =

@@ -40,8 +40,10 @@ pub refused : (n : ℤ) (v : ScalarValue) → v ≡ S.Int64 n → SFits w64 n �
 refused n v e f h = sym (ap scalar_to_f64 e ∙ ap (λ (b : Bool). cond b (Of (of_int binary64 n)) Nothing)
     (small_in_float n ∙ ap (in_float binary64) (sym (to_z-of_z w64 n f)) ∙ h))
 
-pub taken : (n : ℤ) (v : ScalarValue) → v ≡ S.Int64 n → SFits w64 n → T (in_float binary64 (to_z w64 (of_z w64 n))) → Of (of_int binary64 (to_z w64 (of_z w64 n)))
+pub taken : (n : ℤ) (v : ScalarValue) → v ≡ S.Int64 n → SFits w64 n → T (in_float binary64 (to_z w64 (of_z w64 n))) → Of (of_int binary64 (to_z w64
+    (of_z w64 n)))
     ≡ scalar_to_f64 v
 taken n v e f t =
     ap (λ (z : ℤ). Of (of_int binary64 z)) (to_z-of_z w64 n f)
-    ∙ sym (ap scalar_to_f64 e ∙ pick_yes (small n) (Of (of_int binary64 n)) Nothing (subst T (ap (in_float binary64) (to_z-of_z w64 n f) ∙ sym (small_in_float n)) t))
+    ∙ sym (ap scalar_to_f64 e ∙ pick_yes (small n) (Of (of_int binary64 n)) Nothing (subst T (ap (in_float binary64) (to_z-of_z w64 n f) ∙ sym
+    (small_in_float n)) t))

@@ -27,7 +27,8 @@ use Rattle.scalar.proofs.FloatLaws.{yes, beq→eq, alike, eq_comm, eq_self, eq-l
 
 -- ---- cases
 -- a test that passes has taken two scalars of one variant, and has passed on what they carry
-module _ (P : ScalarValue → ScalarValue → Type 0) (fn : Kind → Kind → Bool) (fb : Bool → Bool → Bool) (fi fj : ℤ → ℤ → Bool) (ff : Float → Float → Bool)
+module _ (P : ScalarValue → ScalarValue → Type 0) (fn : Kind → Kind → Bool) (fb : Bool → Bool → Bool) (fi fj : ℤ → ℤ → Bool) (ff : Float → Float →
+    Bool)
     (fd : ℤ → ℤ → Bool)
     (pn : (x y : Kind) → fn x y ≡ true → P (S.Null x) (S.Null y)) (pb : (x y : Bool) → fb x y ≡ true → P (S.Boolean x) (S.Boolean y))
     (pi : (x y : ℤ) → fi x y ≡ true → P (S.Int32 x) (S.Int32 y)) (pj : (x y : ℤ) → fj x y ≡ true → P (S.Int64 x) (S.Int64 y))
@@ -123,7 +124,8 @@ kind-self k = is_true (same_kind k k) (eqb_refl (kind_code k))
 
 -- ---- equality
 -- the same scalars are one scalar, or floats that are `==`
-module _ (P : ScalarValue → ScalarValue → Type 0) (self : (v : ScalarValue) → P v v) (float : (x y : Float) → eq x y ≡ true → P (S.Float64 x) (S.Float64 y))
+module _ (P : ScalarValue → ScalarValue → Type 0) (self : (v : ScalarValue) → P v v) (float : (x y : Float) → eq x y ≡ true → P (S.Float64 x)
+    (S.Float64 y))
   where
     pub same_cases : (a b : ScalarValue) → same_scalar a b ≡ true → P a b
     same_cases =
@@ -251,7 +253,8 @@ float-number x y h = ap (λ (b : Bool). same_number (cond b (Of x) Nothing) (con
 
 -- the same scalars bound by the same number, or both by none
 pub same_numbers : (a b : ScalarValue) → same_scalar a b ≡ true → same_number (scalar_to_f64 a) (scalar_to_f64 b) ≡ true
-same_numbers = same_cases (λ (a b : ScalarValue). same_number (scalar_to_f64 a) (scalar_to_f64 b) ≡ true) (λ v. number-self (scalar_to_f64 v) (no_nan v)) float-number
+same_numbers = same_cases (λ (a b : ScalarValue). same_number (scalar_to_f64 a) (scalar_to_f64 b) ≡ true) (λ v. number-self (scalar_to_f64 v) (no_nan
+    v)) float-number
 
 pub same_number_lem : (a b : ScalarValue) (x y : Float) → same_scalar a b ≡ true → scalar_to_f64 a ≡ Of x → scalar_to_f64 b ≡ Of y → eq x y ≡ true
 same_number_lem a b x y h e d = sym (ap₂ same_number e d) ∙ same_numbers a b h
@@ -368,7 +371,8 @@ less_trans a b c h k =
 -- what is below has the other's kind, and neither is NULL
 pub less-kind : (a b : ScalarValue) → less_scalar a b ≡ true → kind_code (kind_of a) ≡ kind_code (kind_of b)
 less-kind =
-    pairs (λ (a b : ScalarValue). kind_code (kind_of a) ≡ kind_code (kind_of b)) (λ (x y : Kind). false) (λ (x y : Bool). not x && y) lt_z lt_z lt lt_z
+    pairs (λ (a b : ScalarValue). kind_code (kind_of a) ≡ kind_code (kind_of b)) (λ (x y : Kind). false) (λ (x y : Bool). not x && y) lt_z lt_z lt
+    lt_z
     (λ x y e. absurd (false≢true e)) (λ x y e. refl) (λ x y e. refl) (λ x y e. refl) (λ x y e. refl) (λ x y e. refl)
 
 bool_total : (x y : Bool) → ((not x && y) || (beq x y || (not y && x))) ≡ true

@@ -100,7 +100,8 @@ module _ (all : Bool) (h : ℕ) (ok : Bool) (st : Tables) (p m : ℕ) (t : Tally
 
   run-suc : (m ≡ 0 → ⊥) → operands_from simplify_at all h ok st p m
       ≡ joined all (get_or st.items.a p 0) (enter_of simplify_at h ok st (get_or st.items.a p 0))
-      (operands_from simplify_at all h (enter_of simplify_at h ok st (get_or st.items.a p 0)).ok (enter_of simplify_at h ok st (get_or st.items.a p 0)).st
+      (operands_from simplify_at all h (enter_of simplify_at h ok st (get_or st.items.a p 0)).ok (enter_of simplify_at h ok st (get_or st.items.a p
+      0)).st
       (p + 1) (m - 1))
   unfolding operands_from
   run-suc ne =
@@ -183,7 +184,14 @@ module _ (all : Bool) (h : ℕ) (st : Tables) where
       go false = refl
 
   nary_ways : (ok absorbed dirty : Bool) (l : List ℕ)
-      → (written (bottom_of all h ok st (T absorbed dirty l)) 0 l).res ≡ nary_of all h (record { st = st; ok = ok; kept = l; dirty = dirty; absorbed = absorbed })
+      → (written (bottom_of all h ok st (T absorbed dirty l)) 0 l).res ≡ nary_of all h (record {
+        st = st;
+        ok = ok;
+        kept = l;
+        dirty = dirty;
+        absorbed =
+            absorbed;
+      })
   unfolding last_of rebuilt bottom_of rebuilt_out nary_of
   nary_ways false absorbed dirty l = refl
   nary_ways true true dirty l = refl
@@ -217,7 +225,8 @@ module _ (h : ℕ) (ok : Bool) (st : Tables) (e : ℕ) where
       pub enter_other : w ≡ Other → kept st e ≡ enter_of simplify_at h ok st e
       enter_other ev = sym (is-step Other ev)
 
-      pub enter_not : (a : Expr) → w ≡ Not a → (x : Simplified) → x ≡ enter_of simplify_at e ok st a.0 → not_of e a.0 x ≡ enter_of simplify_at h ok st e
+      pub enter_not : (a : Expr) → w ≡ Not a → (x : Simplified) → x ≡ enter_of simplify_at e ok st a.0 → not_of e a.0 x ≡ enter_of simplify_at h ok st
+          e
       enter_not a ev x ex =
           ap (not_of e a.0) (ex ∙ ap (λ (b : Bool). enter_of simplify_at e b st a.0) o) ∙ sym (is-step (Not a) ev)
 
@@ -237,15 +246,18 @@ module _ (h : ℕ) (ok : Bool) (st : Tables) (e : ℕ) where
           ∙ ap (λ (t : Bool). (placed all e no_tally (operands_from simplify_at all e t st start count)).res) o
           ∙ nary_whole all e (operands_from simplify_at all e true st start count)
 
-      pub enter_and : (start count : ℕ) → w ≡ And start count → (y : Out) → y ≡ placed true e no_tally (operands_from simplify_at true e ok st start count)
+      pub enter_and : (start count : ℕ) → w ≡ And start count → (y : Out) → y ≡ placed true e no_tally (operands_from simplify_at true e ok st start
+          count)
           → y.res ≡ enter_of simplify_at h ok st e
       enter_and start count ev y ey = nary_way true start count y ey ∙ sym (is-step (And start count) ev)
 
-      pub enter_or : (start count : ℕ) → w ≡ Or start count → (y : Out) → y ≡ placed false e no_tally (operands_from simplify_at false e ok st start count)
+      pub enter_or : (start count : ℕ) → w ≡ Or start count → (y : Out) → y ≡ placed false e no_tally (operands_from simplify_at false e ok st start
+          count)
           → y.res ≡ enter_of simplify_at h ok st e
       enter_or start count ev y ey = nary_way false start count y ey ∙ sym (is-step (Or start count) ev)
 
-pub next_small : (t2 t : Tally) (e v : ℕ) (neutral deciding : Bool) (m : ℕ) → t2 ≡ next_tally t e v neutral deciding → (m ≡ 0 → ⊥) → t.kept + m < 65536
+pub next_small : (t2 t : Tally) (e v : ℕ) (neutral deciding : Bool) (m : ℕ) → t2 ≡ next_tally t e v neutral deciding → (m ≡ 0 → ⊥) → t.kept + m <
+    65536
     → t2.kept + (m - 1) < 65536
 next_small t2 t e v true deciding m et ne lt =
     let k : t2.kept ≡ t.kept = ap (λ (x : Tally). x.kept) et in

@@ -19,7 +19,8 @@ use Rattle.plan_data.specs.declared.UnaryOp.TheVariants as U
 use Rattle.plan_data.specs.declared.NaryOp.{NaryOp}
 use Rattle.plan_data.specs.declared.ExprData.TheVariants.{Unary, Binary, Nary}
 use Rattle.simplify_spec.specs.Shapes.{nary_op_for}
-use Rattle.simplify_spec.specs.OneExpression.{st_of, with_node, handle, shape_in, kept, failed, took, add_record, add_node, add_literal, not_other, not_step, not_of}
+use Rattle.simplify_spec.specs.OneExpression.{st_of, with_node, handle, shape_in, kept, failed, took, add_record, add_node, add_literal, not_other}
+use Rattle.simplify_spec.specs.OneExpression.{not_step, not_of}
 use Rattle.simplify_spec.specs.OneExpression.{compare_of, item_set, counted, with_items}
 use Rattle.simplify_spec.specs.declared.Tables.{Tables}
 use Rattle.simplify_spec.specs.declared.Simplified.{Simplified}
@@ -58,10 +59,11 @@ took_or_lem st x first = go (ltb st.exprs.count 1024)
     go true = refl
     go false = refl
 
-module _ (kind code a b start bits ia ib : List ℕ) (s : Done) (st : Tables) (ei : st.items ≡ items_of ia ib s.used) (ec : st.changed ≡ s.changed) where
-  done-way : (k : ℕ) (x : Added) → result_of kind code a b start bits ia ib (done_of s k x) ≡ took_or st (exprs_of kind code a b start bits k) x
-  done-way k (At n) = λ j. kept (st_of (exprs_of kind code a b start bits k) (sym ei j) true) n
-  done-way k Room = λ j. failed (st_of (exprs_of kind code a b start bits k) (sym ei j) (sym ec j))
+module _ (kind code a b start bits ia ib : List ℕ) (s : Done) (st : Tables) (ei : st.items ≡ items_of ia ib s.used) (ec : st.changed ≡ s.changed)
+  where
+    done-way : (k : ℕ) (x : Added) → result_of kind code a b start bits ia ib (done_of s k x) ≡ took_or st (exprs_of kind code a b start bits k) x
+    done-way k (At n) = λ j. kept (st_of (exprs_of kind code a b start bits k) (sym ei j) true) n
+    done-way k Room = λ j. failed (st_of (exprs_of kind code a b start bits k) (sym ei j) (sym ec j))
 
 pub added-way : (kind code a b start bits kind' code' a' b' start' bits' ia ib : List ℕ) (s r : Done) (g : Grown) (x : Record) (first : ℕ)
     → grown_to (exprs_of kind' code' a' b' start' bits' g.count) g.added ≡ expr_added (exprs_of kind code a b start bits s.exprs) x first

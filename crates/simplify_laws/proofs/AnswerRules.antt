@@ -92,7 +92,8 @@ module _ (x : Record) (start0 nc ne0 np used : ℕ) (t0 : Items) (ok : record_ok
   within k c m qc qm e =
       let w : start0 + (count_of (row_of x.kind) x + more_of (row_of x.kind) x) ≤ used = leb-true
       (start0 + (count_of (row_of x.kind) x + more_of (row_of x.kind) x)) used (and_left _ _ lists) in
-      subst (λ (j : ℕ). start0 + j ≤ used) (ap₂ (λ (a b : ℕ). a + b) (ap (λ (y : ℕ). count_of (row_of y) x) e ∙ qc) (ap (λ (y : ℕ). more_of (row_of y) x) e ∙ qm)) w
+      subst (λ (j : ℕ). start0 + j ≤ used) (ap₂ (λ (a b : ℕ). a + b) (ap (λ (y : ℕ). count_of (row_of y) x) e ∙ qc) (ap (λ (y : ℕ). more_of (row_of y)
+      x) e ∙ qm)) w
 
   firsts-old : (k i c : ℕ) → (row_of k).item ≡ i → count_of (row_of k) x ≡ c → x.kind ≡ k → all_from (item_ok t0.a t0.b i nc ne0 np) start0 c ≡ true
   unfolding lists_ok
@@ -100,9 +101,11 @@ module _ (x : Record) (start0 nc ne0 np used : ℕ) (t0 : Items) (ok : record_ok
       let a : all_from (item_ok t0.a t0.b (row_of x.kind).item nc ne0 np) start0 (count_of (row_of x.kind) x) ≡ true =
       and_left _ _ (and_right (leb (start0 + (count_of (row_of x.kind) x + more_of (row_of x.kind) x)) used) _ lists) in
       subst (λ (m : ℕ). all_from (item_ok t0.a t0.b i nc ne0 np) start0 m ≡ true) (ap (λ (y : ℕ). count_of (row_of y) x) e ∙ qc)
-      (subst (λ (m : ℕ). all_from (item_ok t0.a t0.b m nc ne0 np) start0 (count_of (row_of x.kind) x) ≡ true) (ap (λ (y : ℕ). (row_of y).item) e ∙ qi) a)
+      (subst (λ (m : ℕ). all_from (item_ok t0.a t0.b m nc ne0 np) start0 (count_of (row_of x.kind) x) ≡ true) (ap (λ (y : ℕ). (row_of y).item) e ∙ qi)
+      a)
 
-  others-old : (k c m : ℕ) → count_of (row_of k) x ≡ c → more_of (row_of k) x ≡ m → x.kind ≡ k → all_from (item_ok t0.a t0.b 0x40 nc ne0 np) (start0 + c) m
+  others-old : (k c m : ℕ) → count_of (row_of k) x ≡ c → more_of (row_of k) x ≡ m → x.kind ≡ k → all_from (item_ok t0.a t0.b 0x40 nc ne0 np) (start0 +
+      c) m
       ≡ true
   unfolding lists_ok
   others-old k c m qc qm e =
@@ -188,7 +191,8 @@ module _ (x : Record) (start0 nc ne0 np used : ℕ) (t0 : Items) (ok : record_ok
   mark_fine e one ats room =
       record {
         right =
-            join-operator-right (with_list t 0 (λ (k : ℕ). 0) (λ (k : ℕ). 0)) nc ne n t.count (omega arith) (LeftMark (record { 0 = x.d })) (handle (at 0))
+            join-operator-right (with_list t 0 (λ (k : ℕ). 0) (λ (k : ℕ). 0)) nc ne n t.count (omega arith) (LeftMark (record { 0 = x.d })) (handle
+            (at 0))
             (record { 0 = x.b }) (record { 0 = x.c }) (ats 0 (omega arith))
             (as_operator (row_of x.kind).b x.b (row_b 0x3D 4 refl e) h_b) (as_operator (row_of x.kind).c x.c (row_c 0x3D 4 refl e) h_c)
             (as_column (row_of x.kind).d x.d (row_d 0x3D 2 refl e) h_d);

@@ -37,7 +37,8 @@ use Rattle.simplify_laws.specs.Wholes.{RightOperator}
 count-last_missed : (f : ℕ → Bool) (n i : ℕ) → f (i + n) ≡ false → count_from f i (suc n) ≡ count_from f i n
 count-last_missed f n i e = rw (count-last f n i, e) (omega arith)
 
-module _ (q : Plan) (x : Record) (start : ℕ) (r : Rules q) (s : Sized q) (free : q.operators.count < 128) (other : x.kind ≡ 0x30 → ⊥) (none : x.bits ≡ 0)
+module _ (q : Plan) (x : Record) (start : ℕ) (r : Rules q) (s : Sized q) (free : q.operators.count < 128) (other : x.kind ≡ 0x30 → ⊥) (none : x.bits ≡
+    0)
     (right : RightOperator q.items q.columns.count q.expressions.count q.operators.count start x) where
   abbrev q' : Plan
   q' = with_operator q x start
@@ -163,7 +164,8 @@ module _ (t : Items) (nc ne n start : ℕ) where
   aggregation_right i k c il small few le a b z =
       rw (lt-ltb i n il)
       (twice (item_ok t.a t.b 0x43 nc ne n) (item_ok t.a t.b 0x40 nc ne n) (k % 65536) (c % 65536) k c le
-      (λ j lo hi. key-item j (a j lo hi) (z j lo (omega arith))) (λ j lo hi. column-item j (b j lo hi) (z j (omega arith) (omega arith))) (mod-eq_of_lt small)
+      (λ j lo hi. key-item j (a j lo hi) (z j lo (omega arith))) (λ j lo hi. column-item j (b j lo hi) (z j (omega arith) (omega arith)))
+      (mod-eq_of_lt small)
       (mod-eq_of_lt few))
 
 -- ---- what was written
@@ -177,7 +179,8 @@ unfolding write_all
 write_at l at f zero j le lo hi = absurd (omega arith)
 write_at l at f (suc n) j le lo hi = go (eqb j (at + n)) refl (λ lt. write_at l at f n j (omega arith) lo lt)
   where
-    go : (b : Bool) → eqb j (at + n) ≡ b → (j < at + n → get_or (write_all l at f n) j 0 ≡ f (j - at)) → get_or (set (write_all l at f n) (at + n) (f n)) j 0 ≡ f
+    go : (b : Bool) → eqb j (at + n) ≡ b → (j < at + n → get_or (write_all l at f n) j 0 ≡ f (j - at)) → get_or (set (write_all l at f n) (at + n) (f
+        n)) j 0 ≡ f
         (j - at)
     go true e rest =
         let q : j ≡ at + n = eqb-true j (at + n) e in

@@ -201,7 +201,8 @@ put_first t (x ∷ l) at h le u j lo hi = go (eqb j at) refl (λ m. put_first t 
         rw (q, v) u.0
     go false e rest =
         let q : (j ≡ at → ⊥) = eqb-false j at e in
-        let v : get_or (set (items_put t (at + 1) l).a at x) j 0 ≡ get_or (items_put t (at + 1) l).a j 0 = get_or-set_other (items_put t (at + 1) l).a at j x 0 q in
+        let v : get_or (set (items_put t (at + 1) l).a at x) j 0 ≡ get_or (items_put t (at + 1) l).a j 0 = get_or-set_other (items_put t (at + 1) l).a
+        at j x 0 q in
         rw v (rest (omega arith))
 
 module _ (p : Plan) (st : Tables) (l : List ℕ) (g : Good p st) (fits : st.items.count + length l ≤ 2048) where

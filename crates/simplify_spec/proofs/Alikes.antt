@@ -45,7 +45,8 @@ right-bare op v (S.Null k) = go (is_null v)
   where
     go : (b : Bool) → cond (b || true) (cond (ordinary op) 1 (known (b && true)))
         (cond (same_kind (kind_of v) K.Boolean) (known (compared op v (S.Null K.Boolean))) (cond (ordinary op) 1 0))
-        ≡ cond (b || true) (cond (ordinary op) 1 (known (b && true))) (cond (same_kind (kind_of v) k) (known (compared op v (S.Null k))) (cond (ordinary op) 1 0))
+        ≡ cond (b || true) (cond (ordinary op) 1 (known (b && true))) (cond (same_kind (kind_of v) k) (known (compared op v (S.Null k))) (cond
+        (ordinary op) 1 0))
     go true = refl
     go false = refl
 right-bare op v (S.Boolean b) = refl
@@ -101,7 +102,8 @@ unfolding truths all_of any_of
 all_none true value = refl
 all_none false value = refl
 
-pub all_first : (all : Bool) (value : ℕ → ScalarValue) (x : ℕ) (l : List ℕ) → truth_all all value (x ∷ l) ≡ join_t all (truth_of (value x)) (truth_all all value l)
+pub all_first : (all : Bool) (value : ℕ → ScalarValue) (x : ℕ) (l : List ℕ) → truth_all all value (x ∷ l) ≡ join_t all (truth_of (value x)) (truth_all
+    all value l)
 unfolding truths all_of any_of
 all_first true value x l = refl
 all_first false value x l = refl

@@ -72,7 +72,8 @@ or-false = plan_for 3 (0x11 ∷ 0x20 ∷ 0x23 ∷ []) (0 ∷ 0 ∷ 1 ∷ []) (0 
 
 -- they keep the rules
 pub cases-right : (plan_ok and_none ≡ true) × (plan_ok and_one ≡ true) × (plan_ok and-true ≡ true) × (plan_ok or-false ≡ true)
-unfolding plan_ok counts_within expr_ok_of operator_ok_of record_ok lists_ok item_ok scans_of all_from any_from count_from row_of line_of bits_ok handle_ok count_of more_of
+unfolding plan_ok counts_within expr_ok_of operator_ok_of record_ok lists_ok item_ok scans_of all_from any_from count_from row_of line_of bits_ok
+    handle_ok count_of more_of
 cases-right = (refl, refl, refl, refl)
 
 pub and-none-stays : simplify_at 0 (start_of and_none) ≡ kept (start_of and_none) 0
@@ -97,6 +98,7 @@ or_false-is = refl
 -- a Selection on And[] or And[b] is kept, on And[true] replaced by its input, on Or[false, b] by a Selection on b
 pub selections_answered : ((simplify_of and_none asked).rewrite ≡ Keep) × ((simplify_of and_one asked).rewrite ≡ Keep)
     × ((simplify_of and-true asked).rewrite ≡ Replace (record { 0 = 0 })) × ((simplify_of or-false asked).rewrite ≡ Replace (record { 0 = 2 }))
-unfolding simplify_of rewrite_of each_to write_all operator_data simplify_at simplify_below operands_from nary_of rebuilt expr_data plan_ok counts_within expr_ok_of
+unfolding simplify_of rewrite_of each_to write_all operator_data simplify_at simplify_below operands_from nary_of rebuilt expr_data plan_ok
+    counts_within expr_ok_of
     operator_ok_of record_ok lists_ok item_ok scans_of all_from any_from count_from row_of line_of bits_ok handle_ok count_of more_of
 selections_answered = (refl, refl, refl, refl)

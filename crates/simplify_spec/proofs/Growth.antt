@@ -109,7 +109,8 @@ module _ (p : Plan) where
   truths-same v w h [] u f = refl
   truths-same v w h (x ∷ l) u f = ap₂ (λ (t : ScalarValue) (m : List ℕ). truth_of t ∷ m) (f x u.0) (truths-same v w h l u.1 f)
 
-  pub all_same : (all : Bool) (v w : ℕ → ScalarValue) (h : ℕ) (l : List ℕ) → AllBelow h l → ((e : ℕ) → e < h → v e ≡ w e) → truth_all all v l ≡ truth_all all w l
+  pub all_same : (all : Bool) (v w : ℕ → ScalarValue) (h : ℕ) (l : List ℕ) → AllBelow h l → ((e : ℕ) → e < h → v e ≡ w e) → truth_all all v l ≡
+      truth_all all w l
   all_same all v w h l u f = ap (values.nary_of (nary_op_for all)) (truths-same v w h l u f)
 
   module _ (st : Tables) (g : Good p st) (row : Row) (h : ℕ) (lt : h < st.exprs.count) where
@@ -120,7 +121,8 @@ module _ (p : Plan) where
     is-before e l = value_in_lem (cell_at row) (node_in st) st.items.a h e l
 
     at-node : (d : ExprData) → node_in st h ≡ d
-        → value_in p st row h ≡ node_value (cell_at row) (values.value_in (values.values (cell_at row) (node_in st) st.items.a h)) (operands_of st.items.a) d
+        → value_in p st row h ≡ node_value (cell_at row) (values.value_in (values.values (cell_at row) (node_in st) st.items.a h)) (operands_of
+        st.items.a) d
     at-node d e =
         value-step (cell_at row) (node_in st) st.items.a (suc h) h (omega arith)
         ∙ ap (node_value (cell_at row) (values.value_in (values.values (cell_at row) (node_in st) st.items.a h)) (operands_of st.items.a)) e

@@ -45,7 +45,8 @@ nary_shape_lem : (all : Bool) (s n : ℕ) → shape_of (Nary (nary_op_for all) (
 nary_shape_lem true s n = refl
 nary_shape_lem false s n = refl
 
-nary_step : (all : Bool) (s n h : ℕ) (t : Tables) → step_by simplify_at h t (nary_shape_of all s n) ≡ nary_of all h (operands_from simplify_at all h true t s n)
+nary_step : (all : Bool) (s n h : ℕ) (t : Tables) → step_by simplify_at h t (nary_shape_of all s n) ≡ nary_of all h (operands_from simplify_at all h
+    true t s n)
 nary_step true s n h t = refl
 nary_step false s n h t = refl
 
@@ -56,7 +57,8 @@ nary_other false s n e q = let z : ◌≡◌ {A = ℕ} 0 1 = cc in omega arith
 module _ (p : Plan) where
   -- an And or Or of plain operands, in whatever the tables grew to
   stays_nary : (all : Bool) (s t : Tables) (l : List ℕ) → Good p s → Grown p s t → AllBelow s.exprs.count l → AllPlain p all s l
-      → (j a n : ℕ) → j < t.exprs.count → node_in t j ≡ Nary (nary_op_for all) (run_of a n) → take n (drop a t.items.a) ≡ l → AllBelow j l → simplify_at j t
+      → (j a n : ℕ) → j < t.exprs.count → node_in t j ≡ Nary (nary_op_for all) (run_of a n) → take n (drop a t.items.a) ≡ l → AllBelow j l →
+      simplify_at j t
       ≡ kept t j
   unfolding nary_of
   stays_nary all s t l g w u q j a n jl e part uj =
@@ -256,7 +258,8 @@ module _ (p : Plan) where
   -- ---- altogether, by the height of the handle
   module _ (S : ℕ → Bool) where
     module _ (h : ℕ) (st : Tables) (g : Good p st) (hl : h < st.exprs.count) (fresh : (j : ℕ) → st.exprs.count ≤ j → S j ≡ true)
-        (ih : (e : ℕ) (s : Tables) → e < h → Good p s → e < s.exprs.count → ((j : ℕ) → s.exprs.count ≤ j → S j ≡ true) → (simplify_at e s).ok ≡ true → Kept
+        (ih : (e : ℕ) (s : Tables) → e < h → Good p s → e < s.exprs.count → ((j : ℕ) → s.exprs.count ≤ j → S j ≡ true) → (simplify_at e s).ok ≡ true →
+        Kept
         p S s e (simplify_at e s)) where
       at-not : (a : Expr) → shape_in st h ≡ Not a → (simplify_at h st).ok ≡ true → Kept p S st h (simplify_at h st)
       unfolding not_of
@@ -353,14 +356,17 @@ module _ (p : Plan) where
       at-any (Or a n) e o = at_nary false a n e o
       at-any Other e o =
           subst (Kept p S st h) (sym (simplify_at_lem h st Other e))
-          (kept_leaf p S st h g hl (λ t w. simplify_at_lem h t Other (old-shape p st t g w h hl ∙ e)) (λ d q. absurd (let z : ◌≡◌ {A = ℕ} 0 1 = cc in omega arith)))
+          (kept_leaf p S st h g hl (λ t w. simplify_at_lem h t Other (old-shape p st t g w h hl ∙ e)) (λ d q. absurd (let z : ◌≡◌ {A = ℕ} 0 1 = cc in
+          omega arith)))
 
-    keeps-by : (m h : ℕ) (st : Tables) → h < m → Good p st → h < st.exprs.count → ((j : ℕ) → st.exprs.count ≤ j → S j ≡ true) → (simplify_at h st).ok ≡ true
+    keeps-by : (m h : ℕ) (st : Tables) → h < m → Good p st → h < st.exprs.count → ((j : ℕ) → st.exprs.count ≤ j → S j ≡ true) → (simplify_at h st).ok
+        ≡ true
         → Kept p S st h (simplify_at h st)
     keeps-by zero h st lt g hl fresh o = absurd (omega arith)
     keeps-by (suc m) h st lt g hl fresh o =
         at-any h st g hl fresh (λ e s el gs es fs os. keeps-by m e s (omega arith) gs es fs os) (shape_in st h) refl o
 
-    pub keeps : (h : ℕ) (st : Tables) → Good p st → h < st.exprs.count → ((j : ℕ) → st.exprs.count ≤ j → S j ≡ true) → (simplify_at h st).ok ≡ true → Kept p
+    pub keeps : (h : ℕ) (st : Tables) → Good p st → h < st.exprs.count → ((j : ℕ) → st.exprs.count ≤ j → S j ≡ true) → (simplify_at h st).ok ≡ true →
+        Kept p
         S st h (simplify_at h st)
     keeps h st g hl fresh o = keeps-by (suc h) h st (omega arith) g hl fresh o

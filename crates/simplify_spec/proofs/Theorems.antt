@@ -59,7 +59,8 @@ flags-same f g b nc used h items le q (Binary op l r) ok = ap₂ (λ (s t : Bool
 flags-same f g b nc used h items le q (Nary op es) ok =
     every-flags f g b h (take es.count (drop es.start items)) (part-below h items es.count es.start (omega (arith, ok.0)) ok.1) q
 
-every_more : (f g b : ℕ → Bool) (h : ℕ) → ((e : ℕ) → e < h → g e ≡ true → f e ≡ true) → (l : List ℕ) → AllBelow h l → every (wanted g b) l ≡ true → every
+every_more : (f g b : ℕ → Bool) (h : ℕ) → ((e : ℕ) → e < h → g e ≡ true → f e ≡ true) → (l : List ℕ) → AllBelow h l → every (wanted g b) l ≡ true →
+    every
     (wanted f b) l ≡ true
 unfolding every AllBelow
 every_more f g b h q [] u t = refl
@@ -161,17 +162,21 @@ module _ (p : Plan) where
       kind-kept = meant.kind
 
       -- its value on every row, but for the kind of a NULL
-      pub simplified-value : (row : Row) → row_ok p row ≡ true → Alike (value_in p (simplify_at h st).st row (simplify_at h st).at) (value_in p st row h)
+      pub simplified-value : (row : Row) → row_ok p row ≡ true → Alike (value_in p (simplify_at h st).st row (simplify_at h st).at) (value_in p st row
+          h)
       simplified-value row right = meant.value row right
 
       -- and so its truth
-      pub truth_kept : (row : Row) → row_ok p row ≡ true → truth_of (value_in p (simplify_at h st).st row (simplify_at h st).at) ≡ truth_of (value_in p st row h)
-      truth_kept row right = same_truth (value_in p (simplify_at h st).st row (simplify_at h st).at) (value_in p st row h) (simplified-value row right)
+      pub truth_kept : (row : Row) → row_ok p row ≡ true → truth_of (value_in p (simplify_at h st).st row (simplify_at h st).at) ≡ truth_of (value_in
+          p st row h)
+      truth_kept row right = same_truth (value_in p (simplify_at h st).st row (simplify_at h st).at) (value_in p st row h) (simplified-value row
+          right)
 
       -- and is typed again
       pub typed-again : typed_in (simplify_at h st).st (simplify_at h st).at ≡ true
       typed-again =
-          typed-test (simplify_at h st).st grows.good (typed_set st g) meant.rules (suc (simplify_at h st).at) (simplify_at h st).at (omega arith) within
+          typed-test (simplify_at h st).st grows.good (typed_set st g) meant.rules (suc (simplify_at h st).at) (simplify_at h st).at (omega arith)
+          within
           meant.member
 
 -- ---- from the plan that is passed in

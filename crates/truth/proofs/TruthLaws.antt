@@ -22,7 +22,8 @@ eqb_apart x m n d = go (eqb x m) refl
     go false e = refl
 
 -- AND and OR are one law, in which a side that loses loses for both, and both must win
-module _ (lose win : ℕ) (apart-codes : eqb lose win ≡ false) (lost : eqb lose lose ≡ true) (lost-win : eqb win lose ≡ false) (won : eqb win win ≡ true)
+module _ (lose win : ℕ) (apart-codes : eqb lose win ≡ false) (lost : eqb lose lose ≡ true) (lost-win : eqb win lose ≡ false) (won : eqb win win ≡
+    true)
     (unknown-lose : eqb 1 lose ≡ false) (unknown-win : eqb 1 win ≡ false) where
   abbrev both : ℕ → ℕ → ℕ
   both x y = cond (eqb x lose || eqb y lose) lose (cond (eqb x win && eqb y win) win 1)
@@ -135,23 +136,29 @@ not_t-not_t x p = at_codes (λ (x y : ℕ). not_t (not_t x)) (λ (x y : ℕ). x)
 
 -- ---- order and grouping, of any numbers
 pub and_t_comm : (x y : ℕ) → and_t x y ≡ and_t y x
-and_t_comm x y = ap₂ (λ (a b : Bool). cond a 0 (cond b 2 1)) (B.or_comm (is_false_code x) (is_false_code y)) (B.and_comm (is_true_code x) (is_true_code y))
+and_t_comm x y = ap₂ (λ (a b : Bool). cond a 0 (cond b 2 1)) (B.or_comm (is_false_code x) (is_false_code y)) (B.and_comm (is_true_code x)
+    (is_true_code y))
 
 pub or_t_comm : (x y : ℕ) → or_t x y ≡ or_t y x
-or_t_comm x y = ap₂ (λ (a b : Bool). cond a 2 (cond b 0 1)) (B.or_comm (is_true_code x) (is_true_code y)) (B.and_comm (is_false_code x) (is_false_code y))
+or_t_comm x y = ap₂ (λ (a b : Bool). cond a 2 (cond b 0 1)) (B.or_comm (is_true_code x) (is_true_code y)) (B.and_comm (is_false_code x) (is_false_code
+    y))
 
 pub and_t-assoc : (x y z : ℕ) → and_t (and_t x y) z ≡ and_t x (and_t y z)
 and_t-assoc x y z =
     ap₂ (λ (a b : Bool). cond a 0 (cond b 2 1))
-    (ap (λ (a : Bool). a || is_false_code z) (and_t-false x y) ∙ B.or_assoc (is_false_code x) (is_false_code y) (is_false_code z) ∙ ap (λ (a : Bool). is_false_code x || a)
+    (ap (λ (a : Bool). a || is_false_code z) (and_t-false x y) ∙ B.or_assoc (is_false_code x) (is_false_code y) (is_false_code z) ∙ ap (λ (a : Bool).
+    is_false_code x || a)
     (sym (and_t-false y z)))
-    (ap (λ (a : Bool). a && is_true_code z) (and_t-true x y) ∙ B.and_assoc (is_true_code x) (is_true_code y) (is_true_code z) ∙ ap (λ (a : Bool). is_true_code x && a) (sym (and_t-true y z)))
+    (ap (λ (a : Bool). a && is_true_code z) (and_t-true x y) ∙ B.and_assoc (is_true_code x) (is_true_code y) (is_true_code z) ∙ ap (λ (a : Bool).
+    is_true_code x && a) (sym (and_t-true y z)))
 
 pub or_t-assoc : (x y z : ℕ) → or_t (or_t x y) z ≡ or_t x (or_t y z)
 or_t-assoc x y z =
     ap₂ (λ (a b : Bool). cond a 2 (cond b 0 1))
-    (ap (λ (a : Bool). a || is_true_code z) (or_t-true x y) ∙ B.or_assoc (is_true_code x) (is_true_code y) (is_true_code z) ∙ ap (λ (a : Bool). is_true_code x || a) (sym (or_t-true y z)))
-    (ap (λ (a : Bool). a && is_false_code z) (or_t-false x y) ∙ B.and_assoc (is_false_code x) (is_false_code y) (is_false_code z) ∙ ap (λ (a : Bool). is_false_code x && a)
+    (ap (λ (a : Bool). a || is_true_code z) (or_t-true x y) ∙ B.or_assoc (is_true_code x) (is_true_code y) (is_true_code z) ∙ ap (λ (a : Bool).
+    is_true_code x || a) (sym (or_t-true y z)))
+    (ap (λ (a : Bool). a && is_false_code z) (or_t-false x y) ∙ B.and_assoc (is_false_code x) (is_false_code y) (is_false_code z) ∙ ap (λ (a : Bool).
+    is_false_code x && a)
     (sym (or_t-false y z)))
 
 -- ---- answers are codes

@@ -97,7 +97,11 @@ module _ (c : ValueEquivalenceClasses) (r : ℕ) where
   -- the first member of a class is its representative. Assumes that parents fall
   pub first-least : Falling c → r < 128 → canonical_of c r ≡ r → first_member c r 0 ≡ r
   first-least f h e =
-      let le : first_member c r 0 ≤ r = (elim (dec_lt r (first_member c r 0)) [ yes g ↦ absurd (first_skips 0 r (omega arith) g e) | no g ↦ omega arith ]) in
+      let le : first_member c r 0 ≤ r = (elim (dec_lt r (first_member c r 0)) [
+        | yes g ↦ absurd (first_skips 0 r (omega arith) g e)
+        | no g ↦ omega
+            arith
+      ]) in
       let m = first_member_lem 0 (omega arith) (omega arith) in
       omega (arith, root_le c.parents f (first_member c r 0))
 
@@ -141,7 +145,8 @@ next-at c i h = each_at (λ (j : ℕ). next_member c j) 128 i h
 
 -- ---- the representatives in one pass
 -- where parents are in order, that of i is that of its parent, which the list of those before i has
-pub root-known : (p l : List ℕ) (n i q : ℕ) → length p ≡ n → parents_ok p ≡ true → q ≡ get_or p i 0 → q < i → i < n → take i l ≡ each (root_of p) i → get_or l q 0
+pub root-known : (p l : List ℕ) (n i q : ℕ) → length p ≡ n → parents_ok p ≡ true → q ≡ get_or p i 0 → q < i → i < n → take i l ≡ each (root_of p) i →
+    get_or l q 0
     ≡ root_of p i
 root-known p l n i q e ok eq low h t =
     sym (get_or-take i l q 0 low) ∙ ap (λ (x : List ℕ). get_or x q 0) t ∙ each_at (root_of p) i q low

@@ -183,7 +183,8 @@ module _ (p : List ℕ) (f : Falls p) (x y : ℕ) (le : y ≤ x) (in-x : x < len
       let b : root_of (set p x y) i ≡ i = root-of-own (set p x y) i (set_other p x y le in-x i n ∙ e) in
       inr (λ t. n (cc), cc)
 
-  by_parent : (i : ℕ) → (i ≡ x → ⊥) → Moved x y (root_of p (parent_in p i)) (root_of (set p x y) (parent_in p i)) → Moved x y (root_of p i) (root_of (set p x y) i)
+  by_parent : (i : ℕ) → (i ≡ x → ⊥) → Moved x y (root_of p (parent_in p i)) (root_of (set p x y) (parent_in p i)) → Moved x y (root_of p i) (root_of
+      (set p x y) i)
   by_parent i n m = rw (root-step p f i, root-step (set p x y) set-falls i, set_other p x y le in-x i n) m
 
   -- the class of x goes to y, and every other class stays
@@ -191,7 +192,14 @@ module _ (p : List ℕ) (f : Falls p) (x y : ℕ) (le : y ≤ x) (in-x : x < len
   moves own zero i h = elim (ℕ_discrete i x) [ yes e ↦ rw e (here own) | no n ↦ stays i n (omega (arith, parent_le p f i)) ]
   moves own (suc k) i h = elim (ℕ_discrete i x) [
     | yes e ↦ rw e (here own)
-    | no n ↦ elim (ℕ_discrete (parent_in p i) i) [ yes e ↦ stays i n e | no m ↦ by_parent i n (moves own k (parent_in p i) (omega (arith, parent_le p f i))) ]
+    | no n ↦ elim (ℕ_discrete (parent_in p i) i) [
+      | yes e ↦ stays i n e
+      | no m ↦ by_parent i n (moves own k (parent_in p i) (omega (
+        arith,
+        parent_le p
+            f i,
+      )))
+    ]
   ]
 
 -- numbers alone: after the larger of l and r has moved to the smaller, two are the same exactly if they were, or were l and r
@@ -225,17 +233,26 @@ module _ (p : List ℕ) (f : Falls p) (l r : ℕ) (in-l : l < length p) (in-r : 
   either-own x (inr e) = rw e (root-own p f r)
 
   own-max : parent_in p (max (root_of p l) (root_of p r)) ≡ max (root_of p l) (root_of p r)
-  own-max = either-own (max (root_of p l) (root_of p r)) (elim (dec_le (root_of p l) (root_of p r)) [ yes h ↦ inr (omega arith) | no h ↦ inl (omega arith) ])
+  own-max = either-own (max (root_of p l) (root_of p r)) (elim (dec_le (root_of p l) (root_of p r)) [
+    | yes h ↦ inr (omega arith)
+    | no h ↦ inl (omega
+        arith)
+  ])
 
   own-min : parent_in p (min (root_of p l) (root_of p r)) ≡ min (root_of p l) (root_of p r)
-  own-min = either-own (min (root_of p l) (root_of p r)) (elim (dec_le (root_of p l) (root_of p r)) [ yes h ↦ inl (omega arith) | no h ↦ inr (omega arith) ])
+  own-min = either-own (min (root_of p l) (root_of p r)) (elim (dec_le (root_of p l) (root_of p r)) [
+    | yes h ↦ inl (omega arith)
+    | no h ↦ inr (omega
+        arith)
+  ])
 
   in_max : max (root_of p l) (root_of p r) < length p
   in_max = omega (arith, root_le p f l, root_le p f r)
 
   joined-moves : (i : ℕ) → Moved (max (root_of p l) (root_of p r)) (min (root_of p l) (root_of p r)) (root_of p i) (root_of (joined p l r) i)
   unfolding joined
-  joined-moves i = moves p f (max (root_of p l) (root_of p r)) (min (root_of p l) (root_of p r)) (omega arith) in_max own-min own-max i i (omega arith)
+  joined-moves i = moves p f (max (root_of p l) (root_of p r)) (min (root_of p l) (root_of p r)) (omega arith) in_max own-min own-max i i (omega
+      arith)
 
   -- joining keeps the rule. Assumes that parents fall
   pub joined-falls : Falls (joined p l r)
@@ -248,7 +265,8 @@ module _ (p : List ℕ) (f : Falls p) (l r : ℕ) (in-l : l < length p) (in-r : 
   joined_same e =
       let m : max (root_of p l) (root_of p r) ≡ root_of p l = omega arith in
       let small = root-small p l in-l in
-      let own : get_or p (root_of p l) 0 ≡ root_of p l = sym (parent_in_lem p (root_of p l) small (omega (arith, f (root_of p l) small))) ∙ root-own p f l in
+      let own : get_or p (root_of p l) 0 ≡ root_of p l = sym (parent_in_lem p (root_of p l) small (omega (arith, f (root_of p l) small))) ∙ root-own p
+      f l in
       let n : min (root_of p l) (root_of p r) ≡ get_or p (root_of p l) 0 = omega arith in
       rw (m, n) (set-get_or p (root_of p l) 0)
 

@@ -35,58 +35,160 @@ bounds-roots-i-in-loop-k c =
     c.action_of-action.ensures c.first_of-i.ensures
 
 pub bounds-q-r : goal.bounds-q-r
-bounds-q-r c = (let fact : get_or c.if-roots-i.roots.of c.first_of-i.result 0 < 128 = let args = c.args in root-low _ _ ((let fact : JoinedIn c.action_of-action.result c.loop-k.q c.if-roots-i.q c.if-roots-i.roots c.if-roots-i.settled c.if-roots-i.checked = let args = c.args in let the-nodeOf = node_of args.kind.now args.code.now args.a.now args.b.now args.bits.now args.start.now in elim c.if-roots-i.branch [
-  | then-roots-i w ↦ when_apart c.action_of-action.result (subst Proper (sym c.action_of-action.ensures) (proper args.lineage.now the-nodeOf _)) c.loop-k.q c.loop-k.roots c.loop-k.invariant.0.rooted c.loop-k.invariant.0.wide _ _ c.first_of-i.ensures c.second_of-j.ensures w.if-roots-i.true _ _ _ _ _ c.if-roots-i.settled c.if-roots-i.checked w.join-q.ensures w.roots-roots-then-roots-i.ensures w.parents_ok-settled.ensures w.q-is w.roots-is w.settled-is
-  | else-roots-i w ↦ when_together c.action_of-action.result (subst Proper (sym c.action_of-action.ensures) (proper args.lineage.now the-nodeOf _)) c.loop-k.q c.loop-k.roots c.loop-k.invariant.0.rooted c.loop-k.invariant.0.wide _ _ c.first_of-i.ensures c.second_of-j.ensures w.if-roots-i.false c.if-roots-i.settled c.loop-k.settled c.if-roots-i.checked c.loop-k.checked _ _ c.loop-k.invariant.0.settles c.loop-k.invariant.0.told w.q-is w.roots-is w.settled-is w.checked-is
-] in fact)).rooted ((let fact : JoinedIn c.action_of-action.result c.loop-k.q c.if-roots-i.q c.if-roots-i.roots c.if-roots-i.settled c.if-roots-i.checked = let args = c.args in let the-nodeOf = node_of args.kind.now args.code.now args.a.now args.b.now args.bits.now args.start.now in elim c.if-roots-i.branch [
-  | then-roots-i w ↦ when_apart c.action_of-action.result (subst Proper (sym c.action_of-action.ensures) (proper args.lineage.now the-nodeOf _)) c.loop-k.q c.loop-k.roots c.loop-k.invariant.0.rooted c.loop-k.invariant.0.wide _ _ c.first_of-i.ensures c.second_of-j.ensures w.if-roots-i.true _ _ _ _ _ c.if-roots-i.settled c.if-roots-i.checked w.join-q.ensures w.roots-roots-then-roots-i.ensures w.parents_ok-settled.ensures w.q-is w.roots-is w.settled-is
-  | else-roots-i w ↦ when_together c.action_of-action.result (subst Proper (sym c.action_of-action.ensures) (proper args.lineage.now the-nodeOf _)) c.loop-k.q c.loop-k.roots c.loop-k.invariant.0.rooted c.loop-k.invariant.0.wide _ _ c.first_of-i.ensures c.second_of-j.ensures w.if-roots-i.false c.if-roots-i.settled c.loop-k.settled c.if-roots-i.checked c.loop-k.checked _ _ c.loop-k.invariant.0.settles c.loop-k.invariant.0.told w.q-is w.roots-is w.settled-is w.checked-is
-] in fact)).wide.0 _ (first_index args.lineage.now (node_of args.kind.now args.code.now args.a.now args.b.now args.bits.now args.start.now) _ _ _ c.action_of-action.ensures c.first_of-i.ensures) in fact)
+bounds-q-r c = (let fact : get_or c.if-roots-i.roots.of c.first_of-i.result 0 < 128 = let args = c.args in root-low _ _ ((let fact : JoinedIn
+    c.action_of-action.result c.loop-k.q c.if-roots-i.q c.if-roots-i.roots c.if-roots-i.settled c.if-roots-i.checked = let args = c.args in let
+    the-nodeOf = node_of args.kind.now args.code.now args.a.now args.b.now args.bits.now args.start.now in elim c.if-roots-i.branch [
+      | then-roots-i w ↦ when_apart c.action_of-action.result (subst Proper (sym c.action_of-action.ensures) (proper args.lineage.now the-nodeOf _))
+          c.loop-k.q c.loop-k.roots c.loop-k.invariant.0.rooted c.loop-k.invariant.0.wide _ _ c.first_of-i.ensures c.second_of-j.ensures w.if-roots-i.true
+          _ _ _ _ _ c.if-roots-i.settled c.if-roots-i.checked w.join-q.ensures w.roots-roots-then-roots-i.ensures w.parents_ok-settled.ensures w.q-is
+          w.roots-is w.settled-is
+      | else-roots-i w ↦ when_together c.action_of-action.result (subst Proper (sym c.action_of-action.ensures) (proper args.lineage.now the-nodeOf _))
+          c.loop-k.q c.loop-k.roots c.loop-k.invariant.0.rooted c.loop-k.invariant.0.wide _ _ c.first_of-i.ensures c.second_of-j.ensures
+          w.if-roots-i.false c.if-roots-i.settled c.loop-k.settled c.if-roots-i.checked c.loop-k.checked _ _ c.loop-k.invariant.0.settles
+          c.loop-k.invariant.0.told w.q-is w.roots-is w.settled-is w.checked-is
+    ] in fact)).rooted ((let fact : JoinedIn c.action_of-action.result c.loop-k.q c.if-roots-i.q c.if-roots-i.roots c.if-roots-i.settled
+    c.if-roots-i.checked = let args = c.args in let the-nodeOf = node_of args.kind.now args.code.now args.a.now args.b.now args.bits.now
+    args.start.now in elim c.if-roots-i.branch [
+      | then-roots-i w ↦ when_apart c.action_of-action.result (subst Proper (sym c.action_of-action.ensures) (proper args.lineage.now the-nodeOf _))
+          c.loop-k.q c.loop-k.roots c.loop-k.invariant.0.rooted c.loop-k.invariant.0.wide _ _ c.first_of-i.ensures c.second_of-j.ensures w.if-roots-i.true
+          _ _ _ _ _ c.if-roots-i.settled c.if-roots-i.checked w.join-q.ensures w.roots-roots-then-roots-i.ensures w.parents_ok-settled.ensures w.q-is
+          w.roots-is w.settled-is
+      | else-roots-i w ↦ when_together c.action_of-action.result (subst Proper (sym c.action_of-action.ensures) (proper args.lineage.now the-nodeOf _))
+          c.loop-k.q c.loop-k.roots c.loop-k.invariant.0.rooted c.loop-k.invariant.0.wide _ _ c.first_of-i.ensures c.second_of-j.ensures
+          w.if-roots-i.false c.if-roots-i.settled c.loop-k.settled c.if-roots-i.checked c.loop-k.checked _ _ c.loop-k.invariant.0.settles
+          c.loop-k.invariant.0.told w.q-is w.roots-is w.settled-is w.checked-is
+    ] in fact)).wide.0 _ (first_index args.lineage.now (node_of args.kind.now args.code.now args.a.now args.b.now args.bits.now args.start.now) _ _ _
+    c.action_of-action.ensures c.first_of-i.ensures) in fact)
 
 pub bounds-q-r-in-loop-k : goal.bounds-q-r-in-loop-k
-bounds-q-r-in-loop-k c = (let fact : get_or c.if-roots-i.roots.of c.first_of-i.result 0 < 128 = let args = c.args in root-low _ _ ((let fact : JoinedIn c.action_of-action.result c.loop-k.q c.if-roots-i.q c.if-roots-i.roots c.if-roots-i.settled c.if-roots-i.checked = let args = c.args in let the-nodeOf = node_of args.kind.now args.code.now args.a.now args.b.now args.bits.now args.start.now in elim c.if-roots-i.branch [
-  | then-roots-i w ↦ when_apart c.action_of-action.result (subst Proper (sym c.action_of-action.ensures) (proper args.lineage.now the-nodeOf _)) c.loop-k.q c.loop-k.roots c.loop-k.invariant.0.rooted c.loop-k.invariant.0.wide _ _ c.first_of-i.ensures c.second_of-j.ensures w.if-roots-i.true _ _ _ _ _ c.if-roots-i.settled c.if-roots-i.checked w.join-q.ensures w.roots-roots-then-roots-i.ensures w.parents_ok-settled.ensures w.q-is w.roots-is w.settled-is
-  | else-roots-i w ↦ when_together c.action_of-action.result (subst Proper (sym c.action_of-action.ensures) (proper args.lineage.now the-nodeOf _)) c.loop-k.q c.loop-k.roots c.loop-k.invariant.0.rooted c.loop-k.invariant.0.wide _ _ c.first_of-i.ensures c.second_of-j.ensures w.if-roots-i.false c.if-roots-i.settled c.loop-k.settled c.if-roots-i.checked c.loop-k.checked _ _ c.loop-k.invariant.0.settles c.loop-k.invariant.0.told w.q-is w.roots-is w.settled-is w.checked-is
-] in fact)).rooted ((let fact : JoinedIn c.action_of-action.result c.loop-k.q c.if-roots-i.q c.if-roots-i.roots c.if-roots-i.settled c.if-roots-i.checked = let args = c.args in let the-nodeOf = node_of args.kind.now args.code.now args.a.now args.b.now args.bits.now args.start.now in elim c.if-roots-i.branch [
-  | then-roots-i w ↦ when_apart c.action_of-action.result (subst Proper (sym c.action_of-action.ensures) (proper args.lineage.now the-nodeOf _)) c.loop-k.q c.loop-k.roots c.loop-k.invariant.0.rooted c.loop-k.invariant.0.wide _ _ c.first_of-i.ensures c.second_of-j.ensures w.if-roots-i.true _ _ _ _ _ c.if-roots-i.settled c.if-roots-i.checked w.join-q.ensures w.roots-roots-then-roots-i.ensures w.parents_ok-settled.ensures w.q-is w.roots-is w.settled-is
-  | else-roots-i w ↦ when_together c.action_of-action.result (subst Proper (sym c.action_of-action.ensures) (proper args.lineage.now the-nodeOf _)) c.loop-k.q c.loop-k.roots c.loop-k.invariant.0.rooted c.loop-k.invariant.0.wide _ _ c.first_of-i.ensures c.second_of-j.ensures w.if-roots-i.false c.if-roots-i.settled c.loop-k.settled c.if-roots-i.checked c.loop-k.checked _ _ c.loop-k.invariant.0.settles c.loop-k.invariant.0.told w.q-is w.roots-is w.settled-is w.checked-is
-] in fact)).wide.0 _ (first_index args.lineage.now (node_of args.kind.now args.code.now args.a.now args.b.now args.bits.now args.start.now) _ _ _ c.action_of-action.ensures c.first_of-i.ensures) in fact)
+bounds-q-r-in-loop-k c = (let fact : get_or c.if-roots-i.roots.of c.first_of-i.result 0 < 128 = let args = c.args in root-low _ _ ((let fact :
+    JoinedIn c.action_of-action.result c.loop-k.q c.if-roots-i.q c.if-roots-i.roots c.if-roots-i.settled c.if-roots-i.checked = let args = c.args in
+    let the-nodeOf = node_of args.kind.now args.code.now args.a.now args.b.now args.bits.now args.start.now in elim c.if-roots-i.branch [
+      | then-roots-i w ↦ when_apart c.action_of-action.result (subst Proper (sym c.action_of-action.ensures) (proper args.lineage.now the-nodeOf _))
+          c.loop-k.q c.loop-k.roots c.loop-k.invariant.0.rooted c.loop-k.invariant.0.wide _ _ c.first_of-i.ensures c.second_of-j.ensures w.if-roots-i.true
+          _ _ _ _ _ c.if-roots-i.settled c.if-roots-i.checked w.join-q.ensures w.roots-roots-then-roots-i.ensures w.parents_ok-settled.ensures w.q-is
+          w.roots-is w.settled-is
+      | else-roots-i w ↦ when_together c.action_of-action.result (subst Proper (sym c.action_of-action.ensures) (proper args.lineage.now the-nodeOf _))
+          c.loop-k.q c.loop-k.roots c.loop-k.invariant.0.rooted c.loop-k.invariant.0.wide _ _ c.first_of-i.ensures c.second_of-j.ensures
+          w.if-roots-i.false c.if-roots-i.settled c.loop-k.settled c.if-roots-i.checked c.loop-k.checked _ _ c.loop-k.invariant.0.settles
+          c.loop-k.invariant.0.told w.q-is w.roots-is w.settled-is w.checked-is
+    ] in fact)).rooted ((let fact : JoinedIn c.action_of-action.result c.loop-k.q c.if-roots-i.q c.if-roots-i.roots c.if-roots-i.settled
+    c.if-roots-i.checked = let args = c.args in let the-nodeOf = node_of args.kind.now args.code.now args.a.now args.b.now args.bits.now
+    args.start.now in elim c.if-roots-i.branch [
+      | then-roots-i w ↦ when_apart c.action_of-action.result (subst Proper (sym c.action_of-action.ensures) (proper args.lineage.now the-nodeOf _))
+          c.loop-k.q c.loop-k.roots c.loop-k.invariant.0.rooted c.loop-k.invariant.0.wide _ _ c.first_of-i.ensures c.second_of-j.ensures w.if-roots-i.true
+          _ _ _ _ _ c.if-roots-i.settled c.if-roots-i.checked w.join-q.ensures w.roots-roots-then-roots-i.ensures w.parents_ok-settled.ensures w.q-is
+          w.roots-is w.settled-is
+      | else-roots-i w ↦ when_together c.action_of-action.result (subst Proper (sym c.action_of-action.ensures) (proper args.lineage.now the-nodeOf _))
+          c.loop-k.q c.loop-k.roots c.loop-k.invariant.0.rooted c.loop-k.invariant.0.wide _ _ c.first_of-i.ensures c.second_of-j.ensures
+          w.if-roots-i.false c.if-roots-i.settled c.loop-k.settled c.if-roots-i.checked c.loop-k.checked _ _ c.loop-k.invariant.0.settles
+          c.loop-k.invariant.0.told w.q-is w.roots-is w.settled-is w.checked-is
+    ] in fact)).wide.0 _ (first_index args.lineage.now (node_of args.kind.now args.code.now args.a.now args.b.now args.bits.now args.start.now) _ _ _
+    c.action_of-action.ensures c.first_of-i.ensures) in fact)
 
 pub bounds-q-r-in-loop-k-2 : goal.bounds-q-r-in-loop-k-2
-bounds-q-r-in-loop-k-2 c = (let fact : get_or c.if-roots-i.roots.of c.first_of-i.result 0 < 128 = let args = c.args in root-low _ _ ((let fact : JoinedIn c.action_of-action.result c.loop-k.q c.if-roots-i.q c.if-roots-i.roots c.if-roots-i.settled c.if-roots-i.checked = let args = c.args in let the-nodeOf = node_of args.kind.now args.code.now args.a.now args.b.now args.bits.now args.start.now in elim c.if-roots-i.branch [
-  | then-roots-i w ↦ when_apart c.action_of-action.result (subst Proper (sym c.action_of-action.ensures) (proper args.lineage.now the-nodeOf _)) c.loop-k.q c.loop-k.roots c.loop-k.invariant.0.rooted c.loop-k.invariant.0.wide _ _ c.first_of-i.ensures c.second_of-j.ensures w.if-roots-i.true _ _ _ _ _ c.if-roots-i.settled c.if-roots-i.checked w.join-q.ensures w.roots-roots-then-roots-i.ensures w.parents_ok-settled.ensures w.q-is w.roots-is w.settled-is
-  | else-roots-i w ↦ when_together c.action_of-action.result (subst Proper (sym c.action_of-action.ensures) (proper args.lineage.now the-nodeOf _)) c.loop-k.q c.loop-k.roots c.loop-k.invariant.0.rooted c.loop-k.invariant.0.wide _ _ c.first_of-i.ensures c.second_of-j.ensures w.if-roots-i.false c.if-roots-i.settled c.loop-k.settled c.if-roots-i.checked c.loop-k.checked _ _ c.loop-k.invariant.0.settles c.loop-k.invariant.0.told w.q-is w.roots-is w.settled-is w.checked-is
-] in fact)).rooted ((let fact : JoinedIn c.action_of-action.result c.loop-k.q c.if-roots-i.q c.if-roots-i.roots c.if-roots-i.settled c.if-roots-i.checked = let args = c.args in let the-nodeOf = node_of args.kind.now args.code.now args.a.now args.b.now args.bits.now args.start.now in elim c.if-roots-i.branch [
-  | then-roots-i w ↦ when_apart c.action_of-action.result (subst Proper (sym c.action_of-action.ensures) (proper args.lineage.now the-nodeOf _)) c.loop-k.q c.loop-k.roots c.loop-k.invariant.0.rooted c.loop-k.invariant.0.wide _ _ c.first_of-i.ensures c.second_of-j.ensures w.if-roots-i.true _ _ _ _ _ c.if-roots-i.settled c.if-roots-i.checked w.join-q.ensures w.roots-roots-then-roots-i.ensures w.parents_ok-settled.ensures w.q-is w.roots-is w.settled-is
-  | else-roots-i w ↦ when_together c.action_of-action.result (subst Proper (sym c.action_of-action.ensures) (proper args.lineage.now the-nodeOf _)) c.loop-k.q c.loop-k.roots c.loop-k.invariant.0.rooted c.loop-k.invariant.0.wide _ _ c.first_of-i.ensures c.second_of-j.ensures w.if-roots-i.false c.if-roots-i.settled c.loop-k.settled c.if-roots-i.checked c.loop-k.checked _ _ c.loop-k.invariant.0.settles c.loop-k.invariant.0.told w.q-is w.roots-is w.settled-is w.checked-is
-] in fact)).wide.0 _ (first_index args.lineage.now (node_of args.kind.now args.code.now args.a.now args.b.now args.bits.now args.start.now) _ _ _ c.action_of-action.ensures c.first_of-i.ensures) in fact)
+bounds-q-r-in-loop-k-2 c = (let fact : get_or c.if-roots-i.roots.of c.first_of-i.result 0 < 128 = let args = c.args in root-low _ _ ((let fact :
+    JoinedIn c.action_of-action.result c.loop-k.q c.if-roots-i.q c.if-roots-i.roots c.if-roots-i.settled c.if-roots-i.checked = let args = c.args in
+    let the-nodeOf = node_of args.kind.now args.code.now args.a.now args.b.now args.bits.now args.start.now in elim c.if-roots-i.branch [
+      | then-roots-i w ↦ when_apart c.action_of-action.result (subst Proper (sym c.action_of-action.ensures) (proper args.lineage.now the-nodeOf _))
+          c.loop-k.q c.loop-k.roots c.loop-k.invariant.0.rooted c.loop-k.invariant.0.wide _ _ c.first_of-i.ensures c.second_of-j.ensures w.if-roots-i.true
+          _ _ _ _ _ c.if-roots-i.settled c.if-roots-i.checked w.join-q.ensures w.roots-roots-then-roots-i.ensures w.parents_ok-settled.ensures w.q-is
+          w.roots-is w.settled-is
+      | else-roots-i w ↦ when_together c.action_of-action.result (subst Proper (sym c.action_of-action.ensures) (proper args.lineage.now the-nodeOf _))
+          c.loop-k.q c.loop-k.roots c.loop-k.invariant.0.rooted c.loop-k.invariant.0.wide _ _ c.first_of-i.ensures c.second_of-j.ensures
+          w.if-roots-i.false c.if-roots-i.settled c.loop-k.settled c.if-roots-i.checked c.loop-k.checked _ _ c.loop-k.invariant.0.settles
+          c.loop-k.invariant.0.told w.q-is w.roots-is w.settled-is w.checked-is
+    ] in fact)).rooted ((let fact : JoinedIn c.action_of-action.result c.loop-k.q c.if-roots-i.q c.if-roots-i.roots c.if-roots-i.settled
+    c.if-roots-i.checked = let args = c.args in let the-nodeOf = node_of args.kind.now args.code.now args.a.now args.b.now args.bits.now
+    args.start.now in elim c.if-roots-i.branch [
+      | then-roots-i w ↦ when_apart c.action_of-action.result (subst Proper (sym c.action_of-action.ensures) (proper args.lineage.now the-nodeOf _))
+          c.loop-k.q c.loop-k.roots c.loop-k.invariant.0.rooted c.loop-k.invariant.0.wide _ _ c.first_of-i.ensures c.second_of-j.ensures w.if-roots-i.true
+          _ _ _ _ _ c.if-roots-i.settled c.if-roots-i.checked w.join-q.ensures w.roots-roots-then-roots-i.ensures w.parents_ok-settled.ensures w.q-is
+          w.roots-is w.settled-is
+      | else-roots-i w ↦ when_together c.action_of-action.result (subst Proper (sym c.action_of-action.ensures) (proper args.lineage.now the-nodeOf _))
+          c.loop-k.q c.loop-k.roots c.loop-k.invariant.0.rooted c.loop-k.invariant.0.wide _ _ c.first_of-i.ensures c.second_of-j.ensures
+          w.if-roots-i.false c.if-roots-i.settled c.loop-k.settled c.if-roots-i.checked c.loop-k.checked _ _ c.loop-k.invariant.0.settles
+          c.loop-k.invariant.0.told w.q-is w.roots-is w.settled-is w.checked-is
+    ] in fact)).wide.0 _ (first_index args.lineage.now (node_of args.kind.now args.code.now args.a.now args.b.now args.bits.now args.start.now) _ _ _
+    c.action_of-action.ensures c.first_of-i.ensures) in fact)
 
 pub bounds-q-r-in-loop-k-3 : goal.bounds-q-r-in-loop-k-3
-bounds-q-r-in-loop-k-3 c = (let fact : get_or c.if-roots-i.roots.of c.first_of-i.result 0 < 128 = let args = c.args in root-low _ _ ((let fact : JoinedIn c.action_of-action.result c.loop-k.q c.if-roots-i.q c.if-roots-i.roots c.if-roots-i.settled c.if-roots-i.checked = let args = c.args in let the-nodeOf = node_of args.kind.now args.code.now args.a.now args.b.now args.bits.now args.start.now in elim c.if-roots-i.branch [
-  | then-roots-i w ↦ when_apart c.action_of-action.result (subst Proper (sym c.action_of-action.ensures) (proper args.lineage.now the-nodeOf _)) c.loop-k.q c.loop-k.roots c.loop-k.invariant.0.rooted c.loop-k.invariant.0.wide _ _ c.first_of-i.ensures c.second_of-j.ensures w.if-roots-i.true _ _ _ _ _ c.if-roots-i.settled c.if-roots-i.checked w.join-q.ensures w.roots-roots-then-roots-i.ensures w.parents_ok-settled.ensures w.q-is w.roots-is w.settled-is
-  | else-roots-i w ↦ when_together c.action_of-action.result (subst Proper (sym c.action_of-action.ensures) (proper args.lineage.now the-nodeOf _)) c.loop-k.q c.loop-k.roots c.loop-k.invariant.0.rooted c.loop-k.invariant.0.wide _ _ c.first_of-i.ensures c.second_of-j.ensures w.if-roots-i.false c.if-roots-i.settled c.loop-k.settled c.if-roots-i.checked c.loop-k.checked _ _ c.loop-k.invariant.0.settles c.loop-k.invariant.0.told w.q-is w.roots-is w.settled-is w.checked-is
-] in fact)).rooted ((let fact : JoinedIn c.action_of-action.result c.loop-k.q c.if-roots-i.q c.if-roots-i.roots c.if-roots-i.settled c.if-roots-i.checked = let args = c.args in let the-nodeOf = node_of args.kind.now args.code.now args.a.now args.b.now args.bits.now args.start.now in elim c.if-roots-i.branch [
-  | then-roots-i w ↦ when_apart c.action_of-action.result (subst Proper (sym c.action_of-action.ensures) (proper args.lineage.now the-nodeOf _)) c.loop-k.q c.loop-k.roots c.loop-k.invariant.0.rooted c.loop-k.invariant.0.wide _ _ c.first_of-i.ensures c.second_of-j.ensures w.if-roots-i.true _ _ _ _ _ c.if-roots-i.settled c.if-roots-i.checked w.join-q.ensures w.roots-roots-then-roots-i.ensures w.parents_ok-settled.ensures w.q-is w.roots-is w.settled-is
-  | else-roots-i w ↦ when_together c.action_of-action.result (subst Proper (sym c.action_of-action.ensures) (proper args.lineage.now the-nodeOf _)) c.loop-k.q c.loop-k.roots c.loop-k.invariant.0.rooted c.loop-k.invariant.0.wide _ _ c.first_of-i.ensures c.second_of-j.ensures w.if-roots-i.false c.if-roots-i.settled c.loop-k.settled c.if-roots-i.checked c.loop-k.checked _ _ c.loop-k.invariant.0.settles c.loop-k.invariant.0.told w.q-is w.roots-is w.settled-is w.checked-is
-] in fact)).wide.0 _ (first_index args.lineage.now (node_of args.kind.now args.code.now args.a.now args.b.now args.bits.now args.start.now) _ _ _ c.action_of-action.ensures c.first_of-i.ensures) in fact)
+bounds-q-r-in-loop-k-3 c = (let fact : get_or c.if-roots-i.roots.of c.first_of-i.result 0 < 128 = let args = c.args in root-low _ _ ((let fact :
+    JoinedIn c.action_of-action.result c.loop-k.q c.if-roots-i.q c.if-roots-i.roots c.if-roots-i.settled c.if-roots-i.checked = let args = c.args in
+    let the-nodeOf = node_of args.kind.now args.code.now args.a.now args.b.now args.bits.now args.start.now in elim c.if-roots-i.branch [
+      | then-roots-i w ↦ when_apart c.action_of-action.result (subst Proper (sym c.action_of-action.ensures) (proper args.lineage.now the-nodeOf _))
+          c.loop-k.q c.loop-k.roots c.loop-k.invariant.0.rooted c.loop-k.invariant.0.wide _ _ c.first_of-i.ensures c.second_of-j.ensures w.if-roots-i.true
+          _ _ _ _ _ c.if-roots-i.settled c.if-roots-i.checked w.join-q.ensures w.roots-roots-then-roots-i.ensures w.parents_ok-settled.ensures w.q-is
+          w.roots-is w.settled-is
+      | else-roots-i w ↦ when_together c.action_of-action.result (subst Proper (sym c.action_of-action.ensures) (proper args.lineage.now the-nodeOf _))
+          c.loop-k.q c.loop-k.roots c.loop-k.invariant.0.rooted c.loop-k.invariant.0.wide _ _ c.first_of-i.ensures c.second_of-j.ensures
+          w.if-roots-i.false c.if-roots-i.settled c.loop-k.settled c.if-roots-i.checked c.loop-k.checked _ _ c.loop-k.invariant.0.settles
+          c.loop-k.invariant.0.told w.q-is w.roots-is w.settled-is w.checked-is
+    ] in fact)).rooted ((let fact : JoinedIn c.action_of-action.result c.loop-k.q c.if-roots-i.q c.if-roots-i.roots c.if-roots-i.settled
+    c.if-roots-i.checked = let args = c.args in let the-nodeOf = node_of args.kind.now args.code.now args.a.now args.b.now args.bits.now
+    args.start.now in elim c.if-roots-i.branch [
+      | then-roots-i w ↦ when_apart c.action_of-action.result (subst Proper (sym c.action_of-action.ensures) (proper args.lineage.now the-nodeOf _))
+          c.loop-k.q c.loop-k.roots c.loop-k.invariant.0.rooted c.loop-k.invariant.0.wide _ _ c.first_of-i.ensures c.second_of-j.ensures w.if-roots-i.true
+          _ _ _ _ _ c.if-roots-i.settled c.if-roots-i.checked w.join-q.ensures w.roots-roots-then-roots-i.ensures w.parents_ok-settled.ensures w.q-is
+          w.roots-is w.settled-is
+      | else-roots-i w ↦ when_together c.action_of-action.result (subst Proper (sym c.action_of-action.ensures) (proper args.lineage.now the-nodeOf _))
+          c.loop-k.q c.loop-k.roots c.loop-k.invariant.0.rooted c.loop-k.invariant.0.wide _ _ c.first_of-i.ensures c.second_of-j.ensures
+          w.if-roots-i.false c.if-roots-i.settled c.loop-k.settled c.if-roots-i.checked c.loop-k.checked _ _ c.loop-k.invariant.0.settles
+          c.loop-k.invariant.0.told w.q-is w.roots-is w.settled-is w.checked-is
+    ] in fact)).wide.0 _ (first_index args.lineage.now (node_of args.kind.now args.code.now args.a.now args.b.now args.bits.now args.start.now) _ _ _
+    c.action_of-action.ensures c.first_of-i.ensures) in fact)
 
 pub bounds-q-r-in-loop-k-4 : goal.bounds-q-r-in-loop-k-4
-bounds-q-r-in-loop-k-4 c = (let fact : get_or c.if-roots-i.roots.of c.first_of-i.result 0 < 128 = let args = c.args in root-low _ _ ((let fact : JoinedIn c.action_of-action.result c.loop-k.q c.if-roots-i.q c.if-roots-i.roots c.if-roots-i.settled c.if-roots-i.checked = let args = c.args in let the-nodeOf = node_of args.kind.now args.code.now args.a.now args.b.now args.bits.now args.start.now in elim c.if-roots-i.branch [
-  | then-roots-i w ↦ when_apart c.action_of-action.result (subst Proper (sym c.action_of-action.ensures) (proper args.lineage.now the-nodeOf _)) c.loop-k.q c.loop-k.roots c.loop-k.invariant.0.rooted c.loop-k.invariant.0.wide _ _ c.first_of-i.ensures c.second_of-j.ensures w.if-roots-i.true _ _ _ _ _ c.if-roots-i.settled c.if-roots-i.checked w.join-q.ensures w.roots-roots-then-roots-i.ensures w.parents_ok-settled.ensures w.q-is w.roots-is w.settled-is
-  | else-roots-i w ↦ when_together c.action_of-action.result (subst Proper (sym c.action_of-action.ensures) (proper args.lineage.now the-nodeOf _)) c.loop-k.q c.loop-k.roots c.loop-k.invariant.0.rooted c.loop-k.invariant.0.wide _ _ c.first_of-i.ensures c.second_of-j.ensures w.if-roots-i.false c.if-roots-i.settled c.loop-k.settled c.if-roots-i.checked c.loop-k.checked _ _ c.loop-k.invariant.0.settles c.loop-k.invariant.0.told w.q-is w.roots-is w.settled-is w.checked-is
-] in fact)).rooted ((let fact : JoinedIn c.action_of-action.result c.loop-k.q c.if-roots-i.q c.if-roots-i.roots c.if-roots-i.settled c.if-roots-i.checked = let args = c.args in let the-nodeOf = node_of args.kind.now args.code.now args.a.now args.b.now args.bits.now args.start.now in elim c.if-roots-i.branch [
-  | then-roots-i w ↦ when_apart c.action_of-action.result (subst Proper (sym c.action_of-action.ensures) (proper args.lineage.now the-nodeOf _)) c.loop-k.q c.loop-k.roots c.loop-k.invariant.0.rooted c.loop-k.invariant.0.wide _ _ c.first_of-i.ensures c.second_of-j.ensures w.if-roots-i.true _ _ _ _ _ c.if-roots-i.settled c.if-roots-i.checked w.join-q.ensures w.roots-roots-then-roots-i.ensures w.parents_ok-settled.ensures w.q-is w.roots-is w.settled-is
-  | else-roots-i w ↦ when_together c.action_of-action.result (subst Proper (sym c.action_of-action.ensures) (proper args.lineage.now the-nodeOf _)) c.loop-k.q c.loop-k.roots c.loop-k.invariant.0.rooted c.loop-k.invariant.0.wide _ _ c.first_of-i.ensures c.second_of-j.ensures w.if-roots-i.false c.if-roots-i.settled c.loop-k.settled c.if-roots-i.checked c.loop-k.checked _ _ c.loop-k.invariant.0.settles c.loop-k.invariant.0.told w.q-is w.roots-is w.settled-is w.checked-is
-] in fact)).wide.0 _ (first_index args.lineage.now (node_of args.kind.now args.code.now args.a.now args.b.now args.bits.now args.start.now) _ _ _ c.action_of-action.ensures c.first_of-i.ensures) in fact)
+bounds-q-r-in-loop-k-4 c = (let fact : get_or c.if-roots-i.roots.of c.first_of-i.result 0 < 128 = let args = c.args in root-low _ _ ((let fact :
+    JoinedIn c.action_of-action.result c.loop-k.q c.if-roots-i.q c.if-roots-i.roots c.if-roots-i.settled c.if-roots-i.checked = let args = c.args in
+    let the-nodeOf = node_of args.kind.now args.code.now args.a.now args.b.now args.bits.now args.start.now in elim c.if-roots-i.branch [
+      | then-roots-i w ↦ when_apart c.action_of-action.result (subst Proper (sym c.action_of-action.ensures) (proper args.lineage.now the-nodeOf _))
+          c.loop-k.q c.loop-k.roots c.loop-k.invariant.0.rooted c.loop-k.invariant.0.wide _ _ c.first_of-i.ensures c.second_of-j.ensures w.if-roots-i.true
+          _ _ _ _ _ c.if-roots-i.settled c.if-roots-i.checked w.join-q.ensures w.roots-roots-then-roots-i.ensures w.parents_ok-settled.ensures w.q-is
+          w.roots-is w.settled-is
+      | else-roots-i w ↦ when_together c.action_of-action.result (subst Proper (sym c.action_of-action.ensures) (proper args.lineage.now the-nodeOf _))
+          c.loop-k.q c.loop-k.roots c.loop-k.invariant.0.rooted c.loop-k.invariant.0.wide _ _ c.first_of-i.ensures c.second_of-j.ensures
+          w.if-roots-i.false c.if-roots-i.settled c.loop-k.settled c.if-roots-i.checked c.loop-k.checked _ _ c.loop-k.invariant.0.settles
+          c.loop-k.invariant.0.told w.q-is w.roots-is w.settled-is w.checked-is
+    ] in fact)).rooted ((let fact : JoinedIn c.action_of-action.result c.loop-k.q c.if-roots-i.q c.if-roots-i.roots c.if-roots-i.settled
+    c.if-roots-i.checked = let args = c.args in let the-nodeOf = node_of args.kind.now args.code.now args.a.now args.b.now args.bits.now
+    args.start.now in elim c.if-roots-i.branch [
+      | then-roots-i w ↦ when_apart c.action_of-action.result (subst Proper (sym c.action_of-action.ensures) (proper args.lineage.now the-nodeOf _))
+          c.loop-k.q c.loop-k.roots c.loop-k.invariant.0.rooted c.loop-k.invariant.0.wide _ _ c.first_of-i.ensures c.second_of-j.ensures w.if-roots-i.true
+          _ _ _ _ _ c.if-roots-i.settled c.if-roots-i.checked w.join-q.ensures w.roots-roots-then-roots-i.ensures w.parents_ok-settled.ensures w.q-is
+          w.roots-is w.settled-is
+      | else-roots-i w ↦ when_together c.action_of-action.result (subst Proper (sym c.action_of-action.ensures) (proper args.lineage.now the-nodeOf _))
+          c.loop-k.q c.loop-k.roots c.loop-k.invariant.0.rooted c.loop-k.invariant.0.wide _ _ c.first_of-i.ensures c.second_of-j.ensures
+          w.if-roots-i.false c.if-roots-i.settled c.loop-k.settled c.if-roots-i.checked c.loop-k.checked _ _ c.loop-k.invariant.0.settles
+          c.loop-k.invariant.0.told w.q-is w.roots-is w.settled-is w.checked-is
+    ] in fact)).wide.0 _ (first_index args.lineage.now (node_of args.kind.now args.code.now args.a.now args.b.now args.bits.now args.start.now) _ _ _
+    c.action_of-action.ensures c.first_of-i.ensures) in fact)
 
 pub bounds-q-r-in-loop-k-5 : goal.bounds-q-r-in-loop-k-5
-bounds-q-r-in-loop-k-5 c = (let fact : get_or c.if-roots-i.roots.of c.first_of-i.result 0 < 128 = let args = c.args in root-low _ _ ((let fact : JoinedIn c.action_of-action.result c.loop-k.q c.if-roots-i.q c.if-roots-i.roots c.if-roots-i.settled c.if-roots-i.checked = let args = c.args in let the-nodeOf = node_of args.kind.now args.code.now args.a.now args.b.now args.bits.now args.start.now in elim c.if-roots-i.branch [
-  | then-roots-i w ↦ when_apart c.action_of-action.result (subst Proper (sym c.action_of-action.ensures) (proper args.lineage.now the-nodeOf _)) c.loop-k.q c.loop-k.roots c.loop-k.invariant.0.rooted c.loop-k.invariant.0.wide _ _ c.first_of-i.ensures c.second_of-j.ensures w.if-roots-i.true _ _ _ _ _ c.if-roots-i.settled c.if-roots-i.checked w.join-q.ensures w.roots-roots-then-roots-i.ensures w.parents_ok-settled.ensures w.q-is w.roots-is w.settled-is
-  | else-roots-i w ↦ when_together c.action_of-action.result (subst Proper (sym c.action_of-action.ensures) (proper args.lineage.now the-nodeOf _)) c.loop-k.q c.loop-k.roots c.loop-k.invariant.0.rooted c.loop-k.invariant.0.wide _ _ c.first_of-i.ensures c.second_of-j.ensures w.if-roots-i.false c.if-roots-i.settled c.loop-k.settled c.if-roots-i.checked c.loop-k.checked _ _ c.loop-k.invariant.0.settles c.loop-k.invariant.0.told w.q-is w.roots-is w.settled-is w.checked-is
-] in fact)).rooted ((let fact : JoinedIn c.action_of-action.result c.loop-k.q c.if-roots-i.q c.if-roots-i.roots c.if-roots-i.settled c.if-roots-i.checked = let args = c.args in let the-nodeOf = node_of args.kind.now args.code.now args.a.now args.b.now args.bits.now args.start.now in elim c.if-roots-i.branch [
-  | then-roots-i w ↦ when_apart c.action_of-action.result (subst Proper (sym c.action_of-action.ensures) (proper args.lineage.now the-nodeOf _)) c.loop-k.q c.loop-k.roots c.loop-k.invariant.0.rooted c.loop-k.invariant.0.wide _ _ c.first_of-i.ensures c.second_of-j.ensures w.if-roots-i.true _ _ _ _ _ c.if-roots-i.settled c.if-roots-i.checked w.join-q.ensures w.roots-roots-then-roots-i.ensures w.parents_ok-settled.ensures w.q-is w.roots-is w.settled-is
-  | else-roots-i w ↦ when_together c.action_of-action.result (subst Proper (sym c.action_of-action.ensures) (proper args.lineage.now the-nodeOf _)) c.loop-k.q c.loop-k.roots c.loop-k.invariant.0.rooted c.loop-k.invariant.0.wide _ _ c.first_of-i.ensures c.second_of-j.ensures w.if-roots-i.false c.if-roots-i.settled c.loop-k.settled c.if-roots-i.checked c.loop-k.checked _ _ c.loop-k.invariant.0.settles c.loop-k.invariant.0.told w.q-is w.roots-is w.settled-is w.checked-is
-] in fact)).wide.0 _ (first_index args.lineage.now (node_of args.kind.now args.code.now args.a.now args.b.now args.bits.now args.start.now) _ _ _ c.action_of-action.ensures c.first_of-i.ensures) in fact)
+bounds-q-r-in-loop-k-5 c = (let fact : get_or c.if-roots-i.roots.of c.first_of-i.result 0 < 128 = let args = c.args in root-low _ _ ((let fact :
+    JoinedIn c.action_of-action.result c.loop-k.q c.if-roots-i.q c.if-roots-i.roots c.if-roots-i.settled c.if-roots-i.checked = let args = c.args in
+    let the-nodeOf = node_of args.kind.now args.code.now args.a.now args.b.now args.bits.now args.start.now in elim c.if-roots-i.branch [
+      | then-roots-i w ↦ when_apart c.action_of-action.result (subst Proper (sym c.action_of-action.ensures) (proper args.lineage.now the-nodeOf _))
+          c.loop-k.q c.loop-k.roots c.loop-k.invariant.0.rooted c.loop-k.invariant.0.wide _ _ c.first_of-i.ensures c.second_of-j.ensures w.if-roots-i.true
+          _ _ _ _ _ c.if-roots-i.settled c.if-roots-i.checked w.join-q.ensures w.roots-roots-then-roots-i.ensures w.parents_ok-settled.ensures w.q-is
+          w.roots-is w.settled-is
+      | else-roots-i w ↦ when_together c.action_of-action.result (subst Proper (sym c.action_of-action.ensures) (proper args.lineage.now the-nodeOf _))
+          c.loop-k.q c.loop-k.roots c.loop-k.invariant.0.rooted c.loop-k.invariant.0.wide _ _ c.first_of-i.ensures c.second_of-j.ensures
+          w.if-roots-i.false c.if-roots-i.settled c.loop-k.settled c.if-roots-i.checked c.loop-k.checked _ _ c.loop-k.invariant.0.settles
+          c.loop-k.invariant.0.told w.q-is w.roots-is w.settled-is w.checked-is
+    ] in fact)).rooted ((let fact : JoinedIn c.action_of-action.result c.loop-k.q c.if-roots-i.q c.if-roots-i.roots c.if-roots-i.settled
+    c.if-roots-i.checked = let args = c.args in let the-nodeOf = node_of args.kind.now args.code.now args.a.now args.b.now args.bits.now
+    args.start.now in elim c.if-roots-i.branch [
+      | then-roots-i w ↦ when_apart c.action_of-action.result (subst Proper (sym c.action_of-action.ensures) (proper args.lineage.now the-nodeOf _))
+          c.loop-k.q c.loop-k.roots c.loop-k.invariant.0.rooted c.loop-k.invariant.0.wide _ _ c.first_of-i.ensures c.second_of-j.ensures w.if-roots-i.true
+          _ _ _ _ _ c.if-roots-i.settled c.if-roots-i.checked w.join-q.ensures w.roots-roots-then-roots-i.ensures w.parents_ok-settled.ensures w.q-is
+          w.roots-is w.settled-is
+      | else-roots-i w ↦ when_together c.action_of-action.result (subst Proper (sym c.action_of-action.ensures) (proper args.lineage.now the-nodeOf _))
+          c.loop-k.q c.loop-k.roots c.loop-k.invariant.0.rooted c.loop-k.invariant.0.wide _ _ c.first_of-i.ensures c.second_of-j.ensures
+          w.if-roots-i.false c.if-roots-i.settled c.loop-k.settled c.if-roots-i.checked c.loop-k.checked _ _ c.loop-k.invariant.0.settles
+          c.loop-k.invariant.0.told w.q-is w.roots-is w.settled-is w.checked-is
+    ] in fact)).wide.0 _ (first_index args.lineage.now (node_of args.kind.now args.code.now args.a.now args.b.now args.bits.now args.start.now) _ _ _
+    c.action_of-action.ensures c.first_of-i.ensures) in fact)
 
 pub loop-k-preserved : goal.loop-k-preserved
 unfolding with_cell
@@ -99,13 +201,25 @@ loop-k-preserved c =
           (sym (get_or-take args.count args.handles c.loop-k.k 0
           (ltb-true _ _ (and_left _ (not c.loop-k.refused) c.loop-k-test.true)))) c.action_of-action.result
           c.action_of-action.ensures c.if-roots-i.q c.if-checked-is_checking.q c.if-roots-i.roots c.if-roots-i.settled c.if-roots-i.checked
-          c.if-checked-is_checking.checked _ c.cell_after-new.result c.residuals_after-kept.result ((let fact : JoinedIn c.action_of-action.result c.loop-k.q c.if-roots-i.q c.if-roots-i.roots c.if-roots-i.settled c.if-roots-i.checked = let args = c.args in let the-nodeOf = node_of args.kind.now args.code.now args.a.now args.b.now args.bits.now args.start.now in elim c.if-roots-i.branch [
-            | then-roots-i w ↦ when_apart c.action_of-action.result (subst Proper (sym c.action_of-action.ensures) (proper args.lineage.now the-nodeOf _)) c.loop-k.q c.loop-k.roots c.loop-k.invariant.0.rooted c.loop-k.invariant.0.wide _ _ c.first_of-i.ensures c.second_of-j.ensures w.if-roots-i.true _ _ _ _ _ c.if-roots-i.settled c.if-roots-i.checked w.join-q.ensures w.roots-roots-then-roots-i.ensures w.parents_ok-settled.ensures w.q-is w.roots-is w.settled-is
-            | else-roots-i w ↦ when_together c.action_of-action.result (subst Proper (sym c.action_of-action.ensures) (proper args.lineage.now the-nodeOf _)) c.loop-k.q c.loop-k.roots c.loop-k.invariant.0.rooted c.loop-k.invariant.0.wide _ _ c.first_of-i.ensures c.second_of-j.ensures w.if-roots-i.false c.if-roots-i.settled c.loop-k.settled c.if-roots-i.checked c.loop-k.checked _ _ c.loop-k.invariant.0.settles c.loop-k.invariant.0.told w.q-is w.roots-is w.settled-is w.checked-is
+          c.if-checked-is_checking.checked _ c.cell_after-new.result c.residuals_after-kept.result ((let fact : JoinedIn c.action_of-action.result
+          c.loop-k.q c.if-roots-i.q c.if-roots-i.roots c.if-roots-i.settled c.if-roots-i.checked = let args = c.args in let the-nodeOf = node_of
+          args.kind.now args.code.now args.a.now args.b.now args.bits.now args.start.now in elim c.if-roots-i.branch [
+            | then-roots-i w ↦ when_apart c.action_of-action.result (subst Proper (sym c.action_of-action.ensures) (proper args.lineage.now the-nodeOf
+                _)) c.loop-k.q c.loop-k.roots c.loop-k.invariant.0.rooted c.loop-k.invariant.0.wide _ _ c.first_of-i.ensures c.second_of-j.ensures
+                w.if-roots-i.true _ _ _ _ _ c.if-roots-i.settled c.if-roots-i.checked w.join-q.ensures w.roots-roots-then-roots-i.ensures
+                w.parents_ok-settled.ensures w.q-is w.roots-is w.settled-is
+            | else-roots-i w ↦ when_together c.action_of-action.result (subst Proper (sym c.action_of-action.ensures) (proper args.lineage.now
+                the-nodeOf _)) c.loop-k.q c.loop-k.roots c.loop-k.invariant.0.rooted c.loop-k.invariant.0.wide _ _ c.first_of-i.ensures
+                c.second_of-j.ensures w.if-roots-i.false c.if-roots-i.settled c.loop-k.settled c.if-roots-i.checked c.loop-k.checked _ _
+                c.loop-k.invariant.0.settles c.loop-k.invariant.0.told w.q-is w.roots-is w.settled-is w.checked-is
           ] in fact)) _ c.first_of-i.ensures
-          refl c.cell_after-new.ensures ((let fact : CheckedIn c.action_of-action.result c.if-roots-i.checked (with_cell c.if-roots-i.q (get_or c.if-roots-i.roots.of c.first_of-i.result 0) c.cell_after-new.result) c.if-checked-is_checking.q c.if-checked-is_checking.checked = elim c.if-checked-is_checking.branch [
-            | then-checked-is_checking w ↦ when_checked c.action_of-action.result c.if-roots-i.checked c.is_checking.result _ _ _ _ c.is_checking.ensures w.if-checked-is_checking.true w.cross_check_literals_and_ranges-q.ensures w.q-is w.checked-is
-            | else-checked-is_checking w ↦ when_not c.action_of-action.result c.if-roots-i.checked c.is_checking.result _ _ _ c.is_checking.ensures w.if-checked-is_checking.false w.q-is w.checked-is
+          refl c.cell_after-new.ensures ((let fact : CheckedIn c.action_of-action.result c.if-roots-i.checked (with_cell c.if-roots-i.q (get_or
+          c.if-roots-i.roots.of c.first_of-i.result 0) c.cell_after-new.result) c.if-checked-is_checking.q c.if-checked-is_checking.checked = elim
+          c.if-checked-is_checking.branch [
+            | then-checked-is_checking w ↦ when_checked c.action_of-action.result c.if-roots-i.checked c.is_checking.result _ _ _ _
+                c.is_checking.ensures w.if-checked-is_checking.true w.cross_check_literals_and_ranges-q.ensures w.q-is w.checked-is
+            | else-checked-is_checking w ↦ when_not c.action_of-action.result c.if-roots-i.checked c.is_checking.result _ _ _ c.is_checking.ensures
+                w.if-checked-is_checking.false w.q-is w.checked-is
           ] in fact)) c.is_residual.result c.is_residual.ensures
           c.residuals_after-kept.ensures,
       omega

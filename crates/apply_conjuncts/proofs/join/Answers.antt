@@ -6,21 +6,24 @@ use Rattle.apply_conjuncts.proofs.join.Goals as goal
 pub returns-then-l-r : goal.returns-then-l-r
 returns-then-l-r c =
     let args = c.args in
-    left-lower args.s args.left args.right c.requires.left_bound c.requires.right_bound (c.requires.settled (not-false args.settled c.if-not-settled.false-raw))
+    left-lower args.s args.left args.right c.requires.left_bound c.requires.right_bound (c.requires.settled (not-false args.settled
+    c.if-not-settled.false-raw))
     c.canonical-l.result c.canonical-r.result c.canonical-l.ensures c.canonical-r.ensures
     c.join_roots.result c.if-l-r.true c.join_roots.ensures
 
 pub returns-then-r-l : goal.returns-then-r-l
 returns-then-r-l c =
     let args = c.args in
-    right-lower args.s args.left args.right c.requires.left_bound c.requires.right_bound (c.requires.settled (not-false args.settled c.if-not-settled.false-raw))
+    right-lower args.s args.left args.right c.requires.left_bound c.requires.right_bound (c.requires.settled (not-false args.settled
+    c.if-not-settled.false-raw))
     c.canonical-l.result c.canonical-r.result c.canonical-l.ensures c.canonical-r.ensures
     c.join_roots-then-r-l.result c.if-r-l.true c.join_roots-then-r-l.ensures
 
 pub returns : goal.returns
 returns c =
     let args = c.args in
-    neither-lower args.s args.left args.right c.requires.left_bound c.requires.right_bound (c.requires.settled (not-false args.settled c.if-not-settled.false-raw))
+    neither-lower args.s args.left args.right c.requires.left_bound c.requires.right_bound (c.requires.settled (not-false args.settled
+    c.if-not-settled.false-raw))
     c.canonical-l.result c.canonical-r.result c.canonical-l.ensures c.canonical-r.ensures
     (λ h. omega (arith, c.if-l-r.false)) (λ h. omega (arith, c.if-r-l.false))
 

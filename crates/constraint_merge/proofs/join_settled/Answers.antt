@@ -5,64 +5,144 @@ use Rattle.constraint_merge.proofs.join_settled.Goals as goal
 use Rattle.constraint_merge.proofs.join_settled.Goals.{else-a-b, then-a-b}
 
 pub bounds-q-a : goal.bounds-q-a
-bounds-q-a c = omega (arith, high_below c.loop-left.q c.loop-left.invariant.1 _ _ c.requires.r_bound (members_go-on _ _ c.loop-left-test.true).1 _ c.root_pair-w.ensures)
+bounds-q-a c = omega (
+  arith,
+  high_below c.loop-left.q c.loop-left.invariant.1 _ _ c.requires.r_bound (members_go-on _ _ c.loop-left-test.true).1 _
+      c.root_pair-w.ensures,
+)
 
 pub bounds-q-b : goal.bounds-q-b
-bounds-q-b c = omega (arith, high_below c.loop-left.q c.loop-left.invariant.1 _ _ c.requires.r_bound (members_go-on _ _ c.loop-left-test.true).1 _ c.root_pair-w.ensures)
+bounds-q-b c = omega (
+  arith,
+  high_below c.loop-left.q c.loop-left.invariant.1 _ _ c.requires.r_bound (members_go-on _ _ c.loop-left-test.true).1 _
+      c.root_pair-w.ensures,
+)
 
 pub offset_bounds-q-a : goal.offset_bounds-q-a
-offset_bounds-q-a c = omega (arith, high_below c.loop-left.q c.loop-left.invariant.1 _ _ c.requires.r_bound (members_go-on _ _ c.loop-left-test.true).1 _ c.root_pair-w.ensures)
+offset_bounds-q-a c = omega (
+  arith,
+  high_below c.loop-left.q c.loop-left.invariant.1 _ _ c.requires.r_bound (members_go-on _ _
+      c.loop-left-test.true).1 _ c.root_pair-w.ensures,
+)
 
 pub bounds-q-a-then-a-b : goal.bounds-q-a-then-a-b
-bounds-q-a-then-a-b c = omega (arith, high_below c.loop-left.q c.loop-left.invariant.1 _ _ c.requires.r_bound (members_go-on _ _ c.loop-left-test.true).1 _ c.root_pair-w.ensures)
+bounds-q-a-then-a-b c = omega (
+  arith,
+  high_below c.loop-left.q c.loop-left.invariant.1 _ _ c.requires.r_bound (members_go-on _ _
+      c.loop-left-test.true).1 _ c.root_pair-w.ensures,
+)
 
 pub offset_bounds-q-b : goal.offset_bounds-q-b
-offset_bounds-q-b c = omega (arith, high_below c.loop-left.q c.loop-left.invariant.1 _ _ c.requires.r_bound (members_go-on _ _ c.loop-left-test.true).1 _ c.root_pair-w.ensures)
+offset_bounds-q-b c = omega (
+  arith,
+  high_below c.loop-left.q c.loop-left.invariant.1 _ _ c.requires.r_bound (members_go-on _ _
+      c.loop-left-test.true).1 _ c.root_pair-w.ensures,
+)
 
 pub bounds-q-b-then-a-b : goal.bounds-q-b-then-a-b
-bounds-q-b-then-a-b c = omega (arith, high_below c.loop-left.q c.loop-left.invariant.1 _ _ c.requires.r_bound (members_go-on _ _ c.loop-left-test.true).1 _ c.root_pair-w.ensures)
+bounds-q-b-then-a-b c = omega (
+  arith,
+  high_below c.loop-left.q c.loop-left.invariant.1 _ _ c.requires.r_bound (members_go-on _ _
+      c.loop-left-test.true).1 _ c.root_pair-w.ensures,
+)
 
 pub offset_bounds-q-a-then-a-b : goal.offset_bounds-q-a-then-a-b
-offset_bounds-q-a-then-a-b c = omega (arith, high_below c.loop-left.q c.loop-left.invariant.1 _ _ c.requires.r_bound (members_go-on _ _ c.loop-left-test.true).1 _ c.root_pair-w.ensures)
+offset_bounds-q-a-then-a-b c = omega (
+  arith,
+  high_below c.loop-left.q c.loop-left.invariant.1 _ _ c.requires.r_bound (members_go-on _ _
+      c.loop-left-test.true).1 _ c.root_pair-w.ensures,
+)
 
 pub bounds-q-a-then-a-b-2 : goal.bounds-q-a-then-a-b-2
-bounds-q-a-then-a-b-2 c = omega (arith, high_below c.loop-left.q c.loop-left.invariant.1 _ _ c.requires.r_bound (members_go-on _ _ c.loop-left-test.true).1 _ c.root_pair-w.ensures)
+bounds-q-a-then-a-b-2 c = omega (
+  arith,
+  high_below c.loop-left.q c.loop-left.invariant.1 _ _ c.requires.r_bound (members_go-on _ _
+      c.loop-left-test.true).1 _ c.root_pair-w.ensures,
+)
 
 pub offset_bounds-q-b-then-a-b : goal.offset_bounds-q-b-then-a-b
-offset_bounds-q-b-then-a-b c = omega (arith, high_below c.loop-left.q c.loop-left.invariant.1 _ _ c.requires.r_bound (members_go-on _ _ c.loop-left-test.true).1 _ c.root_pair-w.ensures)
+offset_bounds-q-b-then-a-b c = omega (
+  arith,
+  high_below c.loop-left.q c.loop-left.invariant.1 _ _ c.requires.r_bound (members_go-on _ _
+      c.loop-left-test.true).1 _ c.root_pair-w.ensures,
+)
 
 pub bounds-q-b-then-a-b-2 : goal.bounds-q-b-then-a-b-2
-bounds-q-b-then-a-b-2 c = omega (arith, high_below c.loop-left.q c.loop-left.invariant.1 _ _ c.requires.r_bound (members_go-on _ _ c.loop-left-test.true).1 _ c.root_pair-w.ensures)
+bounds-q-b-then-a-b-2 c = omega (
+  arith,
+  high_below c.loop-left.q c.loop-left.invariant.1 _ _ c.requires.r_bound (members_go-on _ _
+      c.loop-left-test.true).1 _ c.root_pair-w.ensures,
+)
 
 pub bounds-q-a-then-a-b-3 : goal.bounds-q-a-then-a-b-3
-bounds-q-a-then-a-b-3 c = omega (arith, high_below c.loop-left.q c.loop-left.invariant.1 _ _ c.requires.r_bound (members_go-on _ _ c.loop-left-test.true).1 _ c.root_pair-w.ensures)
+bounds-q-a-then-a-b-3 c = omega (
+  arith,
+  high_below c.loop-left.q c.loop-left.invariant.1 _ _ c.requires.r_bound (members_go-on _ _
+      c.loop-left-test.true).1 _ c.root_pair-w.ensures,
+)
 
 pub bounds-q-b-then-a-b-3 : goal.bounds-q-b-then-a-b-3
-bounds-q-b-then-a-b-3 c = omega (arith, high_below c.loop-left.q c.loop-left.invariant.1 _ _ c.requires.r_bound (members_go-on _ _ c.loop-left-test.true).1 _ c.root_pair-w.ensures)
+bounds-q-b-then-a-b-3 c = omega (
+  arith,
+  high_below c.loop-left.q c.loop-left.invariant.1 _ _ c.requires.r_bound (members_go-on _ _
+      c.loop-left-test.true).1 _ c.root_pair-w.ensures,
+)
 
 pub offset_bounds-q-a-then-a-b-2 : goal.offset_bounds-q-a-then-a-b-2
-offset_bounds-q-a-then-a-b-2 c = omega (arith, high_below c.loop-left.q c.loop-left.invariant.1 _ _ c.requires.r_bound (members_go-on _ _ c.loop-left-test.true).1 _ c.root_pair-w.ensures)
+offset_bounds-q-a-then-a-b-2 c = omega (
+  arith,
+  high_below c.loop-left.q c.loop-left.invariant.1 _ _ c.requires.r_bound (members_go-on _ _
+      c.loop-left-test.true).1 _ c.root_pair-w.ensures,
+)
 
 pub bounds-q-a-then-a-b-4 : goal.bounds-q-a-then-a-b-4
-bounds-q-a-then-a-b-4 c = omega (arith, high_below c.loop-left.q c.loop-left.invariant.1 _ _ c.requires.r_bound (members_go-on _ _ c.loop-left-test.true).1 _ c.root_pair-w.ensures)
+bounds-q-a-then-a-b-4 c = omega (
+  arith,
+  high_below c.loop-left.q c.loop-left.invariant.1 _ _ c.requires.r_bound (members_go-on _ _
+      c.loop-left-test.true).1 _ c.root_pair-w.ensures,
+)
 
 pub offset_bounds-q-b-then-a-b-2 : goal.offset_bounds-q-b-then-a-b-2
-offset_bounds-q-b-then-a-b-2 c = omega (arith, high_below c.loop-left.q c.loop-left.invariant.1 _ _ c.requires.r_bound (members_go-on _ _ c.loop-left-test.true).1 _ c.root_pair-w.ensures)
+offset_bounds-q-b-then-a-b-2 c = omega (
+  arith,
+  high_below c.loop-left.q c.loop-left.invariant.1 _ _ c.requires.r_bound (members_go-on _ _
+      c.loop-left-test.true).1 _ c.root_pair-w.ensures,
+)
 
 pub bounds-q-b-then-a-b-4 : goal.bounds-q-b-then-a-b-4
-bounds-q-b-then-a-b-4 c = omega (arith, high_below c.loop-left.q c.loop-left.invariant.1 _ _ c.requires.r_bound (members_go-on _ _ c.loop-left-test.true).1 _ c.root_pair-w.ensures)
+bounds-q-b-then-a-b-4 c = omega (
+  arith,
+  high_below c.loop-left.q c.loop-left.invariant.1 _ _ c.requires.r_bound (members_go-on _ _
+      c.loop-left-test.true).1 _ c.root_pair-w.ensures,
+)
 
 pub offset_bounds-q-a-then-a-b-3 : goal.offset_bounds-q-a-then-a-b-3
-offset_bounds-q-a-then-a-b-3 c = omega (arith, high_below c.loop-left.q c.loop-left.invariant.1 _ _ c.requires.r_bound (members_go-on _ _ c.loop-left-test.true).1 _ c.root_pair-w.ensures)
+offset_bounds-q-a-then-a-b-3 c = omega (
+  arith,
+  high_below c.loop-left.q c.loop-left.invariant.1 _ _ c.requires.r_bound (members_go-on _ _
+      c.loop-left-test.true).1 _ c.root_pair-w.ensures,
+)
 
 pub bounds-q-a-then-a-b-5 : goal.bounds-q-a-then-a-b-5
-bounds-q-a-then-a-b-5 c = omega (arith, high_below c.loop-left.q c.loop-left.invariant.1 _ _ c.requires.r_bound (members_go-on _ _ c.loop-left-test.true).1 _ c.root_pair-w.ensures)
+bounds-q-a-then-a-b-5 c = omega (
+  arith,
+  high_below c.loop-left.q c.loop-left.invariant.1 _ _ c.requires.r_bound (members_go-on _ _
+      c.loop-left-test.true).1 _ c.root_pair-w.ensures,
+)
 
 pub offset_bounds-q-b-then-a-b-3 : goal.offset_bounds-q-b-then-a-b-3
-offset_bounds-q-b-then-a-b-3 c = omega (arith, high_below c.loop-left.q c.loop-left.invariant.1 _ _ c.requires.r_bound (members_go-on _ _ c.loop-left-test.true).1 _ c.root_pair-w.ensures)
+offset_bounds-q-b-then-a-b-3 c = omega (
+  arith,
+  high_below c.loop-left.q c.loop-left.invariant.1 _ _ c.requires.r_bound (members_go-on _ _
+      c.loop-left-test.true).1 _ c.root_pair-w.ensures,
+)
 
 pub bounds-q-b-then-a-b-5 : goal.bounds-q-b-then-a-b-5
-bounds-q-b-then-a-b-5 c = omega (arith, high_below c.loop-left.q c.loop-left.invariant.1 _ _ c.requires.r_bound (members_go-on _ _ c.loop-left-test.true).1 _ c.root_pair-w.ensures)
+bounds-q-b-then-a-b-5 c = omega (
+  arith,
+  high_below c.loop-left.q c.loop-left.invariant.1 _ _ c.requires.r_bound (members_go-on _ _
+      c.loop-left-test.true).1 _ c.root_pair-w.ensures,
+)
 
 pub loop-left-preserved : goal.loop-left-preserved
 loop-left-preserved c =

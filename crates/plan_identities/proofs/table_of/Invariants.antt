@@ -7,7 +7,8 @@ use Rattle.plan_identities.specs.Identities.{table_in}
 use Rattle.plan_identities.proofs.table_of.Given as goal
 
 abbrev pub invariant-loop-i : goal.invariant-loop-i
-invariant-loop-i l = (l.i ≤ l.np) × (table_in l.kind l.a l.b l.start l.items l.np l.c ≡ first_from (scans_of l.kind l.b l.start l.items l.c) (λ (j : ℕ). get_or l.a j 0)
+invariant-loop-i l = (l.i ≤ l.np) × (table_in l.kind l.a l.b l.start l.items l.np l.c ≡ first_from (scans_of l.kind l.b l.start l.items l.c) (λ (j :
+    ℕ). get_or l.a j 0)
     65536 l.i (l.np - l.i))
 
 abbrev pub decreases-loop-i : goal.decreases-loop-i

@@ -12,12 +12,23 @@ returns-then-sort-eq-EXPRESSION c = rw (ne_eqb _ _ c.if-sort-eq-COLUMN.false, eq
 
 pub returns-then-sort-eq-OPERATOR : goal.returns-then-sort-eq-OPERATOR
 unfolding handle_ok
-returns-then-sort-eq-OPERATOR c = rw (ne_eqb _ _ c.if-sort-eq-COLUMN.false, ne_eqb _ _ c.if-sort-eq-EXPRESSION.false, eq-eqb _ _ c.if-sort-eq-OPERATOR.true)
+returns-then-sort-eq-OPERATOR c = rw (
+  ne_eqb _ _ c.if-sort-eq-COLUMN.false,
+  ne_eqb _ _ c.if-sort-eq-EXPRESSION.false,
+  eq-eqb _ _
+      c.if-sort-eq-OPERATOR.true,
+)
 
 pub returns-then-sort-eq-OPERAND : goal.returns-then-sort-eq-OPERAND
 unfolding handle_ok
 returns-then-sort-eq-OPERAND c =
-    rw (ne_eqb _ _ c.if-sort-eq-COLUMN.false, ne_eqb _ _ c.if-sort-eq-EXPRESSION.false, ne_eqb _ _ c.if-sort-eq-OPERATOR.false, eq-eqb _ _ c.if-sort-eq-OPERAND.true)
+    rw (
+      ne_eqb _ _ c.if-sort-eq-COLUMN.false,
+      ne_eqb _ _ c.if-sort-eq-EXPRESSION.false,
+      ne_eqb _ _ c.if-sort-eq-OPERATOR.false,
+      eq-eqb _ _
+          c.if-sort-eq-OPERAND.true,
+    )
 
 pub returns-then-sort-eq-NONE : goal.returns-then-sort-eq-NONE
 unfolding handle_ok

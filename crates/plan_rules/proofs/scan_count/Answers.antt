@@ -13,8 +13,26 @@ loop-i-preserved c =
     let i = c.loop-i.i in
     let the-scansOf = scans_of a.kind.now a.b.now a.start.now a.items.now a.c in
     elim c.if-scan_lists.branch [
-      | then-scan_lists w ↦ (omega arith, omega arith, omega (arith, w.found-is, count-found the-scansOf i a.n lt (sym c.scan_lists.ensures ∙ w.if-scan_lists.true)))
-      | else-scan_lists w ↦ (omega arith, omega arith, omega (arith, w.found-is, count_missed the-scansOf i a.n lt (sym c.scan_lists.ensures ∙ w.if-scan_lists.false)))
+      | then-scan_lists w ↦ (
+        omega arith,
+        omega arith,
+        omega (
+          arith,
+          w.found-is,
+          count-found the-scansOf i a.n lt (sym c.scan_lists.ensures ∙
+              w.if-scan_lists.true),
+        ),
+      )
+      | else-scan_lists w ↦ (
+        omega arith,
+        omega arith,
+        omega (
+          arith,
+          w.found-is,
+          count_missed the-scansOf i a.n lt (sym c.scan_lists.ensures ∙
+              w.if-scan_lists.false),
+        ),
+      )
     ]
 
 pub returns : goal.returns

@@ -14,7 +14,8 @@ decreases-value_of_run l = l.below * 2 + 1
 
 abbrev pub invariant-value_of_run-loop-left : goal.invariant-value_of_run-loop-left
 invariant-value_of_run-loop-left l =
-    Joined (value_in (values (cell_of l.rk l.rc l.rb) (node_of l.kind l.code l.a l.b l.bits l.start) l.items l.below)) l.items l.op l.initial.j l.initial.left l.t l.j
+    Joined (value_in (values (cell_of l.rk l.rc l.rb) (node_of l.kind l.code l.a l.b l.bits l.start) l.items l.below)) l.items l.op l.initial.j
+    l.initial.left l.t l.j
     l.left
 
 abbrev pub decreases-value_of_run-loop-left : goal.decreases-value_of_run-loop-left

@@ -17,16 +17,26 @@ pub returns-then-l-r : goal.returns-then-l-r
 returns-then-l-r c = same _ _ _ (omega arith) (omega arith) _ _ c.canonical-l.ensures c.canonical-r.ensures c.if-l-r.true
 
 pub overflow_cast-classes : goal.overflow_cast-classes
-overflow_cast-classes c = omega (arith, (let fact : c.canonical-l.result < 128 = root_below _ 128 _ _ ((let fact : length c.args.self.parents ≡ 128 = search rules in fact)) c.canonical-l.ensures (omega arith) in fact))
+overflow_cast-classes c = omega (
+  arith,
+  (let fact : c.canonical-l.result < 128 = root_below _ 128 _ _ ((let fact : length c.args.self.parents ≡ 128 =
+      search rules in fact)) c.canonical-l.ensures (omega arith) in fact),
+)
 
 pub bounds-classes-r : goal.bounds-classes-r
-bounds-classes-r c = (let fact : c.canonical-r.result < 128 = root_below _ 128 _ _ ((let fact : length c.args.self.parents ≡ 128 = search rules in fact)) c.canonical-r.ensures (omega arith) in fact)
+bounds-classes-r c = (let fact : c.canonical-r.result < 128 = root_below _ 128 _ _ ((let fact : length c.args.self.parents ≡ 128 = search rules in
+    fact)) c.canonical-r.ensures (omega arith) in fact)
 
 pub overflow_cast-classes-else-l-r-2 : goal.overflow_cast-classes-else-l-r-2
-overflow_cast-classes-else-l-r-2 c = omega (arith, (let fact : c.canonical-r.result < 128 = root_below _ 128 _ _ ((let fact : length c.args.self.parents ≡ 128 = search rules in fact)) c.canonical-r.ensures (omega arith) in fact))
+overflow_cast-classes-else-l-r-2 c = omega (
+  arith,
+  (let fact : c.canonical-r.result < 128 = root_below _ 128 _ _ ((let fact : length
+      c.args.self.parents ≡ 128 = search rules in fact)) c.canonical-r.ensures (omega arith) in fact),
+)
 
 pub bounds-classes-l : goal.bounds-classes-l
-bounds-classes-l c = (let fact : c.canonical-l.result < 128 = root_below _ 128 _ _ ((let fact : length c.args.self.parents ≡ 128 = search rules in fact)) c.canonical-l.ensures (omega arith) in fact)
+bounds-classes-l c = (let fact : c.canonical-l.result < 128 = root_below _ 128 _ _ ((let fact : length c.args.self.parents ≡ 128 = search rules in
+    fact)) c.canonical-l.ensures (omega arith) in fact)
 
 pub returns-then-l-r-2 : goal.returns-then-l-r-2
 returns-then-l-r-2 c =
