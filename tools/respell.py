@@ -105,9 +105,19 @@ def main():
         for n, o in sorted(new.items()):
             print(n, "->", o)
         return
+    rust = set()
     for path, text in texts.items():
-        # in sources these are words of clauses alone: no Rust name here has a dash or a capital inside
-        done = WORD.sub(lambda m: new.get(m[0], m[0]), text)
+        if path.endswith(".rt"):
+            rust |= set(re.findall(r"\b(?:fn|const|struct|enum) (\w+)", text))
+
+    def turned(m, path):
+        # a function of src/ keeps its name, in its source and as a step or a module of proofs
+        of_source = m[0] in rust and (path.endswith(".rt") or m.string[m.start() - 1 : m.start()] == ".")
+        return m[0] if of_source else new.get(m[0], m[0])
+
+    for path, text in texts.items():
+        # in sources the rest are words of clauses alone: no Rust name here has a dash or a capital inside
+        done = WORD.sub(lambda m: turned(m, path), text)
         if done != text:
             with open(path, "w", encoding="utf-8") as f:
                 f.write(done)
