@@ -1,0 +1,15 @@
+use mathlib.Core.Path.{refl, ap, ◌∙◌}
+use Rattle.derive_operator.proofs.OperatorAnswers.{accept_same, given_does, given_stays}
+use Rattle.derive_spec.specs.Columns.{projected}
+use Rattle.derive_spec.specs.declared.ColumnFacts.{ColumnFacts}
+use Rattle.derive_operator.proofs.projection.Goals as goal
+
+pub returns-then-is_accepted : goal.returns-then-is_accepted
+returns-then-is_accepted c =
+    given_does _ _ _ c.is_accepted.ensures _ c.if-is_accepted.true
+    (accept_same _ _ _ _ _ c.accept_with.ensures
+    (c.project_columns-t.ensures ∙ ap (λ (g : ColumnFacts). projected g c.args.p.items.a c.args.columns)
+    c.columns_in-g.ensures) refl)
+
+pub returns : goal.returns
+returns c = given_stays _ _ _ c.is_accepted.ensures c.if-is_accepted.false
