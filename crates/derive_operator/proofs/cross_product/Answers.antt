@@ -1,19 +1,18 @@
 use mathlib.Core.Path.{ap, ◌∙◌}
-use borrow.Author.Tests.{not-true, not-false}
 use Rattle.derive_operator.proofs.OperatorAnswers.{given_does, given_stays}
 use Rattle.derive_spec.specs.Operators.{fitted}
 use Rattle.derive_operator.proofs.cross_product.Goals as goal
 
 pub returns-then-not-is_accepted : goal.returns-then-not-is_accepted
-returns-then-not-is_accepted c = given_stays _ _ _ c.is_accepted.ensures (not-true _ c.if-not-is_accepted.true-raw)
+returns-then-not-is_accepted c = given_stays _ _ _ c.is_accepted.ensures c.if-not-is_accepted.true
 
 pub returns-then-not-is_accepted-2 : goal.returns-then-not-is_accepted-2
 returns-then-not-is_accepted-2 c =
-    given_does _ _ _ c.is_accepted.ensures _ (not-false _ c.if-not-is_accepted.false-raw)
-    (given_stays _ _ _ c.is_accepted-2.ensures (not-true _ c.if-not-is_accepted-2.true-raw))
+    given_does _ _ _ c.is_accepted.ensures _ c.if-not-is_accepted.false
+    (given_stays _ _ _ c.is_accepted-2.ensures c.if-not-is_accepted-2.true)
 
 pub returns : goal.returns
 returns c =
-    given_does _ _ _ c.is_accepted.ensures _ (not-false _ c.if-not-is_accepted.false-raw)
-    (given_does _ _ _ c.is_accepted-2.ensures _ (not-false _ c.if-not-is_accepted-2.false-raw)
+    given_does _ _ _ c.is_accepted.ensures _ c.if-not-is_accepted.false
+    (given_does _ _ _ c.is_accepted-2.ensures _ c.if-not-is_accepted-2.false
     (c.fit.ensures ∙ ap (fitted c.args.h) c.inputs_merged-m.ensures))
