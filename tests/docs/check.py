@@ -34,14 +34,14 @@ NAME = re.compile(r"[A-Za-z][A-Za-z0-9]*(?:[_-][A-Za-z0-9]+)*")
 DECLARED = re.compile(r"^\s*(?:(?:abbrev|unfoldable|pub|record|data) )*([^\s:(){}.]+)(?: [^:=\n]*)? :", re.M)
 FORMER = (
     "ready_sets conjunct_facts applied_conjuncts repeated_conjuncts predicate_facts column_facts operator_facts derive_facts"
-    " derived_ready simplifying_laws read_run rows_run rows_deep facts_run derive_run listing_run simplify_deep"
+    " simplifying_laws read_run rows_run rows_deep facts_run derive_run listing_run simplify_deep"
 ).split()
 
 
 def files(*endings):
     """The files of the tree, those that are made or fetched left out."""
     for folder, inner, names in os.walk(TOP):
-        inner[:] = sorted(d for d in inner if d not in ("target", ".git", "__pycache__"))
+        inner[:] = sorted(d for d in inner if d not in ("target", "out", ".git", "__pycache__"))
         for name in sorted(names):
             if name.endswith(endings):
                 yield pathlib.Path(folder, name)

@@ -7,8 +7,8 @@ ghost use Rattle.std.specs.Prelude.{◌≡◌};
 ghost use Rattle.plan_file.specs.Answers as Files;
 ghost use Rattle.plan_file.specs.Steps.{read_of};
 ghost use Rattle.writing.specs.Text.{Wrote};
-ghost use Rattle.boundary.specs.Replies.{head_of, read_reply, on_plan, known_reply, derive_reply, facts_reply, in_turn, turn_reply, apply_reply, simplify_reply};
-ghost use Rattle.boundary.specs.Replies.{evaluate_reply, cells_to, row_in};
+ghost use Rattle.boundary.specs.Replies.{head_of, read_reply, on_plan, known_reply, derive_reply, facts_reply, in_turn, turn_reply, apply_reply};
+ghost use Rattle.boundary.specs.Replies.{simplify_reply, evaluate_reply, cells_to, row_in};
 
 use apply_spec::{LogicalFacts, Outcome};
 use file_facts::Known;
