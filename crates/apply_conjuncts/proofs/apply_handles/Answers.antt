@@ -1,5 +1,6 @@
 use borrow.Author.Rules.{rules}
 use mathlib.Core.Path.{◌≡◌}
+use Prim.Native.Nat.{◌≤◌}
 use lib.ListN.{length}
 use Rattle.plan_data.specs.Nodes.{node_of}
 use Rattle.apply_spec.specs.Apply.{conjunct_applied}
@@ -23,14 +24,14 @@ pub returns-then-first-count : goal.returns-then-first-count
 returns-then-first-count c =
     let args = c.args in
     few-first ((conjunct_applied c.args.lineage.now (node_of c.args.kind.now c.args.code.now c.args.a.now c.args.b.now c.args.bits.now
-    c.args.start.now))) args.s args.handles args.count ((let fact : length c.args.handles ≡ 2048 = search rules in fact)) c.if-count-gt2.false
-    c.if-count-eq0.false c.apply_one-first.result
+    c.args.start.now))) args.s args.handles args.count ((let fact : length c.args.handles ≡ 2048 = search rules in fact))
+    ((let few : c.args.count ≤ 2 = search rules in few)) c.if-count-eq0.false c.apply_one-first.result
     c.apply_one-first.ensures c.if-first-count.true
 
 pub returns : goal.returns
 returns c =
     let args = c.args in
     few-second ((conjunct_applied c.args.lineage.now (node_of c.args.kind.now c.args.code.now c.args.a.now c.args.b.now c.args.bits.now
-    c.args.start.now))) args.s args.handles args.count ((let fact : length c.args.handles ≡ 2048 = search rules in fact)) c.if-count-gt2.false
-    c.if-count-eq0.false c.apply_one-first.result
+    c.args.start.now))) args.s args.handles args.count ((let fact : length c.args.handles ≡ 2048 = search rules in fact))
+    ((let few : c.args.count ≤ 2 = search rules in few)) c.if-count-eq0.false c.apply_one-first.result
     c.apply_one-first.ensures c.if-first-count.false c.apply_one.result c.apply_one.ensures
