@@ -43,6 +43,7 @@ pub fn put64(s: &mut [u64], i: usize, v: u64)
 }
 
 // Appends the record of an expression to a table of n, whose list starts at `first`.
+#[tactic(auto, unfolding(crate::specs::Appending::expr_added))]
 pub fn add_expr(
     kind: &mut [u8; 1024],
     code: &mut [u8; 1024],
@@ -98,6 +99,7 @@ pub fn add_node(
 }
 
 // Appends an item of two numbers to a table of n.
+#[tactic(auto, unfolding(crate::specs::Appending::item_added))]
 pub fn add_item(a: &mut [u16; 2048], b: &mut [u16; 2048], n: u16, x: u16, y: u16) -> Grown
     ensures { grown_to (items_of a.new b.new result.count) result.added ≡ item_added (items_of a.old b.old n) x y }
 {
@@ -117,6 +119,7 @@ pub fn add_item(a: &mut [u16; 2048], b: &mut [u16; 2048], n: u16, x: u16, y: u16
 }
 
 // Appends the record of an operator to a table of n, whose lists start at `first`.
+#[tactic(auto, unfolding(crate::specs::Appending::operator_added))]
 pub fn add_operator(
     kind: &mut [u8; 128],
     code: &mut [u8; 128],
