@@ -32,7 +32,7 @@ module _ (s : ConstraintSet) (h : ℕ) where
   unfolding comparison_by
   pair_null_safe i j = refl
 
-  -- an ordinary comparison with a Null literal on either side sets the flag and records nothing more; a null_safe one is residual
+  -- an ordinary comparison with a Null literal on either side sets the flag and records nothing more; a null-safe one is residual
   eq-null-right : (i : ℕ) (k : Kind) → comparison_applied s h Eq (Identity i) (Constant (S.Null k)) ≡ done (with_flag s true)
   unfolding comparison_by
   eq-null-right i k = refl

@@ -399,6 +399,7 @@ fn has_handle(list: [u16; 64], count: usize, h: u16) -> bool
     false
 }
 
+#[tactic(auto, unfolding(crate::specs::Kept::kept_by))]
 pub fn push_handle(list: [u16; 64], count: usize, h: u16) -> Kept
     ensures { result ≡ kept_by list count h }
 {

@@ -169,6 +169,7 @@ impl ValueEquivalenceClasses {
     }
 
     // The classes, their members in order. From the last identity to the first, so that each finds the member after it.
+    #[tactic(auto, using(crate::proofs::RootLaws::root_below))]
     pub fn members(self) -> Members
         ensures { result ≡ members_of self }
     {

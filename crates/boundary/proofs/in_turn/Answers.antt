@@ -13,7 +13,7 @@ pub loop-k-preserved : goal.loop-k-preserved
 loop-k-preserved c = (
   search rules,
   turn-next c.args.p c.args.predicates.now c.loop-k.facts c.loop-k.k (omega arith) _
-      c.at16-e.ensures _ c.apply_predicate-a.ensures _ c.outcome_number.ensures c.if-outcome_number-ne0.false
+      c.at16-e.ensures _ c.apply_predicate-a.ensures _ c.outcome_number.ensures (omega arith)
       ∙ c.loop-k.invariant.1,
 )
 

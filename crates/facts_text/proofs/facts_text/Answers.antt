@@ -1,3 +1,4 @@
+use native.Mathlib.Omega.{arith}
 use Rattle.writing.proofs.Wrotes.{wrote_as}
 use Rattle.facts_text.proofs.Texts.{text_refused, text_listed}
 use Rattle.facts_text.proofs.facts_text.Goals as goal
@@ -8,4 +9,4 @@ returns-then-n-ne0 c =
 
 pub returns : goal.returns
 returns c =
-    wrote_as _ _ _ _ _ _ c.listing.ensures.wrote (text_listed _ _ c.of_last-k.ensures c.if-n-ne0.false)
+    wrote_as _ _ _ _ _ _ c.listing.ensures.wrote (text_listed _ _ c.of_last-k.ensures (omega arith))

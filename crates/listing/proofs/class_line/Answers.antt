@@ -1,3 +1,4 @@
+use native.Mathlib.Omega.{arith}
 use Rattle.listing.proofs.Classes.{class_none, class_wrote}
 use Rattle.writing.proofs.Wrotes.{wrote_then}
 use lib.ListN.{get_or}
@@ -12,6 +13,6 @@ returns-then-n-lt2 c =
 pub returns : goal.returns
 returns c =
     let args = c.args in
-    class_wrote args.ids (λ (i : ℕ). get_or args.roots i 0) args.r _ _ _ _ _ c.members_in-n.ensures c.if-n-lt2.false
+    class_wrote args.ids (λ (i : ℕ). get_or args.roots i 0) args.r _ _ _ _ _ c.members_in-n.ensures (omega arith)
     (wrote_then _ _ _ _ _ _ _ _ c.text-p.ensures c.text-p.auto.out
     (wrote_then _ _ _ _ _ _ _ _ c.members_text-s.ensures c.members_text-s.auto.out c.byte.ensures))

@@ -11,20 +11,6 @@ use Rattle.value_classes.proofs.ValueEquivalenceClasses.members.Goals as goal
 pub loop-i-init : goal.loop-i-init
 loop-i-init c = (omega arith, refl, refl, firsts-start c.args.self, λ j lo hi. absurd (omega arith))
 
-pub bounds-first-r : goal.bounds-first-r
-bounds-first-r c = omega (
-  arith,
-  (let fact : c.canonical-r.result < 128 = root_below _ 128 _ _ (search rules) c.canonical-r.ensures (omega arith) in
-      fact),
-)
-
-pub bounds-first-r-in-loop-i : goal.bounds-first-r-in-loop-i
-bounds-first-r-in-loop-i c = omega (
-  arith,
-  (let fact : c.canonical-r.result < 128 = root_below _ 128 _ _ (search rules) c.canonical-r.ensures (omega
-      arith) in fact),
-)
-
 pub loop-i-preserved : goal.loop-i-preserved
 loop-i-preserved c =
     let v = c.loop-i.invariant in
