@@ -1,5 +1,5 @@
 #!/usr/bin/env python3
-"""The table of docs/GATE.md, from what the gate printed.
+"""A table of where a gate's time went, from what it printed, where it printed seconds.
 
     .ci/run 2>&1 | tee LOG; tests/times/gate.py LOG
 
