@@ -1,4 +1,5 @@
 -- The action that a conjunct is makes of a set what the definition of applying says. Assumes nothing.
+use Rattle.std.proofs.Common.{Some, None, Option}
 use Prim.Native.Nat.{ℕ}
 use mathlib.Core.Path.{◌≡◌, refl, sym, ap, ◌∙◌}
 use mathlib.Core.Bool.{Bool, true, false, cond}
@@ -10,8 +11,6 @@ use borrow.Author.Tests.{ltb-true, ltb-false}
 use Rattle.scalar.specs.Kinds.{is_null}
 use Rattle.scalar.specs.Scalars.{scalar_to_f64}
 use Rattle.scalar.specs.declared.ScalarValue.{ScalarValue}
-use Rattle.scalar.specs.declared.Number.{Number}
-use Rattle.scalar.specs.declared.Number.TheVariants as M
 use Rattle.value_range.specs.Ranges.{unbounded_range}
 use Rattle.value_classes.proofs.Unions.{left_out, right-out}
 use Rattle.comparison.specs.Operators.{bounding}
@@ -78,10 +77,10 @@ module _ (s : ConstraintSet) (h : ℕ) where
   unfolding add_bound
   entry_in op i x e b = rw (e, b) (ap (lay_range (put_non_null s (canonical_at s i)) (canonical_at s i)) (sym (no_bounds op x b)))
 
-  range-acts : (op : BinaryOp) (i : ℕ) (n : Number) → acted (bounded_by op i n) s h ≡ range_applied h (ranged_by s i op n)
+  range-acts : (op : BinaryOp) (i : ℕ) (n : Option Float) → acted (bounded_by op i n) s h ≡ range_applied h (ranged_by s i op n)
   unfolding bounded_by
-  range-acts op i M.Nothing = refl
-  range-acts op i (M.Of x) = go (bounding op) (ltb i 128) refl refl
+  range-acts op i None = refl
+  range-acts op i (Some x) = go (bounding op) (ltb i 128) refl refl
     where
       go : (a b : Bool) → bounding op ≡ a → ltb i 128 ≡ b
           → acted (cond a (cond b (Bound i op x) Nothing) (cond b (Entry i) Residual)) s h ≡ cond a (done (add_bound s i op x))
@@ -130,10 +129,10 @@ same-proper i j both = go (ltb i 128) (ltb j 128) refl refl
     go true false p q = (ltb-true i 128 p, ltb-true i 128 p)
     go false b p q = omega arith
 
-range-proper : (op : BinaryOp) (i : ℕ) (n : Number) → Proper (bounded_by op i n)
+range-proper : (op : BinaryOp) (i : ℕ) (n : Option Float) → Proper (bounded_by op i n)
 unfolding bounded_by
-range-proper op i M.Nothing = omega arith
-range-proper op i (M.Of x) = go (bounding op) (ltb i 128) refl refl
+range-proper op i None = omega arith
+range-proper op i (Some x) = go (bounding op) (ltb i 128) refl refl
   where
     go : (a b : Bool) → bounding op ≡ a → ltb i 128 ≡ b → Proper (cond a (cond b (Bound i op x) Nothing) (cond b (Entry i) Residual))
     go true true p q = (ltb-true i 128 q, p)

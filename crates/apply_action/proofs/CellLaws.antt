@@ -1,4 +1,5 @@
 -- A change at one representative is what an action makes of the whole set. Assumes nothing.
+use Rattle.std.proofs.Common.{Some, None, Option}
 use Prim.Native.Nat.{ℕ, ◌<◌}
 use mathlib.Core.Path.{◌≡◌, refl, sym, ap, subst, ◌∙◌}
 use mathlib.Core.Bool.{Bool, true, false, cond, not, ◌&&◌, ◌||◌, or-false}
@@ -13,8 +14,6 @@ use Rattle.lists.specs.Ranges.{any_from}
 use Rattle.scalar.specs.Kinds.{is_null}
 use Rattle.scalar.specs.Scalars.{scalar_to_f64}
 use Rattle.scalar.specs.declared.ScalarValue.{ScalarValue}
-use Rattle.scalar.specs.declared.Number.{Number}
-use Rattle.scalar.specs.declared.Number.TheVariants as M
 use Rattle.value_range.specs.Ranges.{unbounded_range, empty_range}
 use Rattle.value_range.specs.declared.ValueRange.{ValueRange}
 use Rattle.comparison.specs.Operators.{bounding}
@@ -30,7 +29,7 @@ use Rattle.constraint_spec.specs.declared.ConstraintSet.{ConstraintSet}
 use Rattle.constraint_spec.proofs.Operations.{union_one}
 use Rattle.constraint_set.specs.Checked.{Checked}
 use Rattle.constraint_set.specs.Kept.{kept_by}
-use Rattle.constraint_set.specs.declared.Kept.{Kept}
+use Rattle.constraint_set.specs.Kept.{Kept}
 use Rattle.constraint_set.proofs.Checking.{just_checked, unchecked, one-place_only, check_again}
 use Rattle.constraint_set.proofs.Residuals.{residual-added}
 use Rattle.apply_action.specs.Actions.{acted, first_of, second_of, is_checking, is_residual, Proper}
@@ -244,9 +243,9 @@ module _ (checked : Bool) (u : ConstraintSet) (long : Long u) (c : checked ≡ t
   written_is (Entry i) r p low e = unchanged _ ∙ cell-entry u r ∙ ap (λ (k : ℕ). lay_range (put_non_null u k) k unbounded_range) e
 
 -- ---- a set that was checked stays so
-none-outside : (n : Number) → outside n unbounded_range ≡ false
-none-outside M.Nothing = refl
-none-outside (M.Of x) = refl
+none-outside : (n : Option Float) → outside n unbounded_range ≡ false
+none-outside None = refl
+none-outside (Some x) = refl
 
 -- an entry without bounds is crossed by nothing
 entry-crossed : (h : Holder) (present : Bool) (t : ValueRange) → crossed h (entry_of (cond present t unbounded_range)) ≡ crossed h

@@ -1,17 +1,15 @@
 -- What a conjunct asks of a constraint set, without the set: `conjunct_applied` in two halves, so that reading a conjunct out of a plan carries no
 -- set. Assumes nothing.
-use Rattle.std.specs.Prelude.{ℕ, ◌<◌, ◌≡◌, Bool, true, false, cond, List, ltb}
+use Rattle.std.specs.Prelude.{ℕ, ◌<◌, ◌≡◌, Bool, true, false, cond, List, ltb, Some, None, Option, Float}
 use Rattle.scalar.specs.Kinds.{is_null}
 use Rattle.scalar.specs.Scalars.{scalar_to_f64}
 use Rattle.scalar.specs.declared.ScalarValue.{ScalarValue}
-use Rattle.scalar.specs.declared.Number.{Number}
-use Rattle.scalar.specs.declared.Number.TheVariants as M
 use Rattle.value_range.specs.Ranges.{unbounded_range}
 use Rattle.comparison.specs.Operators.{bounding}
 use Rattle.comparison.specs.declared.BinaryOp.{BinaryOp}
 use Rattle.constraint_spec.specs.Sets.{canonical_at, with_flag, put_non_null, lay_range, union_values, add_non_null, add_literal, add_bound, add_residual, done}
 use Rattle.constraint_spec.specs.declared.ConstraintSet.{ConstraintSet}
-use Rattle.constraint_spec.specs.declared.Applied.{Applied}
+use Rattle.constraint_spec.specs.Answers.{Applied}
 use Rattle.plan_data.specs.declared.ExprData.{ExprData}
 use Rattle.apply_spec.specs.Apply.{Recording, pair_by, bound_by, reversed_by, operands_by, comparison_by, literal_by, node_by}
 use Rattle.apply_spec.specs.declared.Seen.{Seen}
@@ -33,9 +31,9 @@ unfoldable pub same_action : ℕ → ℕ → Bool → Action
 same_action i j both = cond (ltb i 128) (cond (ltb j 128) (Same i j both) (Same i i both)) Nothing
 
 -- a comparison with a number: one that bounds is recorded, any other makes an entry and is residual
-unfoldable pub bounded_by : BinaryOp → ℕ → Number → Action
-bounded_by op i M.Nothing = Residual
-bounded_by op i (M.Of x) = cond (bounding op) (cond (ltb i 128) (Bound i op x) Nothing) (cond (ltb i 128) (Entry i) Residual)
+unfoldable pub bounded_by : BinaryOp → ℕ → Option Float → Action
+bounded_by op i None = Residual
+bounded_by op i (Some x) = cond (bounding op) (cond (ltb i 128) (Bound i op x) Nothing) (cond (ltb i 128) (Entry i) Residual)
 
 abbrev pub range_action : BinaryOp → ℕ → ScalarValue → Action
 range_action op i v = bounded_by op i (scalar_to_f64 v)

@@ -14,10 +14,10 @@ use Rattle.value_classes.specs.declared.ValueEquivalenceClasses.{ValueEquivalenc
 use Rattle.value_classes.proofs.ClassLaws.{canonical_small}
 use Rattle.constraint_spec.specs.Sets.{applied_of, done, classes_of, canonical_at, union_values, cross_check, handles, with_residuals}
 use Rattle.constraint_spec.specs.declared.ConstraintSet.{ConstraintSet}
-use Rattle.constraint_spec.specs.declared.Applied.{Applied}
+use Rattle.constraint_spec.specs.Answers.{Applied}
 use Rattle.constraint_spec.proofs.Operations.{union_one}
 use Rattle.constraint_set.specs.Kept.{kept_by}
-use Rattle.constraint_set.specs.declared.Kept.{Kept}
+use Rattle.constraint_set.specs.Kept.{Kept}
 use Rattle.constraint_set.proofs.Checking.{unchecked}
 use Rattle.plan_data.specs.declared.ExprData.{ExprData}
 use Rattle.apply_spec.specs.Apply.{conjunct_applied, all_applied}

@@ -6,7 +6,7 @@ use mathlib.Core.List.{List, [], ◌++◌, append-nil}
 use lib.ListN.{length}
 use Rattle.constraint_spec.specs.Sets.{done, refused_with}
 use Rattle.constraint_spec.specs.declared.ConstraintSet.{ConstraintSet}
-use Rattle.constraint_spec.specs.declared.Applied.{Applied}
+use Rattle.constraint_spec.specs.Answers.{Applied}
 use Rattle.constraint_normal.specs.Ready.{Ready}
 use Rattle.plan_data.specs.Nodes.{node_of}
 use Rattle.plan_data.specs.declared.ExprData.{ExprData}

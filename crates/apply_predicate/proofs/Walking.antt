@@ -10,7 +10,7 @@ use borrow.Author.Tests.{ltb-true, ltb-false, not-true}
 use Rattle.constraint_spec.specs.Sets.{applied_of, done}
 use Rattle.laws.proofs.Bools.{and_left, and_right}
 use Rattle.constraint_spec.specs.declared.ConstraintSet.{ConstraintSet}
-use Rattle.constraint_spec.specs.declared.Applied.{Applied}
+use Rattle.constraint_spec.specs.Answers.{Applied}
 use Rattle.plan_data.specs.Nodes.{node_of}
 use Rattle.plan_data.specs.declared.ExprData.{ExprData}
 use Rattle.apply_spec.specs.Conjuncts.{conjuncts_to, conjuncts_of}

@@ -5,7 +5,7 @@ use mathlib.Core.Path.{◌≡◌, refl, sym, ap, ◌∙◌, subst}
 use mathlib.Core.Bool.{Bool, true, false, cond, true≢false}
 use Rattle.constraint_spec.specs.Sets.{canonical_at, add_residual, done}
 use Rattle.constraint_spec.specs.declared.ConstraintSet.{ConstraintSet}
-use Rattle.constraint_spec.specs.declared.Applied.{Applied}
+use Rattle.constraint_spec.specs.Answers.{Applied}
 use Rattle.constraint_normal.specs.Ready.{Ready}
 use Rattle.apply_action.specs.Actions.{acted, first_of, second_of, is_residual, Proper}
 use Rattle.apply_action.specs.declared.Action.{Action}

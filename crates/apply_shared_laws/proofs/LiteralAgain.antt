@@ -19,7 +19,7 @@ use Rattle.constraint_spec.specs.Sets.{with_residuals, has_handle}
 use Rattle.constraint_spec.specs.Sets.{canonical_at, clashes, push_residual, add_literal, add_residual, applied_of, done, refused_with}
 use Rattle.constraint_spec.specs.declared.Holder.{Holder}
 use Rattle.constraint_spec.specs.declared.ConstraintSet.{ConstraintSet}
-use Rattle.constraint_spec.specs.declared.Applied.{Applied}
+use Rattle.constraint_spec.specs.Answers.{Applied}
 use Rattle.constraint_normal.specs.Ready.{Ready}
 use Rattle.apply_action.specs.Actions.{acted, first_of, is_residual, Proper}
 use Rattle.apply_action.specs.Cells.{cell_of, with_cell, flagged_cell, cell_after}

@@ -1,4 +1,5 @@
 -- No conjunct asks for a bound that is a NaN. Assumes nothing.
+use Rattle.std.proofs.Common.{Some, None, Option}
 use Prim.Native.Nat.{ℕ, ◌<◌}
 use mathlib.Core.Path.{◌≡◌, refl}
 use mathlib.Core.Bool.{Bool, true, false, cond}
@@ -9,8 +10,6 @@ use lib.Ieee.{Float, is_nan}
 use Rattle.scalar.specs.Kinds.{is_null}
 use Rattle.scalar.specs.Scalars.{scalar_to_f64}
 use Rattle.scalar.specs.declared.ScalarValue.{ScalarValue}
-use Rattle.scalar.specs.declared.Number.{Number}
-use Rattle.scalar.specs.declared.Number.TheVariants as M
 use Rattle.scalar.proofs.ScalarLaws.{number_no_nan}
 use Rattle.comparison.specs.Operators.{bounding}
 use Rattle.comparison.specs.declared.BinaryOp.{BinaryOp}
@@ -33,10 +32,10 @@ same-numbered i j both =
     chosen Numbered (ltb i 128) (cond (ltb j 128) (Same i j both) (Same i i both)) Nothing
     (chosen Numbered (ltb j 128) (Same i j both) (Same i i both) zero-lt-one zero-lt-one) zero-lt-one
 
-number-numbered : (op : BinaryOp) (i : ℕ) (n : Number) → ((x : Float) → n ≡ M.Of x → is_nan x ≡ false) → Numbered (bounded_by op i n)
+number-numbered : (op : BinaryOp) (i : ℕ) (n : Option Float) → ((x : Float) → n ≡ Some x → is_nan x ≡ false) → Numbered (bounded_by op i n)
 unfolding bounded_by
-number-numbered op i M.Nothing h = zero-lt-one
-number-numbered op i (M.Of x) h =
+number-numbered op i None h = zero-lt-one
+number-numbered op i (Some x) h =
     chosen Numbered (bounding op) (cond (ltb i 128) (Bound i op x) Nothing) (cond (ltb i 128) (Entry i) Residual)
     (chosen Numbered (ltb i 128) (Bound i op x) Nothing (h x refl) zero-lt-one) (chosen Numbered (ltb i 128) (Entry i) Residual zero-lt-one zero-lt-one)
 

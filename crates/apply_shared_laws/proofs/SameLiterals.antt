@@ -1,12 +1,11 @@
 -- Two literals that are the same by the Rust's `==` clash with the same literals and are outside the same ranges: an action makes of two places that differ in
 -- them one place, or again two that differ in them. Assumes nothing.
+use Rattle.std.proofs.Common.{Some, None, Option, Float}
 use mathlib.Core.Path.{◌≡◌, refl, sym, ap, ◌∙◌}
 use mathlib.Core.Bool.{Bool, true, false, not, cond, ◌&&◌, ◌||◌, false≢true}
 use mathlib.Core.Logic.{◌⊎◌, inl, inr}
 use Rattle.scalar.specs.Scalars.{same_scalar, scalar_to_f64}
 use Rattle.scalar.specs.declared.ScalarValue.{ScalarValue}
-use Rattle.scalar.specs.declared.Number.{Number}
-use Rattle.scalar.specs.declared.Number.TheVariants as M
 use Rattle.scalar.proofs.FloatLaws.{eq-left, lt-left, lt-right}
 use Rattle.scalar.proofs.ScalarLaws.{same_number, same_numbers, same_comm, same_left}
 use Rattle.value_range.specs.Ranges.{empty_range}
@@ -25,13 +24,13 @@ abbrev pub laid_cell : Cell → ScalarValue → Cell
 laid_cell c v = record { non_null = c.non_null; literal = held v; entry = c.entry; contradictory = c.contradictory }
 
 -- numbers that are `==` are outside the same ranges
-outside-same : (m n : Number) (r : ValueRange) → same_number m n ≡ true → outside m r ≡ outside n r
-outside-same (M.Of x) (M.Of y) r h = λ i.
+outside-same : (m n : Option Float) (r : ValueRange) → same_number m n ≡ true → outside m r ≡ outside n r
+outside-same (Some x) (Some y) r h = λ i.
     (r.lower.present && (lt-left x y r.lower.value h i || (eq-left x y r.lower.value h i && not r.lower.inclusive)))
     || (r.upper.present && (lt-right x y r.upper.value h i || (eq-left x y r.upper.value h i && not r.upper.inclusive)))
-outside-same (M.Of x) M.Nothing r h = absurd (false≢true h)
-outside-same M.Nothing (M.Of y) r h = absurd (false≢true h)
-outside-same M.Nothing M.Nothing r h = refl
+outside-same (Some x) None r h = absurd (false≢true h)
+outside-same None (Some y) r h = absurd (false≢true h)
+outside-same None None r h = refl
 
 -- the flag is set already, and stays so whatever an action records
 pub flag-through : (act : Action) (c : Cell) → cell_after (flagged_cell c) act ≡ flagged_cell (cell_after c act)

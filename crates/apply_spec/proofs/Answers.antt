@@ -1,4 +1,5 @@
 -- What the answer of `apply_predicate` says of rows, from the answer alone, for one predicate and for any number of them. Assumes nothing.
+use Rattle.std.proofs.Common.{Ok, Err, Result}
 use mathlib.Core.Path.{◌≡◌, refl, sym, ap, ◌∙◌, subst}
 use mathlib.Core.Bool.{Bool, true, false, cond, not, ◌&&◌}
 use mathlib.Core.List.{List, [], ◌∷◌}
@@ -24,15 +25,15 @@ use Rattle.plan_rules.proofs.RuleLaws.{rules}
 use Rattle.apply_spec.specs.Facts.{refusal_of, with_constraints, has_lineage, identity_of, lineage_ok, definition_ok, facts_ok}
 use Rattle.apply_spec.specs.Entries.{answered, refused, accepted, predicate_applied, apply_predicate}
 use Rattle.apply_spec.specs.declared.LogicalFacts.{LogicalFacts}
-use Rattle.apply_spec.specs.declared.Outcome.{Outcome}
-use Rattle.apply_spec.specs.declared.Outcome.TheVariants.{Accepted, Residuals, NoSuch}
+use Rattle.apply_spec.specs.declared.FactsError.{FactsError}
+use Rattle.apply_spec.specs.declared.FactsError.TheVariants.{Residuals, NoSuch}
 use Rattle.apply_spec.specs.Meaning.{WholeRow, Consistent, On, MeetsFacts, AllOf, Wide, GoodFacts, fresh_facts, AcceptedAll, AllOn}
 use Rattle.apply_spec.specs.Conditions.{ExactPredicate}
 use Rattle.apply_spec.proofs.Applying.{Within}
 use Rattle.apply_spec.proofs.Predicates.{predicate-good, predicate-sound, predicate-back, predicate-exact}
 
 -- ---- what an accepted answer was made of
-pub other-outcome : {X : Type 0} (o : Outcome) → (refusal_of o ≡ 0 → ⊥) → o ≡ Accepted → X
+pub other-outcome : {X : Type 0} (o : Result (Unit {0}) FactsError) → (refusal_of o ≡ 0 → ⊥) → o ≡ Ok tt → X
 other-outcome o f e = absurd (f (ap refusal_of e))
 
 -- what an accepted answer of `apply_predicate` was made of
@@ -44,23 +45,23 @@ pub record Parts (p : Plan) (f : LogicalFacts) (e : Expr) : Type 0 where
   pub is : (apply_predicate p f e).facts ≡ with_constraints f (predicate_applied p f.lineage f.constraints e.0).constraints
 
 -- an accepted answer was made of these. Assumes nothing
-pub apply-parts : (p : Plan) (f : LogicalFacts) (e : Expr) → (apply_predicate p f e).outcome ≡ Accepted → Parts p f e
+pub apply-parts : (p : Plan) (f : LogicalFacts) (e : Expr) → (apply_predicate p f e).outcome ≡ Ok tt → Parts p f e
 unfolding apply_predicate
 apply-parts p f e = go (plan_ok p && (ltb e.0 p.expressions.count && facts_ok p f)) refl
   where
-    made : (r : Bool) → T (not r) → (cond r (refused f Residuals)
+    made : (r : Bool) → T (not r) → (cond r (refused f (Err Residuals))
         (accepted (with_constraints f (predicate_applied p f.lineage f.constraints e.0).constraints))).facts ≡ with_constraints f
         (predicate_applied p f.lineage f.constraints e.0).constraints
     made true t = absurd t
     made false t = refl
 
-    clear : (r : Bool) → (cond r (refused f Residuals)
-        (accepted (with_constraints f (predicate_applied p f.lineage f.constraints e.0).constraints))).outcome ≡ Accepted → T (not r)
-    clear true q = other-outcome Residuals (λ z. absurd (omega (arith, z))) q
+    clear : (r : Bool) → (cond r (refused f (Err Residuals))
+        (accepted (with_constraints f (predicate_applied p f.lineage f.constraints e.0).constraints))).outcome ≡ Ok tt → T (not r)
+    clear true q = other-outcome (Err Residuals) (λ z. absurd (omega (arith, z))) q
     clear false q = tt
 
     go : (b : Bool) → (plan_ok p && (ltb e.0 p.expressions.count && facts_ok p f)) ≡ b
-        → (cond b (answered f f (predicate_applied p f.lineage f.constraints e.0)) (refused f NoSuch)).outcome ≡ Accepted → Parts p f e
+        → (cond b (answered f f (predicate_applied p f.lineage f.constraints e.0)) (refused f (Err NoSuch))).outcome ≡ Ok tt → Parts p f e
     go true t q =
         let u = and_right (plan_ok p) _ t in
         let n = clear (predicate_applied p f.lineage f.constraints e.0).refused q in
@@ -69,10 +70,10 @@ apply-parts p f e = go (plan_ok p && (ltb e.0 p.expressions.count && facts_ok p 
           handle = ltb-true e.0 p.expressions.count (and_left (ltb e.0 p.expressions.count) _ u);
           right_facts = and_right (ltb e.0 p.expressions.count) _ u;
           room = n;
-          is = ap (λ (b : Bool). (cond b (answered f f (predicate_applied p f.lineage f.constraints e.0)) (refused f NoSuch)).facts) t ∙ made
+          is = ap (λ (b : Bool). (cond b (answered f f (predicate_applied p f.lineage f.constraints e.0)) (refused f (Err NoSuch))).facts) t ∙ made
               (predicate_applied p f.lineage f.constraints e.0).refused n;
         }
-    go false t q = other-outcome NoSuch (λ z. absurd (omega (arith, z))) q
+    go false t q = other-outcome (Err NoSuch) (λ z. absurd (omega (arith, z))) q
 
 -- ---- the lineage of facts that keep the rules names identities
 pub columns-within : (nc ne np used : ℕ) → counts_within nc ne np used ≡ true → nc ≤ 64
@@ -118,7 +119,7 @@ pub facts-good : (p : Plan) (f : LogicalFacts) → facts_ok p f ≡ true → len
 facts-good p f e long shaped sound = record { long = long; set = ok-good f.constraints (set-right p f e) shaped sound }
 
 -- ---- one predicate
-module _ (p : Plan) (wide : Wide p) (f : LogicalFacts) (good : GoodFacts f) (e : Expr) (yes-said : (apply_predicate p f e).outcome ≡ Accepted) where
+module _ (p : Plan) (wide : Wide p) (f : LogicalFacts) (good : GoodFacts f) (e : Expr) (yes-said : (apply_predicate p f e).outcome ≡ Ok tt) where
   parts : Parts p f e
   parts = apply-parts p f e yes-said
 

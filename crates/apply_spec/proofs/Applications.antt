@@ -4,7 +4,7 @@ use mathlib.Core.Bool.{Bool, true, cond}
 use mathlib.Core.List.{List, [], ◌∷◌}
 use Prim.Native.Nat.{ℕ}
 use Rattle.constraint_spec.specs.declared.ConstraintSet.{ConstraintSet}
-use Rattle.constraint_spec.specs.declared.Applied.{Applied}
+use Rattle.constraint_spec.specs.Answers.{Applied}
 use Rattle.apply_spec.specs.Apply.{all_applied}
 
 pub refused-stays : (apply : ConstraintSet → ℕ → Applied) (hs : List ℕ) (a : Applied) → a.refused ≡ true → all_applied apply hs a ≡ a

@@ -1,5 +1,6 @@
 -- What a conjunct, and a run of them, makes of a set: every row that met the set and of which they are TRUE meets the result; every row that meets
 -- the result met the set; and, where no NaN is compared with itself and no bound is of another kind, they are TRUE of it. Assumes nothing.
+use Rattle.std.proofs.Common.{Some, None, Option}
 use mathlib.Core.Path.{◌≡◌, refl, sym, ap, ap₂, ◌∙◌, subst}
 use mathlib.Core.Bool.{Bool, true, false, cond, not, ◌&&◌, ◌||◌}
 use mathlib.Core.List.{List, [], ◌∷◌}
@@ -14,8 +15,6 @@ use Rattle.scalar.specs.Kinds.{kind_of, is_null, same_kind}
 use Rattle.scalar.specs.Scalars.{scalar_to_f64, same_scalar, Typed}
 use Rattle.scalar.specs.declared.ScalarValue.{ScalarValue}
 use Rattle.scalar.specs.declared.ScalarValue.TheVariants as S
-use Rattle.scalar.specs.declared.Number.{Number}
-use Rattle.scalar.specs.declared.Number.TheVariants.{Of, Nothing}
 use Rattle.scalar.proofs.NumberLaws.{converts}
 use Rattle.comparison.specs.Operators.{ordinary, bounding, reversed_op}
 use Rattle.comparison.specs.declared.BinaryOp.{BinaryOp}
@@ -26,8 +25,8 @@ use Rattle.constraint_spec.specs.Sets.{with_flag, union_values, add_non_null, ad
 use Rattle.constraint_spec.specs.Sets.{add_residual, done, refused_with}
 use Rattle.constraint_spec.specs.Meets.{Like, Meets, Good}
 use Rattle.constraint_spec.specs.declared.ConstraintSet.{ConstraintSet}
-use Rattle.constraint_spec.specs.declared.Ranged.{Ranged}
-use Rattle.constraint_spec.specs.declared.Applied.{Applied}
+use Rattle.constraint_spec.specs.Answers.{Ranged}
+use Rattle.constraint_spec.specs.Answers.{Applied}
 use Rattle.constraint_spec.proofs.ValueLaws.{same-sym, alike-null, T-same-null}
 use Rattle.constraint_spec.proofs.Bounding.{number-not-null, self-same}
 use Rattle.constraint_spec.proofs.Goods.{flag-good}
@@ -187,7 +186,7 @@ module _ (node : ℕ → ExprData) (items : List ℕ) (typed : (h : ℕ) → Typ
       Asks op x = T (not (is_null (v i))) × T (ok_range (place_of (v i)) (bounds_by op x))
 
       -- a bound, recorded
-      bound-step : (op : BinaryOp) → T (bounding op) → (x : Float) → scalar_to_f64 l ≡ Of x → Says op (v i) l → Step s (add_bound s i op x) (O h)
+      bound-step : (op : BinaryOp) → T (bounding op) → (x : Float) → scalar_to_f64 l ≡ Some x → Says op (v i) l → Step s (add_bound s i op x) (O h)
           (OneKind (v i) op l)
       bound-step op o x w q =
           let r = converts l x tl w in
@@ -221,7 +220,7 @@ module _ (node : ℕ → ExprData) (items : List ℕ) (typed : (h : ℕ) → Typ
           free GtEq x o = absurd o
           free IsNotDistinctFrom x o = tt
 
-          not_null : (op : BinaryOp) (x : Float) → scalar_to_f64 l ≡ Of x → T (not (is_eq op)) → T (not (bounding op)) → compare_of op (v i) l ≡ 2 → T
+          not_null : (op : BinaryOp) (x : Float) → scalar_to_f64 l ≡ Some x → T (not (is_eq op)) → T (not (bounding op)) → compare_of op (v i) l ≡ 2 → T
               (not (is_null (v i)))
           not_null Eq x w ne o p = absurd ne
           not_null NotEq x w ne o p = (compared-of NotEq (v i) l tt p).left
@@ -232,9 +231,9 @@ module _ (node : ℕ → ExprData) (items : List ℕ) (typed : (h : ℕ) → Typ
           not_null IsNotDistinctFrom x w ne o p = subst (λ (b : Bool). T (not b)) (sym (alike-null (v i) l (c.typed i) tl ((distinct_iff (v i) l).0 p)))
               (number-not-null l x w)
 
-          by_number : (n : Number) → scalar_to_f64 l ≡ n → Stepped op (add_range s i op l)
-          by_number Nothing w = subst (Stepped op) (sym (range_none s i op l w)) (alone s h (OneKind (v i) op l) g)
-          by_number (Of x) w =
+          by_number : (n : Option Float) → scalar_to_f64 l ≡ n → Stepped op (add_range s i op l)
+          by_number None w = subst (Stepped op) (sym (range_none s i op l w)) (alone s h (OneKind (v i) op l) g)
+          by_number (Some x) w =
               let r = converts l x tl w in
               subst (Stepped op) (sym (range-some s i op l x w))
               (pick (bounding op) (done (add_bound s i op x)) (add_residual (add_bound s i op x) h) s (O h) (OneKind (v i) op l)

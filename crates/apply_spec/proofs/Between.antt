@@ -1,4 +1,5 @@
 -- Facts that no row meets though their flag is clear: x > 3 and x < 4 on an Int32 column. Assumes nothing.
+use Rattle.std.proofs.Common.{Ok}
 use mathlib.Core.Path.{◌≡◌, refl}
 use mathlib.Core.Bool.{false}
 use mathlib.Core.List.{[], ◌∷◌}
@@ -25,7 +26,6 @@ use Rattle.apply_spec.specs.Conjuncts.{joined_of, conjuncts_to}
 use Rattle.apply_spec.specs.Apply.{comparison_by, conjunct_applied, all_applied}
 use Rattle.apply_spec.specs.Entries.{predicate_applied, apply_predicate}
 use Rattle.apply_spec.specs.declared.LogicalFacts.{LogicalFacts}
-use Rattle.apply_spec.specs.declared.Outcome.TheVariants.{Accepted}
 use Rattle.rows_spec.specs.Compare.{compare_of}
 use Rattle.rows_spec.specs.InOrder.{in_order}
 use Rattle.rows_spec.specs.Values.{values}
@@ -73,8 +73,8 @@ abbrev twice : LogicalFacts
 twice = (apply_predicate plan once below).facts
 
 -- both are accepted, and the flag is clear. Assumes nothing
-pub between-clear : ((apply_predicate plan fresh above).outcome ≡ Accepted)
-    × (((apply_predicate plan once below).outcome ≡ Accepted) × (twice.constraints.contradictory ≡ false))
+pub between-clear : ((apply_predicate plan fresh above).outcome ≡ Ok tt)
+    × (((apply_predicate plan once below).outcome ≡ Ok tt) × (twice.constraints.contradictory ≡ false))
 unfolding apply_predicate plan_ok counts_within all_from expr_ok_of record_ok lists_ok row_of line_of bits_ok handle_ok count_of more_of item_ok
     operator_ok_of scans_of any_from
     count_from facts_ok lineage_ok definition_ok set_ok parents_ok each empty_set empty_classes predicate_applied all_applied conjuncts_to joined_of

@@ -1,4 +1,5 @@
 -- When a comparison of two values is TRUE. Assumes nothing.
+use Rattle.std.proofs.Common.{Some}
 use mathlib.Core.Path.{◌≡◌, refl, sym, ap, ◌∙◌, subst}
 use mathlib.Core.Bool.{Bool, true, false, cond, not, ◌&&◌, ◌||◌, beq}
 use mathlib.Core.Logic.{◌↔◌, ◌⊎◌, inl, inr}
@@ -9,7 +10,6 @@ use Rattle.scalar.specs.Exact.{eq_z}
 use Rattle.scalar.specs.Kinds.{kind_code, kind_of, is_null, same_kind}
 use Rattle.scalar.specs.Scalars.{same_scalar, less_scalar, Typed, scalar_to_f64}
 use Rattle.scalar.specs.declared.ScalarValue.{ScalarValue}
-use Rattle.scalar.specs.declared.Number.TheVariants.{Of}
 use Rattle.scalar.proofs.WholeLaws.{iff}
 use Rattle.truth.specs.Truth.{is_true_code}
 use Rattle.comparison.specs.Operators.{ordinary, bounding, reversed_op}
@@ -155,7 +155,7 @@ compare-turned-back op a b ta tb o e =
 -- the comparison of a value with a literal of its kind is its bound. Assumes values of their types
 pub tests-bound : (op : BinaryOp) → T (bounding op) → (v l : ScalarValue) → T (not (is_null v)) → T (same_kind (kind_of v) (kind_of l)) → Typed v →
     Typed l
-    → (x : Float) → scalar_to_f64 l ≡ Of x → compared op v l ≡ ok_range (place_of v) (bounds_by op x)
+    → (x : Float) → scalar_to_f64 l ≡ Some x → compared op v l ≡ ok_range (place_of v) (bounds_by op x)
 tests-bound op o v l n k tv tl x e = go op o (tested v l n k tv tl x e)
   where
     go : (op : BinaryOp) → T (bounding op) → Tested v l x → compared op v l ≡ ok_range (place_of v) (bounds_by op x)

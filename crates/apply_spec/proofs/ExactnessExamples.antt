@@ -1,4 +1,5 @@
 -- Plans on which the conditions of exactness hold, and plans on which one of them fails and the facts say less than the predicate. Assumes nothing.
+use Rattle.std.proofs.Common.{Ok}
 use mathlib.Core.Path.{◌≡◌, refl, sym, ◌∙◌, subst}
 use mathlib.Core.List.{List, [], ◌∷◌}
 use mathlib.Core.Logic.{◌↔◌}
@@ -33,7 +34,6 @@ use Rattle.apply_spec.specs.Conjuncts.{joined_of, conjuncts_to}
 use Rattle.apply_spec.specs.Apply.{comparison_by, conjunct_applied, all_applied}
 use Rattle.apply_spec.specs.Entries.{predicate_applied, apply_predicate}
 use Rattle.apply_spec.specs.declared.LogicalFacts.{LogicalFacts}
-use Rattle.apply_spec.specs.declared.Outcome.TheVariants.{Accepted}
 use Rattle.rows_spec.specs.Compare.{compare_of, truth_of}
 use Rattle.rows_spec.specs.InOrder.{in_order}
 use Rattle.rows_spec.specs.Values.{values, value_at}
@@ -86,7 +86,7 @@ everywhere v = record { cols = λ c. v; ids = λ i. v }
 abbrev self_plan : Plan
 self_plan = plan_of 4 0 0 0
 
-self-accepted : (apply_predicate self_plan fresh comparison).outcome ≡ Accepted
+self-accepted : (apply_predicate self_plan fresh comparison).outcome ≡ Ok tt
 unfolding apply_predicate plan_ok counts_within all_from expr_ok_of record_ok lists_ok row_of line_of bits_ok handle_ok count_of more_of item_ok
     operator_ok_of scans_of any_from
     count_from facts_ok lineage_ok definition_ok set_ok parents_ok each empty_set empty_classes predicate_applied all_applied conjuncts_to joined_of
@@ -110,7 +110,7 @@ unfolding values in_order expr_data compare_of eq
 self_truth = refl
 
 -- x = x is accepted, and a row with a NaN meets its facts, which say that x is not NULL, though x = x is not TRUE of it. Assumes nothing
-pub nan_case : ((apply_predicate self_plan fresh comparison).outcome ≡ Accepted)
+pub nan_case : ((apply_predicate self_plan fresh comparison).outcome ≡ Ok tt)
     × (MeetsFacts self_plan (everywhere (S.Float64 nan)) (apply_predicate self_plan fresh comparison).facts × (On self_plan (everywhere (S.Float64
     nan)) 2 → ⊥))
 nan_case = (self-accepted, (self-meets, λ e. let z = sym self_truth ∙ e in absurd (omega (arith, z))))
@@ -119,7 +119,7 @@ nan_case = (self-accepted, (self-meets, λ e. let z = sym self_truth ∙ e in ab
 abbrev mixed_plan : Plan
 mixed_plan = plan_of 3 5 2 1
 
-mixed_accepted : (apply_predicate mixed_plan fresh comparison).outcome ≡ Accepted
+mixed_accepted : (apply_predicate mixed_plan fresh comparison).outcome ≡ Ok tt
 unfolding apply_predicate plan_ok counts_within all_from expr_ok_of record_ok lists_ok row_of line_of bits_ok handle_ok count_of more_of item_ok
     operator_ok_of scans_of any_from
     count_from facts_ok lineage_ok definition_ok set_ok parents_ok each empty_set empty_classes predicate_applied all_applied conjuncts_to joined_of
@@ -140,7 +140,7 @@ unfolding values in_order expr_data compare_of
 mixed_truth = refl
 
 -- z < 5 is accepted, and a row with an Int64 3 meets its bound, though the comparison of two kinds is UNKNOWN. Assumes nothing
-pub mixed_case : ((apply_predicate mixed_plan fresh comparison).outcome ≡ Accepted)
+pub mixed_case : ((apply_predicate mixed_plan fresh comparison).outcome ≡ Ok tt)
     × (MeetsFacts mixed_plan (everywhere (S.Int64 (pos 3))) (apply_predicate mixed_plan fresh comparison).facts
     × (On mixed_plan (everywhere (S.Int64 (pos 3))) 2 → ⊥))
 mixed_case = (
@@ -156,7 +156,7 @@ mixed_case = (
 abbrev plain_plan : Plan
 plain_plan = plan_of 2 7 2 1
 
-plain-accepted : (apply_predicate plain_plan fresh comparison).outcome ≡ Accepted
+plain-accepted : (apply_predicate plain_plan fresh comparison).outcome ≡ Ok tt
 unfolding apply_predicate plan_ok counts_within all_from expr_ok_of record_ok lists_ok row_of line_of bits_ok handle_ok count_of more_of item_ok
     operator_ok_of scans_of any_from
     count_from facts_ok lineage_ok definition_ok set_ok parents_ok each empty_set empty_classes predicate_applied all_applied conjuncts_to joined_of

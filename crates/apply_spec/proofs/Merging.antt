@@ -1,4 +1,5 @@
 -- Merged facts are met by exactly the rows that meet both, from the answer of `merge_inputs` alone. Assumes nothing.
+use Rattle.std.proofs.Common.{Ok, Err}
 use mathlib.Core.Path.{◌≡◌, refl, sym, ap, ◌∙◌, subst}
 use mathlib.Core.Bool.{Bool, true, false, cond, not, ◌&&◌}
 use mathlib.Core.List.{List}
@@ -11,7 +12,7 @@ use Rattle.scalar.specs.Scalars.{Typed}
 use Rattle.constraint_spec.specs.Sets.{done, refused_with, steps_to, merge_room, merged_set, merge_from}
 use Rattle.constraint_spec.specs.Meets.{Meets, Good}
 use Rattle.constraint_spec.specs.declared.ConstraintSet.{ConstraintSet}
-use Rattle.constraint_spec.specs.declared.Applied.{Applied}
+use Rattle.constraint_spec.specs.Answers.{Applied}
 use Rattle.constraint_spec.proofs.Merge.{merged-good, merge_iff}
 use Rattle.constraint_spec.proofs.Operations.{no_row}
 use Rattle.plan.specs.declared.Plan.{Plan}
@@ -19,7 +20,7 @@ use Rattle.plan_rules.specs.Rules.{plan_ok}
 use Rattle.apply_spec.specs.Facts.{with_constraints, facts_ok}
 use Rattle.apply_spec.specs.Entries.{answered, refused, accepted, override, overridden, overlaid, inputs_merged, merge_inputs}
 use Rattle.apply_spec.specs.declared.LogicalFacts.{LogicalFacts}
-use Rattle.apply_spec.specs.declared.Outcome.TheVariants.{Accepted, Residuals, NoSuch}
+use Rattle.apply_spec.specs.declared.FactsError.TheVariants.{Residuals, NoSuch}
 use Rattle.plan.specs.declared.Expr.{Expr}
 use Rattle.apply_spec.specs.Meaning.{WholeRow, Consistent, On, MeetsFacts, Wide, GoodFacts, fresh_facts, AcceptedAll, AllOn}
 use Rattle.apply_spec.proofs.Answers.{Reached, ExactAll, all-reached, sequence_sound, sequence_exact, other-outcome}
@@ -49,26 +50,26 @@ tried f g merge = cond merge (merge_from f.constraints g.constraints) (done f.co
 abbrev joined_facts : LogicalFacts → LogicalFacts → LogicalFacts
 joined_facts f g = overlaid f g f.constraints
 
-joined : (p : Plan) (f g : LogicalFacts) (merge : Bool) → (merge_inputs p f g merge).outcome ≡ Accepted → Joined p f g merge (tried f g merge)
+joined : (p : Plan) (f g : LogicalFacts) (merge : Bool) → (merge_inputs p f g merge).outcome ≡ Ok tt → Joined p f g merge (tried f g merge)
 unfolding merge_inputs inputs_merged
 joined p f g merge = go (plan_ok p && (facts_ok p f && facts_ok p g)) refl
   where
-    clear : (r : Bool) (x : LogicalFacts) → (cond r (refused f Residuals) (accepted x)).outcome ≡ Accepted → T (not r)
-    clear true x q = other-outcome Residuals (λ z. absurd (omega (arith, z))) q
+    clear : (r : Bool) (x : LogicalFacts) → (cond r (refused f (Err Residuals)) (accepted x)).outcome ≡ Ok tt → T (not r)
+    clear true x q = other-outcome (Err Residuals) (λ z. absurd (omega (arith, z))) q
     clear false x q = tt
 
-    made : (r : Bool) (x : LogicalFacts) → T (not r) → (cond r (refused f Residuals) (accepted x)).facts ≡ x
+    made : (r : Bool) (x : LogicalFacts) → T (not r) → (cond r (refused f (Err Residuals)) (accepted x)).facts ≡ x
     made true x t = absurd t
     made false x t = refl
 
-    go : (b : Bool) → (plan_ok p && (facts_ok p f && facts_ok p g)) ≡ b → (cond b (answered f (joined_facts f g) (tried f g merge)) (refused f NoSuch)).outcome
-        ≡ Accepted → Joined p f g merge (tried f g merge)
+    go : (b : Bool) → (plan_ok p && (facts_ok p f && facts_ok p g)) ≡ b → (cond b (answered f (joined_facts f g) (tried f g merge)) (refused f (Err NoSuch))).outcome
+        ≡ Ok tt → Joined p f g merge (tried f g merge)
     go true t q =
         let x = with_constraints (joined_facts f g) (tried f g merge).constraints in
         let n = clear (tried f g merge).refused x q in
-        let e = ap (λ (b : Bool). (cond b (answered f (joined_facts f g) (tried f g merge)) (refused f NoSuch)).facts) t ∙ made (tried f g merge).refused x n in
+        let e = ap (λ (b : Bool). (cond b (answered f (joined_facts f g) (tried f g merge)) (refused f (Err NoSuch))).facts) t ∙ made (tried f g merge).refused x n in
         record { room = n; lineage = ap (λ (y : LogicalFacts). y.lineage) e; set = ap (λ (y : LogicalFacts). y.constraints) e }
-    go false t q = other-outcome NoSuch (λ z. absurd (omega (arith, z))) q
+    go false t q = other-outcome (Err NoSuch) (λ z. absurd (omega (arith, z))) q
 
 record Merged (a b : ConstraintSet) : Type 0 where
   pub room : T (merge_room a b)
@@ -86,7 +87,7 @@ merged a b = go (merge_room a b) (λ t. t)
         is false t = absurd t
     go false f u = absurd u
 
-module _ (p : Plan) (f g : LogicalFacts) (gf : GoodFacts f) (gg : GoodFacts g) (q : (merge_inputs p f g true).outcome ≡ Accepted) where
+module _ (p : Plan) (f g : LogicalFacts) (gf : GoodFacts f) (gg : GoodFacts g) (q : (merge_inputs p f g true).outcome ≡ Ok tt) where
   parts : Joined p f g true (merge_from f.constraints g.constraints)
   parts = joined p f g true q
 
@@ -115,7 +116,7 @@ module _ (p : Plan) (f g : LogicalFacts) (gf : GoodFacts f) (gg : GoodFacts g) (
     merge_none t m n = no_row (On p row) row.ids (merge_inputs p f g true).facts.constraints t (merge_exact.1 (m, n))
 
 -- an accepted merge of lineages alone keeps the left's rows. Assumes nothing
-pub keep_exact : (p : Plan) (f g : LogicalFacts) → (merge_inputs p f g false).outcome ≡ Accepted → (row : WholeRow) → MeetsFacts p row
+pub keep_exact : (p : Plan) (f g : LogicalFacts) → (merge_inputs p f g false).outcome ≡ Ok tt → (row : WholeRow) → MeetsFacts p row
     (merge_inputs p f g false).facts ↔ MeetsFacts p row f
 keep_exact p f g q row =
     let e = (joined p f g false q).set in
@@ -124,7 +125,7 @@ keep_exact p f g q row =
 -- two runs of accepted predicates from fresh facts, merged: every row that is consistent with both lineages and of which all are TRUE meets the facts, and
 -- a set flag means that there is no such row. Assumes nothing else
 module _ (p : Plan) (wide : Wide p) (l m d e : List ℕ) (ll : length l ≡ 64) (ml : length m ≡ 64) (es ds : List Expr) (f g : LogicalFacts)
-    (a : AcceptedAll p (fresh_facts l d) es f) (b : AcceptedAll p (fresh_facts m e) ds g) (q : (merge_inputs p f g true).outcome ≡ Accepted)
+    (a : AcceptedAll p (fresh_facts l d) es f) (b : AcceptedAll p (fresh_facts m e) ds g) (q : (merge_inputs p f g true).outcome ≡ Ok tt)
     (row : WholeRow) (c : Consistent l row) (k : Consistent m row) where
   left : Reached p wide row (fresh_facts l d) f es
   left = all-reached p wide l d ll es f a row c

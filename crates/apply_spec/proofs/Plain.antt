@@ -1,5 +1,6 @@
 -- Where every identity has a kind, its values are NULL or of it and no NaN, and every comparison has one kind on both sides, the facts of accepted
 -- predicates say exactly that they are all TRUE. Assumes nothing.
+use Rattle.std.proofs.Common.{Ok}
 use mathlib.Core.Path.{◌≡◌, refl, sym, ◌∙◌}
 use mathlib.Core.Bool.{Bool, true, false, cond, not}
 use mathlib.Core.List.{List, [], ◌∷◌}
@@ -28,7 +29,6 @@ use Rattle.apply_spec.specs.Conjuncts.{conjuncts_of}
 use Rattle.apply_spec.specs.Apply.{seen_of}
 use Rattle.apply_spec.specs.Entries.{apply_predicate}
 use Rattle.apply_spec.specs.declared.LogicalFacts.{LogicalFacts}
-use Rattle.apply_spec.specs.declared.Outcome.TheVariants.{Accepted}
 use Rattle.apply_spec.specs.declared.Seen.{Seen}
 use Rattle.apply_spec.specs.declared.Seen.TheVariants.{Identity, Constant, Unseen}
 use Rattle.rows_spec.specs.Typing.{kind_of_node, kind_at}
@@ -134,7 +134,7 @@ module _ (kinds : ℕ → Kind) (v : ℕ → ScalarValue) (k : Kinded kinds v) w
 module _ (p : Plan) (wide : Wide p) (kinds : ℕ → Kind) (row : WholeRow) (k : Kinded kinds row.ids) where
   -- one accepted predicate: exactly the rows that met the facts and of which it is TRUE meet the new ones. Assumes good facts
   pub plain-exact : (f : LogicalFacts) → GoodFacts f → OneKindPlan p f.lineage kinds → Consistent f.lineage row → (e : Expr) → (apply_predicate p f
-      e).outcome ≡ Accepted
+      e).outcome ≡ Ok tt
       → MeetsFacts p row (apply_predicate p f e).facts ↔ (MeetsFacts p row f × On p row e.0)
   plain-exact f good plain c e q =
       apply-exact p wide f good e q row c (plain-predicate kinds row.ids k p f.lineage plain e.0 (apply-parts p f e q).handle)

@@ -8,7 +8,7 @@ use Rattle.scalar.specs.declared.ScalarValue.TheVariants as S
 use Rattle.comparison.specs.declared.BinaryOp.TheVariants.{Eq, NotEq, Lt, Gt, IsNotDistinctFrom}
 use Rattle.constraint_spec.specs.Sets.{with_flag, union_values, add_non_null, add_range, add_residual, done}
 use Rattle.constraint_spec.specs.declared.ConstraintSet.{ConstraintSet}
-use Rattle.constraint_spec.specs.declared.Applied.{Applied}
+use Rattle.constraint_spec.specs.Answers.{Applied}
 use Rattle.apply_spec.specs.Apply.{literal_applied, comparison_by, comparison_applied, range_applied, all_applied}
 use Rattle.apply_spec.specs.declared.Seen.TheVariants.{Identity, Constant, Unseen}
 

@@ -1,4 +1,5 @@
 -- A predicate is refused exactly where the Rust's list of residuals would pass 64, and else the list is that one. Assumes nothing.
+use Rattle.std.proofs.Common.{Some, None, Option, Float, Ok, Err}
 use Prim.Native.Nat.{ℕ, zero, suc, ◌+◌, ◌≤◌, ◌<◌}
 use mathlib.Core.Path.{◌≡◌, refl, sym, ap, subst, ◌∙◌}
 use mathlib.Core.Bool.{Bool, true, false, cond, not, ◌&&◌, ◌||◌}
@@ -14,8 +15,6 @@ use Rattle.laws.proofs.Bools.{and_left, and_right, or_false-left, or_false-right
 use Rattle.lists.specs.Ranges.{all_from, any_from}
 use Rattle.lists.proofs.RangeLaws.{below_or_not}
 use Rattle.scalar.specs.Scalars.{scalar_to_f64}
-use Rattle.scalar.specs.declared.Number.{Number}
-use Rattle.scalar.specs.declared.Number.TheVariants.{Of, Nothing}
 use Rattle.scalar.specs.declared.ScalarValue.{ScalarValue}
 use Rattle.scalar.specs.declared.ScalarValue.TheVariants as S
 use Rattle.comparison.specs.Operators.{ordinary, bounding}
@@ -26,7 +25,7 @@ use Rattle.constraint_spec.specs.Sets.{add_range, has_handle, room_for, push_res
 use Rattle.value_classes.specs.Classes.{classes_ok}
 use Rattle.constraint_spec.specs.Room.{listed, has, pushed}
 use Rattle.constraint_spec.specs.declared.ConstraintSet.{ConstraintSet}
-use Rattle.constraint_spec.specs.declared.Applied.{Applied}
+use Rattle.constraint_spec.specs.Answers.{Applied}
 use Rattle.constraint_spec.proofs.Operations.{residual-done, residual-refused}
 use Rattle.constraint_spec.proofs.RoomLaws.{SameList, same_self, same-through, same_flag, same_union, same_nonnull, same-add_literal, same-add_bound}
 use Rattle.constraint_spec.proofs.RoomLaws.{same-listed, length-listed, room_noted, room-full, pushed_grows, Fits}
@@ -44,8 +43,8 @@ use Rattle.apply_spec.specs.Entries.{accepted, refused, answered, predicate_appl
 use Rattle.apply_spec.specs.Wanted.{gives, operands_recorded, comparison_recorded, constant_recorded, node_recorded, conjunct_recorded, wanted_by}
 use Rattle.apply_spec.specs.Wanted.{predicate_wanted}
 use Rattle.apply_spec.specs.declared.LogicalFacts.{LogicalFacts}
-use Rattle.apply_spec.specs.declared.FactsAnswer.{FactsAnswer}
-use Rattle.apply_spec.specs.declared.Outcome.TheVariants.{Accepted, Residuals, NoSuch}
+use Rattle.apply_spec.specs.Told.{FactsAnswer}
+use Rattle.apply_spec.specs.declared.FactsError.TheVariants.{Residuals, NoSuch}
 use Rattle.apply_spec.specs.declared.Seen.{Seen}
 use Rattle.apply_spec.specs.declared.Seen.TheVariants.{Identity, Constant, Unseen}
 
@@ -100,15 +99,15 @@ module _ (s : ConstraintSet) (r : Roomy s) (h : ℕ) where
   flagged = kept (with_flag s true) (same_flag s true)
 
   -- a literal that gives bounds under one of the four that bound, and under another
-  bounds : (i : ℕ) (op : BinaryOp) → bounding op ≡ true → (n : Number) → Leaves s h (gives n) (range_applied h (ranged_by s i op n))
-  bounds i op e Nothing = residual
-  bounds i op e (Of x) =
+  bounds : (i : ℕ) (op : BinaryOp) → bounding op ≡ true → (n : Option Float) → Leaves s h (gives n) (range_applied h (ranged_by s i op n))
+  bounds i op e None = residual
+  bounds i op e (Some x) =
       subst (λ (b : Bool). Leaves s h true (cond b (done (add_bound s i op x)) (add_residual (add_bound s i op x) h))) (sym e)
       (kept (add_bound s i op x) (same-add_bound s i op x))
 
-  no_bounds : (i : ℕ) (op : BinaryOp) → bounding op ≡ false → (n : Number) → Leaves s h false (range_applied h (ranged_by s i op n))
-  no_bounds i op e Nothing = residual
-  no_bounds i op e (Of x) =
+  no_bounds : (i : ℕ) (op : BinaryOp) → bounding op ≡ false → (n : Option Float) → Leaves s h false (range_applied h (ranged_by s i op n))
+  no_bounds i op e None = residual
+  no_bounds i op e (Some x) =
       subst (λ (b : Bool). Leaves s h false (cond b (done (add_bound s i op x)) (add_residual (add_bound s i op x) h))) (sym e)
       (left (add_bound s i op x) (same-add_bound s i op x))
 
@@ -233,15 +232,15 @@ module _ (p : Plan) (f : LogicalFacts) (e : Expr) (long : length (handles f.cons
 
   answer : apply_predicate p f e ≡ answered f f applied
   unfolding apply_predicate
-  answer = ap (λ (b : Bool). cond b (answered f f applied) (refused f NoSuch)) ok
+  answer = ap (λ (b : Bool). cond b (answered f f applied) (refused f (Err NoSuch))) ok
 
   -- refusal 7, exactly where the Rust's list would pass 64
-  pub outcome_exactly : (apply_predicate p f e).outcome ≡ cond (ltb 64 (length wanted)) Residuals Accepted
+  pub outcome_exactly : (apply_predicate p f e).outcome ≡ cond (ltb 64 (length wanted)) (Err Residuals) (Ok tt)
   outcome_exactly =
       ap (λ (a : FactsAnswer). a.outcome) answer ∙ by applied.refused
-      ∙ ap (λ (b : Bool). cond b Residuals Accepted) (refused_exactly p f.lineage f.constraints facts-roomy e.0)
+      ∙ ap (λ (b : Bool). cond b (Err Residuals) (Ok tt)) (refused_exactly p f.lineage f.constraints facts-roomy e.0)
     where
-      by : (b : Bool) → (cond b (refused f Residuals) (accepted (with_constraints f applied.constraints))).outcome ≡ cond b Residuals Accepted
+      by : (b : Bool) → (cond b (refused f (Err Residuals)) (accepted (with_constraints f applied.constraints))).outcome ≡ cond b (Err Residuals) (Ok tt)
       by true = refl
       by false = refl
 
@@ -252,7 +251,7 @@ module _ (p : Plan) (f : LogicalFacts) (e : Expr) (long : length (handles f.cons
       go : Fits applied wanted → listed (apply_predicate p f e).facts.constraints ≡ wanted
       go (inl q) =
           ap (λ (a : FactsAnswer). listed a.facts.constraints) answer
-          ∙ ap (λ (b : Bool). listed (cond b (refused f Residuals) (accepted (with_constraints f applied.constraints))).facts.constraints) q.0 ∙ q.1
+          ∙ ap (λ (b : Bool). listed (cond b (refused f (Err Residuals)) (accepted (with_constraints f applied.constraints))).facts.constraints) q.0 ∙ q.1
       go (inr q) = absurd (omega (arith, q.1, ltb-false 64 (length wanted) short))
 
 -- ---- the list has each handle once, so that its length is the number of distinct handles

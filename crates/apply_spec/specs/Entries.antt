@@ -1,8 +1,8 @@
 -- What the public entries answer: applying a predicate to facts, and merging two facts. Assumes nothing.
-use Rattle.std.specs.Prelude.{ℕ, Bool, cond, ◌&&◌, List, ltb, eqb, get_or, set}
+use Rattle.std.specs.Prelude.{ℕ, Bool, cond, ◌&&◌, List, ltb, eqb, get_or, set, Ok, Err, Result}
 use Rattle.constraint_spec.specs.Sets.{done, merge_from, steps_to}
 use Rattle.constraint_spec.specs.declared.ConstraintSet.{ConstraintSet}
-use Rattle.constraint_spec.specs.declared.Applied.{Applied}
+use Rattle.constraint_spec.specs.Answers.{Applied}
 use Rattle.plan.specs.declared.Plan.{Plan}
 use Rattle.plan.specs.declared.Expr.{Expr}
 use Rattle.plan_rules.specs.Rules.{plan_ok}
@@ -11,20 +11,20 @@ use Rattle.plan_data.specs.Nodes.{node_at}
 use Rattle.apply_spec.specs.Conjuncts.{conjuncts_of}
 use Rattle.apply_spec.specs.Apply.{conjunct_applied, all_applied}
 use Rattle.apply_spec.specs.declared.LogicalFacts.{LogicalFacts}
-use Rattle.apply_spec.specs.declared.FactsAnswer.{FactsAnswer}
-use Rattle.apply_spec.specs.declared.Outcome.{Outcome}
-use Rattle.apply_spec.specs.declared.Outcome.TheVariants.{Accepted, Residuals, NoSuch}
+use Rattle.apply_spec.specs.Told.{FactsAnswer}
+use Rattle.apply_spec.specs.declared.FactsError.{FactsError}
+use Rattle.apply_spec.specs.declared.FactsError.TheVariants.{Residuals, NoSuch}
 
 abbrev pub accepted : LogicalFacts → FactsAnswer
-accepted f = record { facts = f; outcome = Accepted }
+accepted f = record { facts = f; outcome = Ok tt }
 
 -- a refusal hands back the facts that were passed in
-abbrev pub refused : LogicalFacts → Outcome → FactsAnswer
+abbrev pub refused : LogicalFacts → Result (Unit {0}) FactsError → FactsAnswer
 refused f o = record { facts = f; outcome = o }
 
 -- the constraints that came of it, or refusal 7
 abbrev pub answered : LogicalFacts → LogicalFacts → Applied → FactsAnswer
-answered old f a = cond a.refused (refused old Residuals) (accepted (with_constraints f a.constraints))
+answered old f a = cond a.refused (refused old (Err Residuals)) (accepted (with_constraints f a.constraints))
 
 -- ---- `apply_predicate`
 unfoldable pub predicate_applied : Plan → List ℕ → ConstraintSet → ℕ → Applied
@@ -39,7 +39,7 @@ unfoldable pub apply_predicate : Plan → LogicalFacts → Expr → FactsAnswer
 apply_predicate p f e =
     cond (plan_ok p && (ltb e.0 p.expressions.count && facts_ok p f))
     (applied_to p f e)
-    (refused f NoSuch)
+    (refused f (Err NoSuch))
 
 -- ---- `merge_inputs`
 -- one `extend`: what the right has of a column stands
@@ -60,4 +60,4 @@ inputs_merged f g merge =
     (cond merge (merge_from f.constraints g.constraints) (done f.constraints))
 
 unfoldable pub merge_inputs : Plan → LogicalFacts → LogicalFacts → Bool → FactsAnswer
-merge_inputs p f g merge = cond (plan_ok p && (facts_ok p f && facts_ok p g)) (inputs_merged f g merge) (refused f NoSuch)
+merge_inputs p f g merge = cond (plan_ok p && (facts_ok p f && facts_ok p g)) (inputs_merged f g merge) (refused f (Err NoSuch))

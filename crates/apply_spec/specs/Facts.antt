@@ -1,18 +1,18 @@
 -- Facts: which identity a column has, which expression defines it, and the rules of facts that come from outside. Assumes nothing.
-use Rattle.std.specs.Prelude.{ℕ, ◌+◌, ◌-◌, Bool, not, ◌&&◌, ◌||◌, List, ltb, leb, eqb, get_or, replicate}
+use Rattle.std.specs.Prelude.{ℕ, ◌+◌, ◌-◌, Bool, not, ◌&&◌, ◌||◌, List, ltb, leb, eqb, get_or, replicate, Ok, Err, Result}
 use Rattle.lists.specs.Ranges.{all_from}
 use Rattle.constraint_spec.specs.Sets.{handle_at, set_ok, empty_set}
 use Rattle.constraint_spec.specs.declared.ConstraintSet.{ConstraintSet}
 use Rattle.plan.specs.declared.Plan.{Plan}
 use Rattle.apply_spec.specs.declared.LogicalFacts.{LogicalFacts}
-use Rattle.apply_spec.specs.declared.Outcome.{Outcome}
-use Rattle.apply_spec.specs.declared.Outcome.TheVariants.{Accepted, Residuals, NoSuch}
+use Rattle.apply_spec.specs.declared.FactsError.{FactsError}
+use Rattle.apply_spec.specs.declared.FactsError.TheVariants.{Residuals, NoSuch}
 
 -- the number of the refusal in the rules (docs/FORMAT.md), 0 for none
-abbrev pub refusal_of : Outcome → ℕ
-refusal_of Accepted = 0
-refusal_of Residuals = 7
-refusal_of NoSuch = 8
+abbrev pub refusal_of : Result (Unit {0}) FactsError → ℕ
+refusal_of (Ok tt) = 0
+refusal_of (Err Residuals) = 7
+refusal_of (Err NoSuch) = 8
 
 -- nothing is known: `LogicalFacts::default()`
 unfoldable pub empty_facts : LogicalFacts

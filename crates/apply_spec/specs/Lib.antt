@@ -1,3 +1,4 @@
+pub mod Told
 pub mod Facts
 pub mod Conjuncts
 pub mod Apply

@@ -1,5 +1,5 @@
 -- A row, when a predicate is TRUE of it, and when it meets facts. Assumes nothing.
-use Rattle.std.specs.Prelude.{◌≡◌, List, [], ◌∷◌, ℕ, ◌<◌, ◌^◌, T, get_or, length}
+use Rattle.std.specs.Prelude.{◌≡◌, List, [], ◌∷◌, ℕ, ◌<◌, ◌^◌, T, get_or, length, Ok}
 use Rattle.scalar.specs.Scalars.{Typed}
 use Rattle.scalar.specs.declared.ScalarValue.{ScalarValue}
 use Rattle.constraint_spec.specs.Sets.{empty_set}
@@ -11,7 +11,6 @@ use Rattle.plan_data.specs.declared.ExprData.{ExprData}
 use Rattle.apply_spec.specs.Facts.{has_lineage, identity_of}
 use Rattle.apply_spec.specs.Entries.{apply_predicate}
 use Rattle.apply_spec.specs.declared.LogicalFacts.{LogicalFacts}
-use Rattle.apply_spec.specs.declared.Outcome.TheVariants.{Accepted}
 use Rattle.rows_spec.specs.Compare.{truth_of}
 use Rattle.rows_spec.specs.Values.{value_at}
 
@@ -57,7 +56,7 @@ fresh_facts lineage definitions = record { lineage = lineage; definitions = defi
 -- predicates applied to f one after the other, each of them accepted, give g
 abbrev pub AcceptedAll : Plan → LogicalFacts → List Expr → LogicalFacts → Type 0
 AcceptedAll p f [] g = f ≡ g
-AcceptedAll p f (e ∷ es) g = ((apply_predicate p f e).outcome ≡ Accepted) × AcceptedAll p (apply_predicate p f e).facts es g
+AcceptedAll p f (e ∷ es) g = ((apply_predicate p f e).outcome ≡ Ok tt) × AcceptedAll p (apply_predicate p f e).facts es g
 
 -- each of them is TRUE of a row
 abbrev pub AllOn : Plan → WholeRow → List Expr → Type 0

@@ -1,9 +1,7 @@
 -- The residuals that a predicate leaves by the Rust's list, which has no bound. What is recorded otherwise hangs on the plan and the lineage, and
 -- not on what was recorded before. Assumes nothing.
-use Rattle.std.specs.Prelude.{ℕ, Bool, true, false, cond, ◌&&◌, ◌||◌, List, [], ◌∷◌}
+use Rattle.std.specs.Prelude.{ℕ, Bool, true, false, cond, ◌&&◌, ◌||◌, List, [], ◌∷◌, Some, None, Option, Float}
 use Rattle.scalar.specs.Scalars.{scalar_to_f64}
-use Rattle.scalar.specs.declared.Number.{Number}
-use Rattle.scalar.specs.declared.Number.TheVariants.{Of, Nothing}
 use Rattle.scalar.specs.declared.ScalarValue.{ScalarValue}
 use Rattle.scalar.specs.declared.ScalarValue.TheVariants as S
 use Rattle.comparison.specs.Operators.{ordinary}
@@ -21,9 +19,9 @@ use Rattle.apply_spec.specs.declared.Seen.{Seen}
 use Rattle.apply_spec.specs.declared.Seen.TheVariants.{Identity, Constant, Unseen}
 
 -- a literal gives bounds
-abbrev pub gives : Number → Bool
-gives Nothing = false
-gives (Of x) = true
+abbrev pub gives : Option Float → Bool
+gives None = false
+gives (Some x) = true
 
 -- two columns with lineage: Eq and IsNotDistinctFrom join classes
 abbrev pub pair_recorded : BinaryOp → Bool

@@ -5,7 +5,7 @@
 ghost use Rattle.std.specs.Prelude.{◌≡◌};
 ghost use Rattle.apply_spec.specs.Facts.{empty_facts};
 
-use constraint_spec::ConstraintSet;
+use constraint_spec::{ConstraintError, ConstraintSet};
 use scalar::ScalarValue;
 
 // By column: the number of its identity and one more, 0 for none; the handle of its defining expression and one more, 0 for none.
@@ -24,18 +24,21 @@ pub enum Seen {
     Unseen,
 }
 
-// What came of applying or merging: the new facts, or a refusal with the facts that were passed in.
-#[derive(Clone, Copy)]
-pub struct FactsAnswer {
-    pub facts: LogicalFacts,
-    pub outcome: Outcome,
-}
-
-#[derive(Clone, Copy)]
-pub enum Outcome {
-    Accepted,
+// Why facts were not changed: no room for another residual, or what came in breaks the rules.
+#[derive(Clone, Copy, PartialEq, Eq)]
+pub enum FactsError {
     Residuals,
     NoSuch,
+}
+
+impl From<ConstraintError> for FactsError {
+    ghost from_gives = { λ e f. f ≡ FactsError.Residuals };
+
+    fn from(e: ConstraintError) -> FactsError {
+        match e {
+            ConstraintError::Residuals => FactsError::Residuals,
+        }
+    }
 }
 
 impl LogicalFacts {

@@ -1,4 +1,5 @@
 -- Replies, from the answers that were had. Assumes nothing.
+use Rattle.std.proofs.Common.{Ok, Result}
 use Prim.Native.Nat.{ℕ, suc, ◌+◌, ◌<◌, ◌≤◌}
 use native.Mathlib.Numerals.{add-one}
 use mathlib.Core.Path.{◌≡◌, refl, sym, ap, ◌∙◌}
@@ -10,7 +11,7 @@ use lib.Seq.{drop-cons}
 use borrow.Author.Tests.{ne_eqb, eq-eqb}
 use Rattle.plan.specs.declared.Plan.{Plan}
 use Rattle.plan_file.specs.Answers as Files
-use Rattle.plan_file.specs.declared.Answer.{Answer}
+use Rattle.plan_file.specs.Answer.{Answer}
 use Rattle.plan_identities.specs.declared.Identities.{Identities}
 use Rattle.listing.specs.Listing.{listing_text}
 use Rattle.file_facts.specs.Known.{nothing_known, plan_known, answer_known}
@@ -18,15 +19,16 @@ use Rattle.file_facts.specs.declared.Known.{Known}
 use Rattle.apply_spec.specs.Facts as Applying
 use Rattle.apply_spec.specs.Entries.{apply_predicate}
 use Rattle.apply_spec.specs.declared.LogicalFacts.{LogicalFacts}
-use Rattle.apply_spec.specs.declared.FactsAnswer.{FactsAnswer}
-use Rattle.apply_spec.specs.declared.Outcome.TheVariants as O
+use Rattle.apply_spec.specs.Told.{FactsAnswer}
+use Rattle.apply_spec.specs.declared.FactsError.TheVariants as O
 use Rattle.refusals.specs.Numbers.{last_of, standing_of, truth_found}
 use Rattle.plan_file_write.specs.Written.{written_of}
 use Rattle.rows_spec.specs.Evaluate as Evaluating
 use Rattle.rows_spec.specs.declared.Row.{Row}
-use Rattle.rows_spec.specs.declared.Evaluation.{Evaluation}
+use Rattle.rows_spec.specs.declared.EvaluationError.{EvaluationError}
+use Rattle.scalar.specs.declared.ScalarValue.{ScalarValue}
 use Rattle.simplify_spec.specs.OneOperator as Simplifying
-use Rattle.simplify_spec.specs.declared.Rewritten.{Rewritten}
+use Rattle.simplify_spec.specs.Answers.{Rewritten}
 use Rattle.boundary.specs.Replies.{head_of, read_reply, on_plan, evaluate_reply, rewrite_reply, simplify_reply, cells_to, known_reply, derived_reply}
 use Rattle.boundary.specs.Replies.{derive_reply}
 use Rattle.boundary.specs.Replies.{facts_reply, turn_by, in_turn, turn_reply, applied_reply, apply_reply}
@@ -112,7 +114,7 @@ module _ (p : Plan) (h : ℕ) (es : List ℕ) (k : Known) (ek : k ≡ plan_known
 
 -- ---- predicates in turn: those from the k-th on
 module _ (p : Plan) (l : List ℕ) where
-  pub turn-done : (f : LogicalFacts) (k : ℕ) → length l ≤ k → record { facts = f; outcome = O.Accepted; place = 0 } ≡ in_turn p f (drop k l) k
+  pub turn-done : (f : LogicalFacts) (k : ℕ) → length l ≤ k → record { facts = f; outcome = (Ok tt); place = 0 } ≡ in_turn p f (drop k l) k
   unfolding in_turn
   turn-done f k h = rw (drop_of_length-le l {i = k} h)
 
@@ -150,12 +152,12 @@ pub read-said : (a b : Answer) → a ≡ b → head_of (Files.refusal_of a.readi
 unfolding read_reply
 read-said a b e = ap read_reply e
 
-pub evaluate_said : (p : Plan) (e : ℕ) (row : Row) (v : Evaluation) (n t : ℕ) → v ≡ Evaluating.evaluate_of p (record { 0 = e }) row → n ≡
+pub evaluate_said : (p : Plan) (e : ℕ) (row : Row) (v : Result ScalarValue EvaluationError) (n t : ℕ) → v ≡ Evaluating.evaluate_of p (record { 0 = e }) row → n ≡
     Evaluating.refusal_of
     v → t ≡ truth_found v
     → head_of n t ≡ evaluate_reply e row p
 unfolding evaluate_reply
-evaluate_said p e row v n t ev en et = (λ i. head_of (en i) (et i)) ∙ ap (λ (w : Evaluation). head_of (Evaluating.refusal_of w) (truth_found w)) ev
+evaluate_said p e row v n t ev en et = (λ i. head_of (en i) (et i)) ∙ ap (λ (w : Result ScalarValue EvaluationError). head_of (Evaluating.refusal_of w) (truth_found w)) ev
 
 pub simplify_said : (p : Plan) (o : ℕ) (r : Rewritten) (n s : ℕ) → r ≡ Simplifying.simplify_of p (record { 0 = o }) → n ≡ Simplifying.refusal_of
     r.rewrite

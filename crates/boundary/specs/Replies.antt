@@ -1,10 +1,10 @@
 -- The replies of the boundary, as bytes: the number of the refusal in the rules (docs/FORMAT.md), 0 for none; a number of eight bytes, high byte
 -- first; and what is handed
 -- back. Assumes nothing.
-use Rattle.std.specs.Prelude.{ℕ, zero, suc, cond, List, [], ◌∷◌, ◌++◌, eqb, get_or, set, replicate}
+use Rattle.std.specs.Prelude.{ℕ, zero, suc, cond, List, [], ◌∷◌, ◌++◌, eqb, get_or, set, replicate, Ok}
 use Rattle.plan.specs.declared.Plan.{Plan}
 use Rattle.plan_file.specs.Answers as Files
-use Rattle.plan_file.specs.declared.Answer.{Answer}
+use Rattle.plan_file.specs.Answer.{Answer}
 use Rattle.plan_file_laws.specs.Writing.{put8}
 use Rattle.plan_file_write.specs.Written.{written_of}
 use Rattle.plan_identities.specs.Identities.{identities_of}
@@ -14,14 +14,14 @@ use Rattle.plan_identities.specs.declared.Identities.{Identities}
 use Rattle.apply_spec.specs.Facts as Applying
 use Rattle.apply_spec.specs.Entries.{apply_predicate}
 use Rattle.apply_spec.specs.declared.LogicalFacts.{LogicalFacts}
-use Rattle.apply_spec.specs.declared.FactsAnswer.{FactsAnswer}
-use Rattle.apply_spec.specs.declared.Outcome.TheVariants as O
+use Rattle.apply_spec.specs.Told.{FactsAnswer}
+use Rattle.apply_spec.specs.declared.FactsError.TheVariants as O
 use Rattle.listing.specs.Listing.{listing_text}
 use Rattle.derive_spec.specs.Operators as Deriving
 use Rattle.derive_spec.specs.Deriving.{derive_of}
-use Rattle.derive_spec.specs.declared.DeriveAnswer.{DeriveAnswer}
+use Rattle.derive_spec.specs.Answers.{DeriveAnswer}
 use Rattle.simplify_spec.specs.OneOperator as Simplifying
-use Rattle.simplify_spec.specs.declared.Rewritten.{Rewritten}
+use Rattle.simplify_spec.specs.Answers.{Rewritten}
 use Rattle.file_facts.specs.declared.Known.{Known}
 use Rattle.refusals.specs.Numbers.{last_of, standing_of, truth_found}
 use Rattle.boundary.specs.declared.InTurn.{InTurn}
@@ -64,7 +64,7 @@ turn_by a k rest =
     cond (eqb (Applying.refusal_of a.outcome) 0) (rest a.facts) (record { facts = a.facts; outcome = a.outcome; place = k })
 
 unfoldable pub in_turn : Plan → LogicalFacts → List ℕ → ℕ → InTurn
-in_turn p f [] k = record { facts = f; outcome = O.Accepted; place = 0 }
+in_turn p f [] k = record { facts = f; outcome = (Ok tt); place = 0 }
 in_turn p f (e ∷ es) k = turn_by (apply_predicate p f (record { 0 = e })) k (λ g. in_turn p g es (suc k))
 
 -- the refusal and which predicate was refused, and the listing of the facts that are handed back

@@ -20,7 +20,7 @@ use Rattle.apply_spec.specs.Meaning.{fresh_facts, AcceptedAll}
 use Rattle.apply_spec.specs.declared.LogicalFacts.{LogicalFacts}
 use Rattle.simplify_spec.specs.OneExpression.{kept, took, add_literal as newLiteral, simplify_at}
 use Rattle.simplify_spec.specs.OneOperator.{start_of}
-use Rattle.simplify_spec.specs.declared.Simplified.{Simplified}
+use Rattle.simplify_spec.specs.Answers.{Simplified}
 use Rattle.simplify_spec.proofs.CaseEleven.{and_none, and_one, and-true, or-false}
 
 -- x and y are Int32 columns with lineage, z Int64, b Boolean; their identities are 0 to 3. The expressions, a line for eight of them:

@@ -4,7 +4,7 @@
 ghost use Rattle.std.specs.Prelude.{◌≡◌};
 ghost use Rattle.comparison.specs.Operators.{binary_op_code, binary_op_of, reversed_op, ordinary, bounding};
 
-#[derive(Clone, Copy)]
+#[derive(Clone, Copy, PartialEq, Eq)]
 pub enum BinaryOp {
     Eq,
     NotEq,
@@ -15,86 +15,67 @@ pub enum BinaryOp {
     IsNotDistinctFrom,
 }
 
-pub fn code_of_binary_op(op: BinaryOp) -> u8
-    ensures { result ≡ binary_op_code op }
-{
-    match op {
-        BinaryOp::Eq => 0,
-        BinaryOp::NotEq => 1,
-        BinaryOp::Lt => 2,
-        BinaryOp::LtEq => 3,
-        BinaryOp::Gt => 4,
-        BinaryOp::GtEq => 5,
-        BinaryOp::IsNotDistinctFrom => 6,
+impl From<BinaryOp> for u8 {
+    ghost from_gives = { λ op code. code ≡ binary_op_code op };
+
+    fn from(op: BinaryOp) -> u8 {
+        match op {
+            BinaryOp::Eq => 0,
+            BinaryOp::NotEq => 1,
+            BinaryOp::Lt => 2,
+            BinaryOp::LtEq => 3,
+            BinaryOp::Gt => 4,
+            BinaryOp::GtEq => 5,
+            BinaryOp::IsNotDistinctFrom => 6,
+        }
     }
 }
 
-// The comparison of a code; a number that is no comparison's code stands for Eq.
-pub fn binary_op_of(code: u8) -> BinaryOp
-    ensures { result ≡ binary_op_of code }
-{
-    if code == 1 {
-        return BinaryOp::NotEq;
-    }
-    if code == 2 {
-        return BinaryOp::Lt;
-    }
-    if code == 3 {
-        return BinaryOp::LtEq;
-    }
-    if code == 4 {
-        return BinaryOp::Gt;
-    }
-    if code == 5 {
-        return BinaryOp::GtEq;
-    }
-    if code == 6 {
-        return BinaryOp::IsNotDistinctFrom;
-    }
-    BinaryOp::Eq
-}
+// A number that is no comparison's code stands for Eq.
+impl From<u8> for BinaryOp {
+    ghost from_gives = { λ code op. op ≡ binary_op_of code };
 
-// The comparison with its sides exchanged.
-pub fn reversed(op: BinaryOp) -> BinaryOp
-    ensures { result ≡ reversed_op op }
-{
-    match op {
-        BinaryOp::Eq => BinaryOp::Eq,
-        BinaryOp::NotEq => BinaryOp::NotEq,
-        BinaryOp::Lt => BinaryOp::Gt,
-        BinaryOp::LtEq => BinaryOp::GtEq,
-        BinaryOp::Gt => BinaryOp::Lt,
-        BinaryOp::GtEq => BinaryOp::LtEq,
-        BinaryOp::IsNotDistinctFrom => BinaryOp::IsNotDistinctFrom,
+    fn from(code: u8) -> BinaryOp {
+        match code {
+            1 => BinaryOp::NotEq,
+            2 => BinaryOp::Lt,
+            3 => BinaryOp::LtEq,
+            4 => BinaryOp::Gt,
+            5 => BinaryOp::GtEq,
+            6 => BinaryOp::IsNotDistinctFrom,
+            _ => BinaryOp::Eq,
+        }
     }
 }
 
-// Whether it is one of the six that a NULL on either side makes UNKNOWN.
-pub fn is_ordinary(op: BinaryOp) -> bool
-    ensures { result ≡ ordinary op }
-{
-    match op {
-        BinaryOp::Eq => true,
-        BinaryOp::NotEq => true,
-        BinaryOp::Lt => true,
-        BinaryOp::LtEq => true,
-        BinaryOp::Gt => true,
-        BinaryOp::GtEq => true,
-        BinaryOp::IsNotDistinctFrom => false,
+impl BinaryOp {
+    // The comparison with its sides exchanged.
+    pub fn reversed(self) -> BinaryOp
+        ensures { result ≡ reversed_op self }
+    {
+        match self {
+            BinaryOp::Lt => BinaryOp::Gt,
+            BinaryOp::LtEq => BinaryOp::GtEq,
+            BinaryOp::Gt => BinaryOp::Lt,
+            BinaryOp::GtEq => BinaryOp::LtEq,
+            op => op,
+        }
     }
-}
 
-// Whether a number on its right bounds what is on its left.
-pub fn is_bounding(op: BinaryOp) -> bool
-    ensures { result ≡ bounding op }
-{
-    match op {
-        BinaryOp::Eq => false,
-        BinaryOp::NotEq => false,
-        BinaryOp::Lt => true,
-        BinaryOp::LtEq => true,
-        BinaryOp::Gt => true,
-        BinaryOp::GtEq => true,
-        BinaryOp::IsNotDistinctFrom => false,
+    // Whether it is one of the six that a NULL on either side makes UNKNOWN.
+    pub fn is_ordinary(self) -> bool
+        ensures { result ≡ ordinary self }
+    {
+        self != BinaryOp::IsNotDistinctFrom
+    }
+
+    // Whether a number on its right bounds what is on its left.
+    pub fn is_bounding(self) -> bool
+        ensures { result ≡ bounding self }
+    {
+        matches!(
+            self,
+            BinaryOp::Lt | BinaryOp::LtEq | BinaryOp::Gt | BinaryOp::GtEq
+        )
     }
 }

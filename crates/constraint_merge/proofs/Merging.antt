@@ -21,14 +21,14 @@ use Rattle.constraint_spec.specs.Sets.{join_member, join_class, merge_residual, 
 use Rattle.constraint_spec.specs.Sets.{normalized, merged_set, room_to, merge_room, merge_from}
 use Rattle.constraint_spec.specs.declared.Entry.{Entry}
 use Rattle.constraint_spec.specs.declared.ConstraintSet.{ConstraintSet}
-use Rattle.constraint_spec.specs.declared.Applied.{Applied}
+use Rattle.constraint_spec.specs.Answers.{Applied}
 use Rattle.constraint_spec.proofs.Steps.{steps-skip, steps_next}
 use Rattle.constraint_spec.proofs.Operations.{union_one}
 use Rattle.constraint_spec.proofs.Merge.{merge_done, merge_refused}
 use Rattle.constraint_merge.specs.Chained.{second_of, chained}
 use Rattle.constraint_merge.specs.Residuals.{residuals_kept}
 use Rattle.constraint_set.specs.Kept.{kept_by}
-use Rattle.constraint_set.specs.declared.Kept.{Kept}
+use Rattle.constraint_set.specs.Kept.{Kept}
 use Rattle.constraint_set.proofs.Loops.{range_written, range_lay}
 use Rattle.constraint_set.proofs.Residuals.{kept_set, kept-refused}
 

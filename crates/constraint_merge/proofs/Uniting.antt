@@ -10,7 +10,7 @@ use lib.ListN.{get_or}
 use Rattle.value_classes.specs.Classes.{Whole, classes_ok, canonical_of, joined_classes, roots_joined, union_of}
 use Rattle.laws.proofs.Bools.{and_left, and_right}
 use Rattle.value_classes.specs.declared.ValueEquivalenceClasses.{ValueEquivalenceClasses}
-use Rattle.value_classes.specs.declared.United.{United}
+use Rattle.value_classes.specs.Answers.{United}
 use Rattle.value_classes.specs.declared.Members.{Members}
 use Rattle.value_classes.proofs.ClassLaws.{roots_answered, roots_answered_lem, joined_roots}
 use Rattle.value_classes.proofs.ClassLaws.{joined-to-left, joined-to-right}

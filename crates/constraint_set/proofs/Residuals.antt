@@ -7,7 +7,7 @@ use lib.ListN.{set}
 use Rattle.constraint_spec.specs.Sets.{handles, with_residuals, has_handle, room_for, push_residual, applied_of, done, refused_with, add_residual}
 use Rattle.constraint_spec.specs.declared.ConstraintSet.{ConstraintSet}
 use Rattle.constraint_set.specs.Kept.{kept_by}
-use Rattle.constraint_set.specs.declared.Kept.{Kept}
+use Rattle.constraint_set.specs.Kept.{Kept}
 
 module _ (s : ConstraintSet) (h : ℕ) where
   abbrev k : Kept

@@ -1,7 +1,12 @@
 -- The residual handles by themselves: a list with a count. Assumes nothing.
 use Rattle.std.specs.Prelude.{ℕ, ◌+◌, min, Bool, true, false, cond, List, ltb, eqb, get_or, set}
 use Rattle.lists.specs.Ranges.{any_from}
-use Rattle.constraint_set.specs.declared.Kept.{Kept}
+
+-- the handles with one more, or as they were, with or without room for it
+pub record Kept : Type 0 where
+  pub list : List ℕ
+  pub count : ℕ
+  pub refused : Bool
 
 abbrev pub has_in : List ℕ → ℕ → ℕ → Bool
 has_in l n h = any_from (λ (k : ℕ). eqb (get_or l k 0) h) 0 (min n 64)

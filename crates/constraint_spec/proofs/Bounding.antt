@@ -1,4 +1,5 @@
 -- A bound says of a value of the literal's kind what the comparison does, and a value that is no NaN is the same as itself. Assumes nothing.
+use Rattle.std.proofs.Common.{Some}
 use mathlib.Core.Path.{◌≡◌, refl, sym, ap₂, ◌∙◌, subst}
 use mathlib.Core.Bool.{Bool, true, false, not, ◌||◌, and-true}
 use Prim.Native.Nat.{ℕ, ◌≤◌, ◌^◌}
@@ -17,7 +18,6 @@ use Rattle.scalar.specs.Scalars.{pairwise, scalar_to_f64, same_scalar, less_scal
 use Rattle.scalar.specs.declared.Kind.{Kind}
 use Rattle.scalar.specs.declared.ScalarValue.{ScalarValue}
 use Rattle.scalar.specs.declared.ScalarValue.TheVariants as S
-use Rattle.scalar.specs.declared.Number.TheVariants.{Of}
 use Rattle.scalar.proofs.ExactLaws.{lt-exact, lt_z_scale, eq_z_scale}
 use Rattle.scalar.proofs.NumberLaws.{converts}
 use Rattle.scalar.proofs.WholeLaws.{iff, eq_z→eq, eq→eq_z, lt→le}
@@ -135,9 +135,9 @@ one-kind (S.Date32 x) (S.Int64 y) n m k = k
 one-kind (S.Date32 x) (S.Float64 y) n m k = k
 one-kind (S.Date32 x) (S.Date32 y) n m k = tt
 
-measured : (v l : ScalarValue) → T (paired v l) → Typed v → Typed l → (x : Float) → scalar_to_f64 l ≡ Of x → Measured v l (value_of l)
+measured : (v l : ScalarValue) → T (paired v l) → Typed v → Typed l → (x : Float) → scalar_to_f64 l ≡ Some x → Measured v l (value_of l)
 measured =
-    by-pairs (λ (v l : ScalarValue). Typed v → Typed l → (x : Float) → scalar_to_f64 l ≡ Of x → Measured v l (value_of l))
+    by-pairs (λ (v l : ScalarValue). Typed v → Typed l → (x : Float) → scalar_to_f64 l ≡ Some x → Measured v l (value_of l))
     (λ (k l : Kind). false) (λ (x y : Bool). true) (λ (x y : ℤ). true) (λ (x y : ℤ). true) (λ (x y : Float). true) (λ (x y : ℤ). true)
     (λ x y t. absurd t)
     (λ x y t p q u e. no_number u e)
@@ -152,7 +152,7 @@ measured =
     eqs : (a b : ℤ) → eq_z (whole_in binary64 a) (whole_in binary64 b) ≡ eq_z a b
     eqs a b = eq_z_scale a b (2 ^ low binary64) (pow_pos (low binary64))
 
-    float : (x y : Float) → T true → T (fits binary64 x) → T (fits binary64 y) → (u : Float) → scalar_to_f64 (S.Float64 y) ≡ Of u → Measured
+    float : (x y : Float) → T true → T (fits binary64 x) → T (fits binary64 y) → (u : Float) → scalar_to_f64 (S.Float64 y) ≡ Some u → Measured
         (S.Float64 x)
         (S.Float64 y) (exact_in binary64 y)
     float x nan t p q u e = no_number u e
@@ -165,7 +165,7 @@ measured =
     }
 
 -- a literal that has a number is no NULL
-pub number-not-null : (l : ScalarValue) (x : Float) → scalar_to_f64 l ≡ Of x → T (not (is_null l))
+pub number-not-null : (l : ScalarValue) (x : Float) → scalar_to_f64 l ≡ Some x → T (not (is_null l))
 number-not-null (S.Null k) x e = no_number x e
 number-not-null (S.Boolean b) x e = tt
 number-not-null (S.Int32 n) x e = tt
@@ -182,7 +182,7 @@ pub record Tested (v l : ScalarValue) (x : Float) : Type 0 where
 
 -- of a value and a literal of one kind, neither NULL, each of the four comparisons is its bound. Assumes nothing
 pub tested : (v l : ScalarValue) → T (not (is_null v)) → T (same_kind (kind_of v) (kind_of l)) → Typed v → Typed l → (x : Float) → scalar_to_f64 l ≡
-    Of x → Tested v
+    Some x → Tested v
     l x
 tested v l n k tv tl x e =
     go (subst (Measured v l) (sym (converts l x tl e).same) (measured v l (one-kind v l n (number-not-null l x e) k) tv tl x e))

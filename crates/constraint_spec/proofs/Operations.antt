@@ -1,4 +1,5 @@
 -- What each operation asks of a row, exactly. Assumes nothing.
+use Rattle.std.proofs.Common.{Some, None}
 use mathlib.Core.Path.{◌≡◌, refl, sym, ap, ◌∙◌, subst}
 use mathlib.Core.Bool.{Bool, true, false, not, ◌||◌, cond}
 use mathlib.Core.List.{List}
@@ -18,7 +19,6 @@ use Rattle.scalar.specs.Exact.{finite}
 use Rattle.scalar.specs.Kinds.{is_null}
 use Rattle.scalar.specs.Scalars.{Typed, same_scalar, scalar_to_f64}
 use Rattle.scalar.specs.declared.ScalarValue.{ScalarValue}
-use Rattle.scalar.specs.declared.Number.TheVariants.{Of, Nothing}
 use Rattle.scalar.proofs.NumberLaws.{converts}
 use Rattle.value_range.specs.declared.ValueRange.{ValueRange}
 use Rattle.value_classes.specs.Classes.{Whole, Falling, canonical_of, joined_classes}
@@ -305,17 +305,17 @@ module _ (s : ConstraintSet) (g : Good s) (i : ℕ) (hi : i < 128) where
 
 -- ---- `add_range`, by the literal's number: with none nothing is recorded, and with one the comparison's bounds are
 module _ (s : ConstraintSet) (i : ℕ) (op : BinaryOp) (l : ScalarValue) where
-  pub range_none : scalar_to_f64 l ≡ Nothing → add_range s i op l ≡ record { constraints = s; recorded = false }
+  pub range_none : scalar_to_f64 l ≡ None → add_range s i op l ≡ record { constraints = s; recorded = false }
   unfolding add_range
   range_none e = ap (ranged_by s i op) e
 
-  pub range-some : (x : Float) → scalar_to_f64 l ≡ Of x → add_range s i op l ≡ record { constraints = add_bound s i op x; recorded = bounding op }
+  pub range-some : (x : Float) → scalar_to_f64 l ≡ Some x → add_range s i op l ≡ record { constraints = add_bound s i op x; recorded = bounding op }
   unfolding add_range
   range-some x e = ap (ranged_by s i op) e
 
 -- a row meets the set after `add_range` with a literal that bounds exactly if it met the set, i is not NULL, and is within. Assumes a good set
 pub add_range-iff : (s : ConstraintSet) (g : Good s) (i : ℕ) (hi : i < 128) (on : ℕ → Type 0) (v : ℕ → ScalarValue) (tv : (k : ℕ) → Typed (v k))
-    → (op : BinaryOp) (l : ScalarValue) → Typed l → (x : Float) → scalar_to_f64 l ≡ Of x
+    → (op : BinaryOp) (l : ScalarValue) → Typed l → (x : Float) → scalar_to_f64 l ≡ Some x
     → Meets on v (add_range s i op l).constraints ↔ (Meets on v s × (T (not (is_null (v i))) × T (ok_range (place_of (v i)) (bounds_by op x))))
 add_range-iff s g i hi on v tv op l tl x e =
     let c = converts l x tl e in

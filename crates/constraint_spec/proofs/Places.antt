@@ -1,5 +1,6 @@
 -- Where a value lies, against ranges: tightening a range by another admits what both admit, an empty range admits nothing, and a literal outside a
 -- range is the value of nothing within. Assumes nothing.
+use Rattle.std.proofs.Common.{Some, None, Option}
 use mathlib.Core.Path.{◌≡◌, refl, sym, ap, ap₂, ◌∙◌, subst}
 use mathlib.Core.Bool.{Bool, true, false, not, ◌&&◌, ◌||◌, cond, and-true, and-false}
 use Prim.Native.Nat.{ℕ}
@@ -18,8 +19,6 @@ use Rattle.value_range.specs.declared.Bound.{Bound}
 use Rattle.value_range.specs.declared.ValueRange.{ValueRange}
 use Rattle.scalar.specs.declared.ScalarValue.{ScalarValue}
 use Rattle.scalar.specs.declared.ScalarValue.TheVariants as S
-use Rattle.scalar.specs.declared.Number.{Number}
-use Rattle.scalar.specs.declared.Number.TheVariants.{Of, Nothing}
 use Rattle.value_range.proofs.RangeLaws.{up_to_le, upper_tightened, upper_keeps, upper_end-sound, lower-tightened, lower-keeps, lower-end-sound, nothing-within}
 use Rattle.scalar.proofs.NumberLaws.{converts}
 use Rattle.scalar.proofs.ExactLaws.{lt-exact, eq-exact}
@@ -152,10 +151,10 @@ ok-empty highest r s e k =
 ok-empty (point x) r s e k = subst T (nothing-within x r s (is_true (empty_range r) e)) k
 
 -- ---- a literal outside a range
-pub no_number : {X : Type 0} (x : Float) → Nothing ≡ Of x → X
+pub no_number : {X : Type 0} (x : Float) → None ≡ Some x → X
 no_number x e = absurd (let z : ◌≡◌ {A = ℕ} 0 1 = cc in omega arith)
 
-pub number-place : (l : ScalarValue) (x : Float) → Typed l → scalar_to_f64 l ≡ Of x → place_of l ≡ point (exact_in binary64 x)
+pub number-place : (l : ScalarValue) (x : Float) → Typed l → scalar_to_f64 l ≡ Some x → place_of l ≡ point (exact_in binary64 x)
 number-place (S.Null k) x t e = no_number x e
 number-place (S.Boolean b) x t e = no_number x e
 number-place (S.Int32 n) x t e = ap point (sym (converts (S.Int32 n) x t e).same)
@@ -190,7 +189,7 @@ module _ (x : Float) (fx : T (finite x)) (hx : T (fits binary64 x)) (r : ValueRa
   abbrev ex : Float → ℤ
   ex y = exact_in binary64 y
 
-  pub outside_no : T (outside (Of x) r) → T (ok_range (point (exact_in binary64 x)) r) → ⊥
+  pub outside_no : T (outside (Some x) r) → T (ok_range (point (exact_in binary64 x)) r) → ⊥
   outside_no t k =
       let l = r.lower in
       let u = r.upper in
@@ -219,8 +218,8 @@ pub literal-outside : (v l : ScalarValue) → Typed v → Typed l → T (same_sc
     (ok_range (place_of v) r) → ⊥
 literal-outside v l tv tl e r s = go (scalar_to_f64 l) refl
   where
-    go : (n : Number) → scalar_to_f64 l ≡ n → T (outside n r) → T (ok_range (place_of v) r) → ⊥
-    go Nothing g t k = t
-    go (Of x) g t k =
+    go : (n : Option Float) → scalar_to_f64 l ≡ n → T (outside n r) → T (ok_range (place_of v) r) → ⊥
+    go None g t k = t
+    go (Some x) g t k =
         let c = converts l x tl g in
         outside_no x c.number c.held r s t (subst (λ (p : Place). T (ok_range p r)) (same_place_lem v l e tv tl ∙ number-place l x tl g) k)

@@ -24,7 +24,7 @@ use Rattle.constraint_spec.specs.Sets.{merge_residuals, merge_values, merged_set
 use Rattle.constraint_spec.specs.Meets.{Good}
 use Rattle.constraint_spec.specs.Room.{listed, has, pushed, push_to, joint_list}
 use Rattle.constraint_spec.specs.declared.ConstraintSet.{ConstraintSet}
-use Rattle.constraint_spec.specs.declared.Applied.{Applied}
+use Rattle.constraint_spec.specs.Answers.{Applied}
 use Rattle.constraint_spec.proofs.Steps.{steps-good}
 use Rattle.constraint_spec.proofs.Beside.{Beside, beside_self, beside_null, beside_lay, beside_normalized, add_non_null_beside}
 use Rattle.constraint_spec.proofs.Beside.{add_literal_beside, add_bound_beside}

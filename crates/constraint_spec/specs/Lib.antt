@@ -1,3 +1,4 @@
+pub mod Answers
 pub mod Values
 pub mod Sets
 pub mod Meets

@@ -1,6 +1,6 @@
 -- What each operation makes of a set, as the Rust's ConstraintSet does: its maps are lists with an entry for each of the 128 identities,
 -- gone through from the first to the last. Assumes nothing.
-use Rattle.std.specs.Prelude.{Bool, true, false, not, ◌&&◌, ◌||◌, cond, List, ℕ, zero, suc, ◌+◌, min, eqb, ltb, leb, get_or, set, replicate, Float}
+use Rattle.std.specs.Prelude.{Bool, true, false, not, ◌&&◌, ◌||◌, cond, List, ℕ, zero, suc, ◌+◌, min, eqb, ltb, leb, get_or, set, replicate, Float, Some, None, Option}
 use Rattle.std.specs.Float.{nan}
 use Rattle.std.specs.Float.Ieee.{lt, eq}
 use Rattle.lists.specs.Ranges.{any_from}
@@ -9,22 +9,20 @@ use Rattle.scalar.specs.Scalars.{same_scalar, scalar_to_f64}
 use Rattle.scalar.specs.declared.Kind.TheVariants as K
 use Rattle.scalar.specs.declared.ScalarValue.{ScalarValue}
 use Rattle.scalar.specs.declared.ScalarValue.TheVariants as S
-use Rattle.scalar.specs.declared.Number.{Number}
-use Rattle.scalar.specs.declared.Number.TheVariants.{Of, Nothing}
 use Rattle.value_range.specs.Ranges.{no_bound, bound_at, unbounded_range, tighten_lower, tighten_upper, empty_range}
 use Rattle.value_range.specs.declared.Bound.{Bound}
 use Rattle.value_range.specs.declared.ValueRange.{ValueRange}
 use Rattle.value_classes.specs.Classes.{classes_ok, empty_classes, canonical_of, union_of}
 use Rattle.value_classes.specs.declared.ValueEquivalenceClasses.{ValueEquivalenceClasses}
-use Rattle.value_classes.specs.declared.United.{United}
+use Rattle.value_classes.specs.Answers.{United}
 use Rattle.comparison.specs.Operators.{bounding}
 use Rattle.comparison.specs.declared.BinaryOp.{BinaryOp}
 use Rattle.comparison.specs.declared.BinaryOp.TheVariants.{Eq, NotEq, Lt, LtEq, Gt, GtEq, IsNotDistinctFrom}
 use Rattle.constraint_spec.specs.declared.Holder.{Holder}
 use Rattle.constraint_spec.specs.declared.Entry.{Entry}
 use Rattle.constraint_spec.specs.declared.ConstraintSet.{ConstraintSet}
-use Rattle.constraint_spec.specs.declared.Ranged.{Ranged}
-use Rattle.constraint_spec.specs.declared.Applied.{Applied}
+use Rattle.constraint_spec.specs.Answers.{Ranged}
+use Rattle.constraint_spec.specs.Answers.{Applied}
 
 -- ---- a literal or a range, or nothing
 abbrev pub none : Holder
@@ -180,9 +178,9 @@ put_range s r new = flag_if (empty_range (tighten_by (range_in (entry_at s r)) n
 
 -- ---- `cross_check_literals_and_ranges`
 -- below || above
-abbrev pub outside : Number → ValueRange → Bool
-outside Nothing r = false
-outside (Of x) r =
+abbrev pub outside : Option Float → ValueRange → Bool
+outside None r = false
+outside (Some x) r =
     (r.lower.present && (lt x r.lower.value || (eq x r.lower.value && not r.lower.inclusive)))
     || (r.upper.present && (lt r.upper.value x || (eq x r.upper.value && not r.upper.inclusive)))
 
@@ -262,9 +260,9 @@ add_bound s i op x =
     (lay_range (put_non_null s (canonical_at s i)) (canonical_at s i) (bounds_by op x)))
     s
 
-abbrev pub ranged_by : ConstraintSet → ℕ → BinaryOp → Number → Ranged
-ranged_by s i op Nothing = record { constraints = s; recorded = false }
-ranged_by s i op (Of x) = record { constraints = add_bound s i op x; recorded = bounding op }
+abbrev pub ranged_by : ConstraintSet → ℕ → BinaryOp → Option Float → Ranged
+ranged_by s i op None = record { constraints = s; recorded = false }
+ranged_by s i op (Some x) = record { constraints = add_bound s i op x; recorded = bounding op }
 
 -- `add_range`, with what it returns
 unfoldable pub add_range : ConstraintSet → ℕ → BinaryOp → ScalarValue → Ranged

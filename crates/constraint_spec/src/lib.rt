@@ -35,18 +35,10 @@ pub struct ConstraintSet {
     pub contradictory: bool,
 }
 
-// A set, and whether a comparison is recorded in it.
-#[derive(Clone, Copy)]
-pub struct Ranged {
-    pub constraints: ConstraintSet,
-    pub recorded: bool,
-}
-
-// A set, or, where there is no room for another residual, the set that came.
-#[derive(Clone, Copy)]
-pub struct Applied {
-    pub constraints: ConstraintSet,
-    pub refused: bool,
+// Why a set did not take in what it was given: there is no room for another residual.
+#[derive(Clone, Copy, PartialEq, Eq)]
+pub enum ConstraintError {
+    Residuals,
 }
 
 impl Holder {

@@ -5,7 +5,7 @@ use mathlib.Core.Bool.{Bool, true, false, cond, true≢false}
 use mathlib.Core.List.{List, [], ◌∷◌}
 use Rattle.constraint_spec.specs.Sets.{done}
 use Rattle.constraint_spec.specs.declared.ConstraintSet.{ConstraintSet}
-use Rattle.constraint_spec.specs.declared.Applied.{Applied}
+use Rattle.constraint_spec.specs.Answers.{Applied}
 use Rattle.plan.specs.declared.Plan.{Plan}
 use Rattle.plan_data.specs.Nodes.{node_at}
 use Rattle.plan_data.specs.declared.ExprData.{ExprData}

@@ -1,5 +1,6 @@
 -- What holds of the empty set, and stays where a predicate is applied and where two sets are merged, holds of the constraints of every answer of deriving.
 -- Assumes nothing.
+use Rattle.std.proofs.Common.{Ok, Err, Result}
 use Prim.Native.Nat.{ℕ, zero, suc, ◌<◌, ◌≤◌}
 use mathlib.Core.Path.{◌≡◌, refl, sym, subst}
 use mathlib.Core.Bool.{Bool, true, false, cond, ◌&&◌}
@@ -12,7 +13,7 @@ use Rattle.laws.proofs.Bools.{cond_T_elim}
 use Rattle.lists.proofs.RangeLaws.{below_or_not}
 use Rattle.constraint_spec.specs.Sets.{empty_set, done, merge_from}
 use Rattle.constraint_spec.specs.declared.ConstraintSet.{ConstraintSet}
-use Rattle.constraint_spec.specs.declared.Applied.{Applied}
+use Rattle.constraint_spec.specs.Answers.{Applied}
 use Rattle.plan.specs.declared.Plan.{Plan}
 use Rattle.plan.specs.declared.Expr.{Expr}
 use Rattle.plan.specs.declared.Operator.{Operator}
@@ -29,15 +30,15 @@ use Rattle.plan_identities.specs.declared.Identities.{Identities}
 use Rattle.apply_spec.specs.Facts.{empty_facts, with_constraints, facts_ok}
 use Rattle.apply_spec.specs.Entries.{answered, predicate_applied, apply_predicate, overlaid, inputs_merged, merge_inputs}
 use Rattle.apply_spec.specs.declared.LogicalFacts.{LogicalFacts}
-use Rattle.apply_spec.specs.declared.FactsAnswer.{FactsAnswer}
-use Rattle.apply_spec.specs.declared.Outcome.{Outcome}
-use Rattle.apply_spec.specs.declared.Outcome.TheVariants as O
+use Rattle.apply_spec.specs.Told.{FactsAnswer}
+use Rattle.apply_spec.specs.declared.FactsError.{FactsError}
+use Rattle.apply_spec.specs.declared.FactsError.TheVariants as O
 use Rattle.derive_spec.specs.Columns.{columns_in, facts_with, keys_ok, aggregated}
 use Rattle.derive_spec.specs.Operators.{is_accepted, accepted, refused, given, fitted_by, fitted, filtered, joined, grouped, operator_derived}
 use Rattle.derive_spec.specs.Deriving.{missing, answers_to, answer_of, derive_of}
-use Rattle.derive_spec.specs.declared.DeriveOutcome.{DeriveOutcome}
-use Rattle.derive_spec.specs.declared.DeriveOutcome.TheVariants.{UnsupportedKey, Residuals, NoSuch}
-use Rattle.derive_spec.specs.declared.DeriveAnswer.{DeriveAnswer}
+use Rattle.derive_spec.specs.declared.DeriveError.{DeriveError}
+use Rattle.derive_spec.specs.declared.DeriveError.TheVariants.{UnsupportedKey, Residuals, NoSuch}
+use Rattle.derive_spec.specs.Answers.{DeriveAnswer}
 use Rattle.derive_spec.proofs.Answers.{answer-made, answer_at, answer-past}
 
 module _ (P : ConstraintSet → Type 0) (nothing : P empty_set)
@@ -51,7 +52,7 @@ module _ (P : ConstraintSet → Type 0) (nothing : P empty_set)
   InAnswer d = P d.facts.constraints
 
   -- ---- applying and merging
-  refused-has : (o : DeriveOutcome) → InAnswer (refused o)
+  refused-has : (o : Result (Unit {0}) DeriveError) → InAnswer (refused o)
   unfolding empty_facts
   refused-has o = nothing
 
@@ -63,17 +64,17 @@ module _ (P : ConstraintSet → Type 0) (nothing : P empty_set)
   fitted-has : (h : Operator) (a : FactsAnswer) → InFacts a.facts → InAnswer (fitted h a)
   fitted-has h a r = go a.outcome
     where
-      go : (o : Outcome) → InAnswer (fitted_by h a.facts o)
-      go O.Accepted = r
-      go O.Residuals = refused-has (Residuals h)
-      go O.NoSuch = refused-has (NoSuch h)
+      go : (o : Result (Unit {0}) FactsError) → InAnswer (fitted_by h a.facts o)
+      go (Ok tt) = r
+      go (Err O.Residuals) = refused-has (Err (Residuals h))
+      go (Err O.NoSuch) = refused-has (Err (NoSuch h))
 
   -- a refusal hands back the facts that were passed in
   answered-has : (old f : LogicalFacts) (a : Applied) → InFacts old → (a.refused ≡ false → P a.constraints) → InFacts (answered old f a).facts
   answered-has old f a q r = go a.refused refl
     where
       made : Bool → FactsAnswer
-      made b = cond b (record { facts = old; outcome = O.Residuals }) (record { facts = with_constraints f a.constraints; outcome = O.Accepted })
+      made b = cond b (record { facts = old; outcome = Err O.Residuals }) (record { facts = with_constraints f a.constraints; outcome = Ok tt })
 
       go : (b : Bool) → a.refused ≡ b → InFacts (made b).facts
       go true e = q
@@ -112,8 +113,8 @@ module _ (P : ConstraintSet → Type 0) (nothing : P empty_set)
     unfolding grouped
     grouped-has keys aggregates f =
         cond_T_elim InAnswer (keys_ok (node_at p) p.items.a keys)
-        (accepted (facts_with (aggregated ids (node_at p) p.items.a keys aggregates (columns_in f)) empty_set)) (refused (UnsupportedKey h))
-        (λ t. nothing) (refused-has (UnsupportedKey h))
+        (accepted (facts_with (aggregated ids (node_at p) p.items.a keys aggregates (columns_in f)) empty_set)) (refused (Err (UnsupportedKey h)))
+        (λ t. nothing) (refused-has (Err (UnsupportedKey h)))
 
     module _ (l r : DeriveAnswer) (rl : InAnswer l) (rr : InAnswer r) where
       operator-has : (o : OperatorData) → InAnswer (operator_derived p ids h l r o)
@@ -138,7 +139,7 @@ module _ (P : ConstraintSet → Type 0) (nothing : P empty_set)
       where
         go : (i < n) ⊎ (n ≤ i) → InAnswer (get_or (answers_to p n) i missing)
         go (inl l) = subst InAnswer (sym (answer_at p n i l)) (f i l)
-        go (inr l) = subst InAnswer (sym (answer-past p n i l)) (refused-has (NoSuch (record { 0 = 0 })))
+        go (inr l) = subst InAnswer (sym (answer-past p n i l)) (refused-has (Err (NoSuch (record { 0 = 0 }))))
 
     answer-below : (n h : ℕ) → h < n → InAnswer (answer_of p h)
     answer-below zero h b = absurd (omega arith)
@@ -153,20 +154,20 @@ module _ (P : ConstraintSet → Type 0) (nothing : P empty_set)
   pub derived_has : (p : Plan) (h : ℕ) → InAnswer (derive_of p h)
   unfolding derive_of
   derived_has p h =
-      cond_T_elim InAnswer (plan_ok p && ltb h p.operators.count) (answer_of p h) (refused (NoSuch (record { 0 = h }))) (λ t. answer-has p h)
-      (refused-has (NoSuch (record { 0 = h })))
+      cond_T_elim InAnswer (plan_ok p && ltb h p.operators.count) (answer_of p h) (refused (Err (NoSuch (record { 0 = h })))) (λ t. answer-has p h)
+      (refused-has (Err (NoSuch (record { 0 = h }))))
 
   -- ---- the two entries that take facts
   pub apply-has : (p : Plan) (f : LogicalFacts) (e : Expr) → InFacts f → InFacts (apply_predicate p f e).facts
   unfolding apply_predicate
   apply-has p f e r =
       cond_T_elim (λ (a : FactsAnswer). InFacts a.facts) (plan_ok p && (ltb e.0 p.expressions.count && facts_ok p f))
-      (answered f f (predicate_applied p f.lineage f.constraints e.0)) (record { facts = f; outcome = O.NoSuch })
+      (answered f f (predicate_applied p f.lineage f.constraints e.0)) (record { facts = f; outcome = Err O.NoSuch })
       (λ t. answered-has f f (predicate_applied p f.lineage f.constraints e.0) r (apply p f.lineage f.constraints e.0 r)) r
 
   pub merge_has : (p : Plan) (f g : LogicalFacts) (both : Bool) → InFacts f → InFacts g → InFacts (merge_inputs p f g both).facts
   unfolding merge_inputs
   merge_has p f g both rf rg =
       cond_T_elim (λ (a : FactsAnswer). InFacts a.facts) (plan_ok p && (facts_ok p f && facts_ok p g)) (inputs_merged f g both)
-      (record { facts = f; outcome = O.NoSuch })
+      (record { facts = f; outcome = Err O.NoSuch })
       (λ t. merged-has f g both rf rg) rf

@@ -28,7 +28,7 @@ use Rattle.constraint_spec.specs.Sets.{merge_values, merged_set, merge_room, mer
 use Rattle.constraint_spec.specs.declared.Holder.{Holder}
 use Rattle.constraint_spec.specs.declared.Entry.{Entry}
 use Rattle.constraint_spec.specs.declared.ConstraintSet.{ConstraintSet}
-use Rattle.constraint_spec.specs.declared.Applied.{Applied}
+use Rattle.constraint_spec.specs.Answers.{Applied}
 use Rattle.constraint_spec.proofs.Steps.{steps-good}
 use Rattle.constraint_spec.proofs.Goods.{at-replicate}
 use Rattle.constraint_spec.proofs.Empty.{empty-good}

@@ -1,4 +1,5 @@
 -- The local table of 128 answers holds what the definition's table has, and nothing past it. Assumes nothing.
+use Rattle.std.proofs.Common.{Ok}
 use Prim.Native.Nat.{ℕ, ◌+◌, ◌<◌, ◌≤◌, min}
 use mathlib.Core.Path.{◌≡◌, refl, sym, ◌∙◌}
 use mathlib.Core.Bool.{true, false}
@@ -23,8 +24,7 @@ use Rattle.apply_spec.specs.Facts.{with_constraints}
 use Rattle.apply_spec.specs.Meaning.{fresh_facts}
 use Rattle.derive_spec.specs.Operators.{operator_derived, outer_of, inner_of}
 use Rattle.derive_spec.specs.Deriving.{missing, answer_from, answers_to, answer_of}
-use Rattle.derive_spec.specs.declared.DeriveOutcome.TheVariants.{Accepted}
-use Rattle.derive_spec.specs.declared.DeriveAnswer.{DeriveAnswer}
+use Rattle.derive_spec.specs.Answers.{DeriveAnswer}
 use Rattle.derive_spec.proofs.Answers.{answer-made, answer_at, answer-past}
 
 -- what the logic reads past the end of a table
@@ -32,7 +32,7 @@ abbrev pub past : DeriveAnswer
 past =
     record {
       facts = with_constraints (fresh_facts [] []) (with_residuals (with_values empty_set (classes_by []) [] [] [] false) [] 0);
-      outcome = Accepted;
+      outcome = (Ok tt);
     }
 
 -- a plan that keeps the rules has at most 128 operators

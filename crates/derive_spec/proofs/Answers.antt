@@ -7,7 +7,7 @@ use lib.ListN.{get_or}
 use Rattle.laws.proofs.Lists.{table_at, table-past}
 use Rattle.plan.specs.declared.Plan.{Plan}
 use Rattle.derive_spec.specs.Deriving.{missing, answer_from, answers_to, answer_of}
-use Rattle.derive_spec.specs.declared.DeriveAnswer.{DeriveAnswer}
+use Rattle.derive_spec.specs.Answers.{DeriveAnswer}
 
 module _ (p : Plan) where
   abbrev next : ℕ → DeriveAnswer

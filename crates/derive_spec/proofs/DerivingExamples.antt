@@ -1,5 +1,6 @@
 -- Cases of the rules on real plans, by computing: the worked input, cases 1, 2 and 9, what Map, Rename, Aggregation and the joins leave, and who refuses.
 -- Assumes nothing.
+use Rattle.std.proofs.Common.{Err}
 use Prim.Native.Nat.{ℕ, ◌-◌}
 use mathlib.Core.Path.{◌≡◌, refl}
 use mathlib.Core.Bool.{Bool, true, false}
@@ -35,8 +36,8 @@ use Rattle.derive_spec.specs.Columns.{lineage_entry, definition_entry, assigned,
 use Rattle.derive_spec.specs.Columns.{projected, renamed, mapped, keys_ok, keys_of}
 use Rattle.derive_spec.specs.Operators.{accepted, refused, given, filtered, grouped}
 use Rattle.derive_spec.specs.Deriving.{answers_to, answer_of, derive_of}
-use Rattle.derive_spec.specs.declared.DeriveAnswer.{DeriveAnswer}
-use Rattle.derive_spec.specs.declared.DeriveOutcome.TheVariants.{UnsupportedKey, NoSuch}
+use Rattle.derive_spec.specs.Answers.{DeriveAnswer}
+use Rattle.derive_spec.specs.declared.DeriveError.TheVariants.{UnsupportedKey, NoSuch}
 
 -- ---- a plan from the parts of its tables that are used
 abbrev padded : ℕ → List ℕ → List ℕ
@@ -266,7 +267,7 @@ refuse_plan =
     (0 ∷ 0 ∷ 0 ∷ []) []
 
 -- a key that is no column reference
-key-refused : derive_of refuse_plan 1 ≡ refused (UnsupportedKey (record { 0 = 1 }))
+key-refused : derive_of refuse_plan 1 ≡ refused (Err (UnsupportedKey (record { 0 = 1 })))
 unfolding derive_of plan_ok counts_within all_from expr_ok_of record_ok lists_ok row_of line_of bits_ok handle_ok count_of more_of item_ok
     operator_ok_of scans_of any_from
     count_from answer_of answers_to operator_data identities_of filled base_of by_key table_in first_from number_by lineage_entry definition_entry
@@ -281,7 +282,7 @@ unfolding derive_of plan_ok counts_within all_from expr_ok_of record_ok lists_ok
 key-refused = refl
 
 -- the outer input counts, though the inner one has the lower handle
-outer_refused : derive_of refuse_plan 3 ≡ refused (UnsupportedKey (record { 0 = 2 }))
+outer_refused : derive_of refuse_plan 3 ≡ refused (Err (UnsupportedKey (record { 0 = 2 })))
 unfolding derive_of plan_ok counts_within all_from expr_ok_of record_ok lists_ok row_of line_of bits_ok handle_ok count_of more_of item_ok
     operator_ok_of scans_of any_from
     count_from answer_of answers_to operator_data identities_of filled base_of by_key table_in first_from number_by lineage_entry definition_entry
@@ -311,7 +312,7 @@ unfolding derive_of plan_ok counts_within all_from expr_ok_of record_ok lists_ok
 unreached = refl
 
 -- an operator that is not there: the number that was asked for
-no_such : derive_of refuse_plan 5 ≡ refused (NoSuch (record { 0 = 5 }))
+no_such : derive_of refuse_plan 5 ≡ refused (Err (NoSuch (record { 0 = 5 })))
 unfolding derive_of plan_ok counts_within all_from expr_ok_of record_ok lists_ok row_of line_of bits_ok handle_ok count_of more_of item_ok
     operator_ok_of scans_of any_from
     count_from answer_of answers_to operator_data identities_of filled base_of by_key table_in first_from number_by lineage_entry definition_entry

@@ -1,4 +1,5 @@
 -- A refusal hands back empty facts, whatever the plan and the handle. Assumes nothing.
+use Rattle.std.proofs.Common.{Ok, Err, Result}
 use mathlib.Core.Path.{◌≡◌, refl, sym, subst}
 use mathlib.Core.Bool.{Bool, true, false, cond, ◌&&◌, true≢false}
 use Prim.Native.Nat.{ℕ, zero, suc, ◌<◌, ◌≤◌}
@@ -24,15 +25,15 @@ use Rattle.plan_identities.specs.declared.Identities.{Identities}
 use Rattle.apply_spec.specs.Facts.{empty_facts}
 use Rattle.apply_spec.specs.Entries.{inputs_merged}
 use Rattle.apply_spec.specs.declared.LogicalFacts.{LogicalFacts}
-use Rattle.apply_spec.specs.declared.FactsAnswer.{FactsAnswer}
-use Rattle.apply_spec.specs.declared.Outcome.{Outcome}
-use Rattle.apply_spec.specs.declared.Outcome.TheVariants as O
+use Rattle.apply_spec.specs.Told.{FactsAnswer}
+use Rattle.apply_spec.specs.declared.FactsError.{FactsError}
+use Rattle.apply_spec.specs.declared.FactsError.TheVariants as O
 use Rattle.derive_spec.specs.Columns.{columns_in, facts_with, keys_ok, aggregated}
 use Rattle.derive_spec.specs.Operators.{is_accepted, accepted, refused, given, fitted_by, fitted, filtered, joined, grouped, operator_derived}
 use Rattle.derive_spec.specs.Deriving.{missing, answers_to, answer_of, derive_of}
-use Rattle.derive_spec.specs.declared.DeriveOutcome.{DeriveOutcome}
-use Rattle.derive_spec.specs.declared.DeriveOutcome.TheVariants.{UnsupportedKey, Residuals, NoSuch}
-use Rattle.derive_spec.specs.declared.DeriveAnswer.{DeriveAnswer}
+use Rattle.derive_spec.specs.declared.DeriveError.{DeriveError}
+use Rattle.derive_spec.specs.declared.DeriveError.TheVariants.{UnsupportedKey, Residuals, NoSuch}
+use Rattle.derive_spec.specs.Answers.{DeriveAnswer}
 use Rattle.derive_spec.proofs.Answers.{answer-made, answer_at, answer-past}
 
 abbrev pub Clean : DeriveAnswer → Type 0
@@ -41,7 +42,7 @@ Clean d = is_accepted d.outcome ≡ false → d.facts ≡ empty_facts
 clean-done : (f : LogicalFacts) → Clean (accepted f)
 clean-done f e = absurd (true≢false e)
 
-clean-refused : (o : DeriveOutcome) → Clean (refused o)
+clean-refused : (o : Result (Unit {0}) DeriveError) → Clean (refused o)
 clean-refused o e = refl
 
 clean-cond : (b : Bool) (d k : DeriveAnswer) → Clean d → Clean k → Clean (cond b d k)
@@ -52,10 +53,10 @@ clean-given : (d : DeriveAnswer) (make : LogicalFacts → DeriveAnswer) → Clea
 unfolding given
 clean-given d make c g = clean-cond (is_accepted d.outcome) (make d.facts) d (g d.facts) c
 
-clean-fitted : (h : Operator) (f : LogicalFacts) (o : Outcome) → Clean (fitted_by h f o)
-clean-fitted h f O.Accepted = clean-done f
-clean-fitted h f O.Residuals = clean-refused (Residuals h)
-clean-fitted h f O.NoSuch = clean-refused (NoSuch h)
+clean-fitted : (h : Operator) (f : LogicalFacts) (o : Result (Unit {0}) FactsError) → Clean (fitted_by h f o)
+clean-fitted h f (Ok tt) = clean-done f
+clean-fitted h f (Err O.Residuals) = clean-refused (Err (Residuals h))
+clean-fitted h f (Err O.NoSuch) = clean-refused (Err (NoSuch h))
 
 clean-fit : (h : Operator) (a : FactsAnswer) → Clean (fitted h a)
 clean-fit h a = clean-fitted h a.facts a.outcome
@@ -74,7 +75,7 @@ module _ (p : Plan) (ids : Identities) (h : Operator) where
   clean-grouped : (keys aggregates : Run) (f : LogicalFacts) → Clean (grouped p ids h keys aggregates f)
   unfolding grouped
   clean-grouped keys aggregates f = clean-cond (keys_ok (node_at p) p.items.a keys) _ _
-      (clean-done (facts_with (aggregated ids (node_at p) p.items.a keys aggregates (columns_in f)) empty_set)) (clean-refused (UnsupportedKey h))
+      (clean-done (facts_with (aggregated ids (node_at p) p.items.a keys aggregates (columns_in f)) empty_set)) (clean-refused (Err (UnsupportedKey h)))
 
   module _ (l r : DeriveAnswer) (cl : Clean l) (cr : Clean r) where
     clean-operator : (o : OperatorData) → Clean (operator_derived p ids h l r o)
@@ -99,7 +100,7 @@ module _ (p : Plan) where
     where
       go : (i < n) ⊎ (n ≤ i) → Clean (get_or (answers_to p n) i missing)
       go (inl l) = subst Clean (sym (answer_at p n i l)) (f i l)
-      go (inr l) = subst Clean (sym (answer-past p n i l)) (clean-refused (NoSuch (record { 0 = 0 })))
+      go (inr l) = subst Clean (sym (answer-past p n i l)) (clean-refused (Err (NoSuch (record { 0 = 0 }))))
 
   clean-below : (n h : ℕ) → h < n → Clean (answer_of p h)
   clean-below zero h l = absurd (omega arith)
@@ -111,4 +112,4 @@ module _ (p : Plan) where
   -- every refusal has empty facts
   pub refused-empty : (h : ℕ) → Clean (derive_of p h)
   unfolding derive_of
-  refused-empty h = clean-cond (plan_ok p && ltb h p.operators.count) _ _ (clean-below (suc h) h (omega arith)) (clean-refused (NoSuch (record { 0 = h })))
+  refused-empty h = clean-cond (plan_ok p && ltb h p.operators.count) _ _ (clean-below (suc h) h (omega arith)) (clean-refused (Err (NoSuch (record { 0 = h }))))

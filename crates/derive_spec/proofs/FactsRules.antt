@@ -1,4 +1,5 @@
 -- Facts that deriving hands out keep the rules of facts, so that `apply_predicate` and `merge_inputs` never refuse them by 8. Assumes nothing.
+use Rattle.std.proofs.Common.{Ok, Err, Result}
 use mathlib.Core.Path.{◌≡◌, refl, sym, subst}
 use mathlib.Core.Bool.{Bool, true, false, cond, ◌&&◌, ◌||◌}
 use mathlib.Core.List.{List}
@@ -14,7 +15,7 @@ use Rattle.lists.proofs.RangeLaws.{below_or_not, all-at, all_of}
 use Rattle.value_classes.specs.Classes.{Whole}
 use Rattle.constraint_spec.specs.Sets.{classes_of, handle_at, set_ok, empty_set, done, merge_from}
 use Rattle.constraint_spec.specs.declared.ConstraintSet.{ConstraintSet}
-use Rattle.constraint_spec.specs.declared.Applied.{Applied}
+use Rattle.constraint_spec.specs.Answers.{Applied}
 use Rattle.constraint_spec.proofs.Rules.{ruled, ruled-ok}
 use Rattle.plan.specs.declared.Plan.{Plan}
 use Rattle.plan.specs.declared.Expr.{Expr}
@@ -33,18 +34,18 @@ use Rattle.plan_identities.specs.declared.Identities.{Identities}
 use Rattle.apply_spec.specs.Facts.{refusal_of, empty_facts, with_constraints, identity_of, lineage_ok, definition_ok, residual_ok, facts_ok}
 use Rattle.apply_spec.specs.Entries.{answered, predicate_applied, apply_predicate, overridden, overlaid, inputs_merged, merge_inputs}
 use Rattle.apply_spec.specs.declared.LogicalFacts.{LogicalFacts}
-use Rattle.apply_spec.specs.declared.FactsAnswer.{FactsAnswer}
-use Rattle.apply_spec.specs.declared.Outcome.{Outcome}
-use Rattle.apply_spec.specs.declared.Outcome.TheVariants as O
+use Rattle.apply_spec.specs.Told.{FactsAnswer}
+use Rattle.apply_spec.specs.declared.FactsError.{FactsError}
+use Rattle.apply_spec.specs.declared.FactsError.TheVariants as O
 use Rattle.apply_spec.proofs.Applying.{Within}
 use Rattle.apply_spec.proofs.Answers.{columns-within}
 use Rattle.derive_spec.specs.Columns.{no_columns, columns_in, facts_with, keys_ok, aggregated}
 use Rattle.derive_spec.specs.Operators.{is_accepted, accepted, refused, given, fitted_by, fitted, filtered, joined, grouped, operator_derived}
 use Rattle.derive_spec.specs.Deriving.{missing, answers_to, answer_of, derive_of}
 use Rattle.derive_spec.specs.declared.ColumnFacts.{ColumnFacts}
-use Rattle.derive_spec.specs.declared.DeriveOutcome.{DeriveOutcome}
-use Rattle.derive_spec.specs.declared.DeriveOutcome.TheVariants.{UnsupportedKey, Residuals, NoSuch}
-use Rattle.derive_spec.specs.declared.DeriveAnswer.{DeriveAnswer}
+use Rattle.derive_spec.specs.declared.DeriveError.{DeriveError}
+use Rattle.derive_spec.specs.declared.DeriveError.TheVariants.{UnsupportedKey, Residuals, NoSuch}
+use Rattle.derive_spec.specs.Answers.{DeriveAnswer}
 use Rattle.derive_spec.proofs.Answers.{answer-made, answer_at, answer-past}
 use Rattle.derive_spec.proofs.SetRules.{RightSet, empty_right, merge_right, predicate-right}
 use Rattle.derive_spec.proofs.ColumnRules.{RightEntry, RightEntries, overridden-right, RightIdentity, RightDefinition, RightColumns}
@@ -139,7 +140,7 @@ module _ (p : Plan) (few : p.columns.count ≤ 64) where
   with_empty t c = with_columns t empty_set c (empty_right p.expressions.count)
 
   -- a refusal has empty facts
-  refused-right : (o : DeriveOutcome) → RightAnswer (refused o)
+  refused-right : (o : Result (Unit {0}) DeriveError) → RightAnswer (refused o)
   refused-right o = empty-facts p.columns.count p.expressions.count
 
   given-right : (d : DeriveAnswer) (make : LogicalFacts → DeriveAnswer) → RightAnswer d → ((f : LogicalFacts) → Right f → RightAnswer (make f)) → RightAnswer
@@ -150,16 +151,16 @@ module _ (p : Plan) (few : p.columns.count ≤ 64) where
   fitted-right : (h : Operator) (a : FactsAnswer) → Right a.facts → RightAnswer (fitted h a)
   fitted-right h a r = go a.outcome
     where
-      go : (o : Outcome) → RightAnswer (fitted_by h a.facts o)
-      go O.Accepted = r
-      go O.Residuals = refused-right (Residuals h)
-      go O.NoSuch = refused-right (NoSuch h)
+      go : (o : Result (Unit {0}) FactsError) → RightAnswer (fitted_by h a.facts o)
+      go (Ok tt) = r
+      go (Err O.Residuals) = refused-right (Err (Residuals h))
+      go (Err O.NoSuch) = refused-right (Err (NoSuch h))
 
   -- ---- applying and merging
   answered-right : (old f : LogicalFacts) (a : Applied) → Right old → Right (with_constraints f a.constraints) → Right (answered old f a).facts
   answered-right old f a q r =
-      cond_T_elim (λ (x : FactsAnswer). Right x.facts) a.refused (record { facts = old; outcome = O.Residuals })
-      (record { facts = with_constraints f a.constraints; outcome = O.Accepted })
+      cond_T_elim (λ (x : FactsAnswer). Right x.facts) a.refused (record { facts = old; outcome = Err O.Residuals })
+      (record { facts = with_constraints f a.constraints; outcome = Ok tt })
       (λ t. q) r
 
   filtered-right : (e : Expr) (f : LogicalFacts) → e.0 < p.expressions.count → Right f → Right (filtered p e f).facts
@@ -211,8 +212,8 @@ module _ (p : Plan) (few : p.columns.count ≤ 64) where
     unfolding grouped
     grouped-right keys aggregates f b r =
         cond_T_elim RightAnswer (keys_ok (node_at p) p.items.a keys)
-        (accepted (facts_with (aggregated ids (node_at p) p.items.a keys aggregates (columns_in f)) empty_set)) (refused (UnsupportedKey h))
-        (λ t. with_empty _ (aggregated-right p few (node_at p) p.items.a keys aggregates (columns_in f) b r.columns)) (refused-right (UnsupportedKey h))
+        (accepted (facts_with (aggregated ids (node_at p) p.items.a keys aggregates (columns_in f)) empty_set)) (refused (Err (UnsupportedKey h)))
+        (λ t. with_empty _ (aggregated-right p few (node_at p) p.items.a keys aggregates (columns_in f) b r.columns)) (refused-right (Err (UnsupportedKey h)))
 
     module _ (l r : DeriveAnswer) (rl : RightAnswer l) (rr : RightAnswer r) where
       operator-right : (o : OperatorData) → InRange p.columns.count p.expressions.count p.items.a p.items.b o → RightAnswer
@@ -269,7 +270,7 @@ unfolding derive_of
 derived_right p h = go (plan_ok p) (ltb h p.operators.count) refl refl
   where
     answer : Bool → DeriveAnswer
-    answer b = cond b (answer_of p h) (refused (NoSuch (record { 0 = h })))
+    answer b = cond b (answer_of p h) (refused (Err (NoSuch (record { 0 = h }))))
 
     nothing : RightFacts p.columns.count p.expressions.count empty_facts
     nothing = empty-facts p.columns.count p.expressions.count
@@ -289,7 +290,7 @@ answered-other : (old f : LogicalFacts) (a : Applied) → refusal_of (answered o
 answered-other old f a = go a.refused
   where
     made : Bool → FactsAnswer
-    made b = cond b (record { facts = old; outcome = O.Residuals }) (record { facts = with_constraints f a.constraints; outcome = O.Accepted })
+    made b = cond b (record { facts = old; outcome = Err O.Residuals }) (record { facts = with_constraints f a.constraints; outcome = Ok tt })
 
     go : (b : Bool) → refusal_of (made b).outcome ≡ 8 → ⊥
     go true e = absurd (omega (arith, e))
@@ -322,7 +323,7 @@ unfolding apply_predicate filtered
 apply-right p f e r = go (plan_ok p) (ltb e.0 p.expressions.count) (facts_ok p f) refl refl
   where
     answer : Bool → FactsAnswer
-    answer b = cond b (answered f f (predicate_applied p f.lineage f.constraints e.0)) (record { facts = f; outcome = O.NoSuch })
+    answer b = cond b (answered f f (predicate_applied p f.lineage f.constraints e.0)) (record { facts = f; outcome = Err O.NoSuch })
 
     go : (a b c : Bool) → plan_ok p ≡ a → ltb e.0 p.expressions.count ≡ b → RightFacts p.columns.count p.expressions.count
         (answer (a && (b && c))).facts
@@ -338,7 +339,7 @@ unfolding merge_inputs
 merge_inputs-right p f g merge rf rg = go (plan_ok p) (facts_ok p f && facts_ok p g) refl
   where
     answer : Bool → FactsAnswer
-    answer b = cond b (inputs_merged f g merge) (record { facts = f; outcome = O.NoSuch })
+    answer b = cond b (inputs_merged f g merge) (record { facts = f; outcome = Err O.NoSuch })
 
     go : (a b : Bool) → plan_ok p ≡ a → RightFacts p.columns.count p.expressions.count (answer (a && b)).facts
     go true true ea = merged-right p (few p ea) f g merge rf rg

@@ -1,4 +1,5 @@
 -- What the rules say of each kind of operator, for all facts. Assumes nothing.
+use Rattle.std.proofs.Common.{Err}
 use Prim.Native.Nat.{ℕ, zero, suc, ◌<◌}
 use mathlib.Core.Path.{◌≡◌, refl, ◌∙◌}
 use mathlib.Core.Bool.{Bool, true, false, cond}
@@ -28,7 +29,7 @@ use Rattle.derive_spec.specs.Columns.{keyed, keys_ok, derived_columns, key_step,
 use Rattle.derive_spec.specs.Columns.{aggregated}
 use Rattle.derive_spec.specs.Operators.{accepted, refused, joined, grouped}
 use Rattle.derive_spec.specs.declared.ColumnFacts.{ColumnFacts}
-use Rattle.derive_spec.specs.declared.DeriveOutcome.TheVariants.{UnsupportedKey}
+use Rattle.derive_spec.specs.declared.DeriveError.TheVariants.{UnsupportedKey}
 
 -- ---- joins: whose constraints stay
 module _ (p : Plan) (ids : Identities) (h : Operator) (on : Expr) (f g : LogicalFacts) where
@@ -68,7 +69,7 @@ module _ (p : Plan) (ids : Identities) (h : Operator) (keys aggregates : Run) (f
   grouped-free = go (keys_ok (node_at p) p.items.a keys)
     where
       go : (b : Bool) → (cond b (accepted (facts_with (aggregated ids (node_at p) p.items.a keys aggregates (columns_in f)) empty_set))
-          (refused (UnsupportedKey h))).facts.constraints ≡ empty_set
+          (refused (Err (UnsupportedKey h)))).facts.constraints ≡ empty_set
       go true = refl
       go false = refl
 

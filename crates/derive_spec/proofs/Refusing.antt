@@ -1,4 +1,5 @@
 -- Who refuses, and why: an operator that is reached, by its keys or because its residual list would pass 64. Assumes nothing.
+use Rattle.std.proofs.Common.{Ok, Err, Result}
 use mathlib.Core.Path.{◌≡◌, refl, sym, ap, subst, ◌∙◌}
 use mathlib.Core.Bool.{Bool, true, false, cond, ◌&&◌, true≢false}
 use mathlib.Core.List.{List, []}
@@ -10,7 +11,7 @@ use lib.ListN.{get_or, length}
 use borrow.Author.Tests.{lt-ltb, ltb-true}
 use Rattle.constraint_spec.specs.Sets.{empty_set, merge_from}
 use Rattle.constraint_spec.specs.Room.{joint_list}
-use Rattle.constraint_spec.specs.declared.Applied.{Applied}
+use Rattle.constraint_spec.specs.Answers.{Applied}
 use Rattle.plan.specs.declared.Plan.{Plan}
 use Rattle.plan.specs.declared.Expr.{Expr}
 use Rattle.plan.specs.declared.Operator.{Operator}
@@ -29,16 +30,16 @@ use Rattle.apply_spec.specs.Conjuncts.{conjuncts_of}
 use Rattle.apply_spec.specs.Entries.{answered, predicate_applied, overridden, overlaid, inputs_merged}
 use Rattle.apply_spec.specs.Wanted.{conjunct_recorded}
 use Rattle.apply_spec.specs.declared.LogicalFacts.{LogicalFacts}
-use Rattle.apply_spec.specs.declared.Outcome.TheVariants as O
+use Rattle.apply_spec.specs.declared.FactsError.TheVariants as O
 use Rattle.apply_spec.proofs.Refusals.{Roomy}
 use Rattle.derive_spec.specs.Columns.{columns_in, facts_with, keys_ok, aggregated}
 use Rattle.derive_spec.specs.Operators.{refusal_of, refuser_of, is_accepted, accepted, refused, given, fitted, filtered, joined, grouped}
 use Rattle.derive_spec.specs.Operators.{operator_derived, outer_of, inner_of}
 use Rattle.derive_spec.specs.Deriving.{missing, answers_to, answer_of, derive_of}
 use Rattle.derive_spec.specs.Residuals.{predicate_list, operator_list, residuals_at, keys_fine, IsInput, Reached, here, through}
-use Rattle.derive_spec.specs.declared.DeriveOutcome.{DeriveOutcome}
-use Rattle.derive_spec.specs.declared.DeriveOutcome.TheVariants.{Accepted, UnsupportedKey, Residuals}
-use Rattle.derive_spec.specs.declared.DeriveAnswer.{DeriveAnswer}
+use Rattle.derive_spec.specs.declared.DeriveError.{DeriveError}
+use Rattle.derive_spec.specs.declared.DeriveError.TheVariants.{UnsupportedKey, Residuals}
+use Rattle.derive_spec.specs.Answers.{DeriveAnswer}
 use Rattle.derive_spec.proofs.Answers.{answer-made, answer_at}
 use Rattle.derive_spec.proofs.Before.{inputs-before}
 use Rattle.derive_spec.proofs.Rooms.{roomy-empty, Kept, list-grows, predicate-kept, merge_kept}
@@ -53,27 +54,27 @@ Fine p h = (length (residuals_at p h) ≤ 64) × (keys_fine p (operator_at p h) 
 -- what the answer d of the operator h says
 pub data Told (p : Plan) (h : ℕ) (d : DeriveAnswer) : Type 0 where
   -- facts, with no more residuals than there is room for; its inputs have facts too
-  facts : d.outcome ≡ Accepted → Roomy d.facts.constraints → Fine p h → ((i : ℕ) → IsInput (operator_at p h) i → (answer_of p i).outcome ≡ Accepted) →
+  facts : d.outcome ≡ Ok tt → Roomy d.facts.constraints → Fine p h → ((i : ℕ) → IsInput (operator_at p h) i → (answer_of p i).outcome ≡ Ok tt) →
       Told
       p h d
   -- refusal 7 by an operator that is reached, whose list would pass 64
-  full : (q : ℕ) → Reached p h q → d.outcome ≡ Residuals (numbered q) → 64 < length (residuals_at p q) → Told p h d
+  full : (q : ℕ) → Reached p h q → d.outcome ≡ Err (Residuals (numbered q)) → 64 < length (residuals_at p q) → Told p h d
   -- refusal 6 by an operator that is reached, and has a key that is no column reference
-  key : (q : ℕ) → Reached p h q → d.outcome ≡ UnsupportedKey (numbered q) → keys_fine p (operator_at p q) ≡ false → Told p h d
+  key : (q : ℕ) → Reached p h q → d.outcome ≡ Err (UnsupportedKey (numbered q)) → keys_fine p (operator_at p q) ≡ false → Told p h d
 
 module _ (p : Plan) (h : ℕ) where
   -- an input's refusal is handed on; else its facts are used
   given-told : (d : DeriveAnswer) (make : LogicalFacts → DeriveAnswer) (i : ℕ) → IsInput (operator_at p h) i → Told p i d
-      → (d.outcome ≡ Accepted → Roomy d.facts.constraints → Told p h (make d.facts)) → Told p h (given d make)
+      → (d.outcome ≡ Ok tt → Roomy d.facts.constraints → Told p h (make d.facts)) → Told p h (given d make)
   unfolding given
-  given-told d make i u (facts e r fine up) f = subst (λ (o : DeriveOutcome). Told p h (cond (is_accepted o) (make d.facts) d)) (sym e) (f e r)
-  given-told d make i u (full q w e n) f = subst (λ (o : DeriveOutcome). Told p h (cond (is_accepted o) (make d.facts) d)) (sym e) (full q (through u
+  given-told d make i u (facts e r fine up) f = subst (λ (o : Result (Unit {0}) DeriveError). Told p h (cond (is_accepted o) (make d.facts) d)) (sym e) (f e r)
+  given-told d make i u (full q w e n) f = subst (λ (o : Result (Unit {0}) DeriveError). Told p h (cond (is_accepted o) (make d.facts) d)) (sym e) (full q (through u
       w) e n)
-  given-told d make i u (key q w e n) f = subst (λ (o : DeriveOutcome). Told p h (cond (is_accepted o) (make d.facts) d)) (sym e) (key q (through u w)
+  given-told d make i u (key q w e n) f = subst (λ (o : Result (Unit {0}) DeriveError). Told p h (cond (is_accepted o) (make d.facts) d)) (sym e) (key q (through u w)
       e n)
 
   -- an input's answer is used as it is by Sort, Limit and Output
-  passed_on : (d : DeriveAnswer) (i : ℕ) → IsInput (operator_at p h) i → Told p i d → (d.outcome ≡ Accepted → Roomy d.facts.constraints → Told p h d)
+  passed_on : (d : DeriveAnswer) (i : ℕ) → IsInput (operator_at p h) i → Told p i d → (d.outcome ≡ Ok tt → Roomy d.facts.constraints → Told p h d)
       → Told p h d
   passed_on d i u (facts e r fine up) f = f e r
   passed_on d i u (full q w e n) f = full q (through u w) e n
@@ -84,7 +85,7 @@ module _ (p : Plan) (h : ℕ) where
     abbrev list_here : List ℕ
     list_here = operator_list p (answer_of p (outer_of o)).facts (answer_of p (inner_of o)).facts o
 
-    full-here : (d : DeriveAnswer) → d ≡ refused (Residuals (numbered h)) → 64 < length list_here → Told p h d
+    full-here : (d : DeriveAnswer) → d ≡ refused (Err (Residuals (numbered h))) → 64 < length list_here → Told p h d
     full-here d e n =
         full h here (ap (λ (x : DeriveAnswer). x.outcome) e)
         (subst (λ (x : OperatorData). 64 < length (operator_list p (answer_of p (outer_of x)).facts (answer_of p (inner_of x)).facts x)) (sym is) n)
@@ -97,7 +98,7 @@ module _ (p : Plan) (h : ℕ) where
         (sym is) (n, k)
 
     abbrev Inputs : Type 0
-    Inputs = (i : ℕ) → IsInput (operator_at p h) i → (answer_of p i).outcome ≡ Accepted
+    Inputs = (i : ℕ) → IsInput (operator_at p h) i → (answer_of p i).outcome ≡ Ok tt
 
     -- what applying and merging say
     answered-told : Inputs → keys_fine p o ≡ true → (old f : LogicalFacts) (a : Applied) → Kept a list_here → Told p h (fitted (numbered h) (answered
@@ -105,12 +106,12 @@ module _ (p : Plan) (h : ℕ) where
     answered-told up k old f a (inl m) =
         subst (λ (t : Bool). Told p h
         (fitted (numbered h)
-        (cond t (record { facts = old; outcome = O.Residuals }) (record { facts = with_constraints f a.constraints; outcome = O.Accepted }))))
+        (cond t (record { facts = old; outcome = Err O.Residuals }) (record { facts = with_constraints f a.constraints; outcome = Ok tt }))))
         (sym m.0) (facts refl m.1 (fine_here m.3 k) up)
     answered-told up k old f a (inr m) =
         subst (λ (t : Bool). Told p h
         (fitted (numbered h)
-        (cond t (record { facts = old; outcome = O.Residuals }) (record { facts = with_constraints f a.constraints; outcome = O.Accepted }))))
+        (cond t (record { facts = old; outcome = Err O.Residuals }) (record { facts = with_constraints f a.constraints; outcome = Ok tt }))))
         (sym m.0) (full-here _ refl m.1)
 
     filter_told : Inputs → keys_fine p o ≡ true → (e : Expr) (f : LogicalFacts) → Kept (predicate_applied p f.lineage f.constraints e.0) list_here
@@ -139,7 +140,7 @@ module _ (p : Plan) (h : ℕ) where
         m = overlaid f g a.constraints
 
         both : Bool → DeriveAnswer
-        both t = given (fitted (numbered h) (cond t (record { facts = f; outcome = O.Residuals }) (record { facts = m; outcome = O.Accepted })))
+        both t = given (fitted (numbered h) (cond t (record { facts = f; outcome = Err O.Residuals }) (record { facts = m; outcome = Ok tt })))
             (λ m. fitted (numbered h) (filtered p on m))
 
         go : Kept a (joint_list f.constraints g.constraints) → Told p h (both a.refused)
@@ -170,29 +171,29 @@ module _ (p : Plan) (h : ℕ) where
     input o is i u = subst (λ (x : OperatorData). IsInput x i) (sym is) u
 
     -- all inputs have facts where those of the node have
-    inputs : (o : OperatorData) → operator_at p h ≡ o → ((i : ℕ) → IsInput o i → (answer_of p i).outcome ≡ Accepted) → (i : ℕ) → IsInput (operator_at
+    inputs : (o : OperatorData) → operator_at p h ≡ o → ((i : ℕ) → IsInput o i → (answer_of p i).outcome ≡ Ok tt) → (i : ℕ) → IsInput (operator_at
         p h) i
-        → (answer_of p i).outcome ≡ Accepted
+        → (answer_of p i).outcome ≡ Ok tt
     inputs o is f i u = f i (subst (λ (x : OperatorData). IsInput x i) is u)
 
-    one : (j : ℕ) → (answer_of p j).outcome ≡ Accepted → (i : ℕ) → i ≡ j → (answer_of p i).outcome ≡ Accepted
-    one j e i w = subst (λ (k : ℕ). (answer_of p k).outcome ≡ Accepted) (sym w) e
+    one : (j : ℕ) → (answer_of p j).outcome ≡ Ok tt → (i : ℕ) → i ≡ j → (answer_of p i).outcome ≡ Ok tt
+    one j e i w = subst (λ (k : ℕ). (answer_of p k).outcome ≡ Ok tt) (sym w) e
 
-    two : (j k : ℕ) → (answer_of p j).outcome ≡ Accepted → (answer_of p k).outcome ≡ Accepted → (i : ℕ) → (i ≡ j) ⊎ (i ≡ k) → (answer_of p i).outcome
-        ≡ Accepted
+    two : (j k : ℕ) → (answer_of p j).outcome ≡ Ok tt → (answer_of p k).outcome ≡ Ok tt → (i : ℕ) → (i ≡ j) ⊎ (i ≡ k) → (answer_of p i).outcome
+        ≡ Ok tt
     two j k e f i (inl w) = one j e i w
     two j k e f i (inr w) = one k f i w
 
     -- an answer with a set that has room, by a node that adds no residual
     module _ (o : OperatorData) (is : operator_at p h ≡ o) (none : list_here o is ≡ []) (k : keys_fine p o ≡ true) where
-      plain : ((i : ℕ) → IsInput o i → (answer_of p i).outcome ≡ Accepted) → (d : DeriveAnswer) → d.outcome ≡ Accepted → Roomy d.facts.constraints →
+      plain : ((i : ℕ) → IsInput o i → (answer_of p i).outcome ≡ Ok tt) → (d : DeriveAnswer) → d.outcome ≡ Ok tt → Roomy d.facts.constraints →
           Told p
           h d
       plain up d e r = facts e r (fine_here o is (subst (λ (l : List ℕ). length l ≤ 64) (sym none) (omega arith)) k) (inputs o is up)
 
       -- over one input, which is made into something else
       single : (i : ℕ) (make : LogicalFacts → DeriveAnswer) → IsInput o i → ((j : ℕ) → IsInput o j → j ≡ i) → ((f : LogicalFacts) → (make f).outcome ≡
-          Accepted)
+          (Ok tt))
           → ((f : LogicalFacts) → Roomy f.constraints → Roomy (make f).facts.constraints) → Told p h (given (answer_of p i) make)
       single i make u only yes-said room =
           given-told (answer_of p i) make i (input o is i u) (told i (input o is i u))
@@ -203,7 +204,7 @@ module _ (p : Plan) (h : ℕ) where
           passed_on (answer_of p i) i (input o is i u) (told i (input o is i u)) (λ e r. plain (λ j w. one i e j (only j w)) (answer_of p i) e r)
 
     joined-told : (j : JoinType) (on : Expr) (outer inner : Operator) → operator_at p h ≡ Join j on outer inner
-        → (answer_of p outer.0).outcome ≡ Accepted → (answer_of p inner.0).outcome ≡ Accepted
+        → (answer_of p outer.0).outcome ≡ Ok tt → (answer_of p inner.0).outcome ≡ Ok tt
         → Roomy (answer_of p outer.0).facts.constraints → Roomy (answer_of p inner.0).facts.constraints
         → Told p h (joined p ids (numbered h) on (answer_of p outer.0).facts (answer_of p inner.0).facts j)
     unfolding inputs_merged
@@ -220,7 +221,7 @@ module _ (p : Plan) (h : ℕ) where
     joined-told FullOuter on outer inner is eo ei rf rg = plain (Join FullOuter on outer inner) is refl refl (two outer.0 inner.0 eo ei) _ refl
         roomy-empty
 
-    grouped-told : (i : Operator) (keys aggregates : Run) → operator_at p h ≡ Aggregation i keys aggregates → (answer_of p i.0).outcome ≡ Accepted
+    grouped-told : (i : Operator) (keys aggregates : Run) → operator_at p h ≡ Aggregation i keys aggregates → (answer_of p i.0).outcome ≡ Ok tt
         → Told p h (grouped p ids (numbered h) keys aggregates (answer_of p i.0).facts)
     unfolding grouped
     grouped-told i keys aggregates is up = go (keys_ok (node_at p) p.items.a keys) refl
@@ -228,7 +229,7 @@ module _ (p : Plan) (h : ℕ) where
         go : (b : Bool) → keys_ok (node_at p) p.items.a keys ≡ b
             → Told p h
             (cond b (accepted (facts_with (aggregated ids (node_at p) p.items.a keys aggregates (columns_in (answer_of p i.0).facts)) empty_set))
-            (refused (UnsupportedKey (numbered h))))
+            (refused (Err (UnsupportedKey (numbered h)))))
         go true e = plain (Aggregation i keys aggregates) is refl e (one i.0 up) _ refl roomy-empty
         go false e = key h here refl (ap (keys_fine p) is ∙ e)
 
@@ -341,8 +342,8 @@ module _ (p : Plan) (ok : plan_ok p ≡ true) where
       go (full q w e n) =
           inr (
             ap refusal_of e,
-            subst (λ (o : DeriveOutcome). Reached p h (refuser_of o)) (sym e) w,
-            subst (λ (o : DeriveOutcome). 64 < length (residuals_at p (refuser_of o))) (sym e) n,
+            subst (λ (o : Result (Unit {0}) DeriveError). Reached p h (refuser_of o)) (sym e) w,
+            subst (λ (o : Result (Unit {0}) DeriveError). 64 < length (residuals_at p (refuser_of o))) (sym e) n,
           )
       go (key q w e n) = absurd (true≢false (sym (fine q (reached-below w l)) ∙ n))
 
@@ -355,28 +356,28 @@ module _ (p : Plan) (ok : plan_ok p ≡ true) where
       go (full q w e n) = let z : ◌≡◌ {A = ℕ} 8 7 = sym y ∙ ap refusal_of e in absurd (omega (arith, z))
       go (key q w e n) = let z : ◌≡◌ {A = ℕ} 8 6 = sym y ∙ ap refusal_of e in absurd (omega (arith, z))
 
-  accepted-told : (h : ℕ) → h < p.operators.count → (answer_of p h).outcome ≡ Accepted → Fine p h
-      × ((i : ℕ) → IsInput (operator_at p h) i → (answer_of p i).outcome ≡ Accepted)
+  accepted-told : (h : ℕ) → h < p.operators.count → (answer_of p h).outcome ≡ Ok tt → Fine p h
+      × ((i : ℕ) → IsInput (operator_at p h) i → (answer_of p i).outcome ≡ Ok tt)
   accepted-told h l y = go (told_below (suc h) h (omega arith) l)
     where
-      go : Told p h (answer_of p h) → Fine p h × ((i : ℕ) → IsInput (operator_at p h) i → (answer_of p i).outcome ≡ Accepted)
+      go : Told p h (answer_of p h) → Fine p h × ((i : ℕ) → IsInput (operator_at p h) i → (answer_of p i).outcome ≡ Ok tt)
       go (facts e r f up) = (f, up)
-      go (full q w e n) = let z : Accepted ≡ Residuals (numbered q) = sym y ∙ e in absurd (true≢false (ap is_accepted z))
-      go (key q w e n) = let z : Accepted ≡ UnsupportedKey (numbered q) = sym y ∙ e in absurd (true≢false (ap is_accepted z))
+      go (full q w e n) = let z : Ok tt ≡ Err (Residuals (numbered q)) = sym y ∙ e in absurd (true≢false (ap is_accepted z))
+      go (key q w e n) = let z : Ok tt ≡ Err (UnsupportedKey (numbered q)) = sym y ∙ e in absurd (true≢false (ap is_accepted z))
 
-  fine_all : {h q : ℕ} → Reached p h q → h < p.operators.count → (answer_of p h).outcome ≡ Accepted → Fine p q
+  fine_all : {h q : ℕ} → Reached p h q → h < p.operators.count → (answer_of p h).outcome ≡ Ok tt → Fine p q
   fine_all {h} here l y = (accepted-told h l y).0
   fine_all {h} (through {i = i} u w) l y =
       let m : i < h = inputs-before p ok h i l u in fine_all w (omega arith) ((accepted-told h l y).1 i u)
 
   -- an operator has facts exactly where each operator that it reaches has column references as keys and a residual list of at most 64
-  pub accepted_exactly : (h : ℕ) → h < p.operators.count → ((derive_of p h).outcome ≡ Accepted) ↔ ((q : ℕ) → Reached p h q → Fine p q)
+  pub accepted_exactly : (h : ℕ) → h < p.operators.count → ((derive_of p h).outcome ≡ Ok tt) ↔ ((q : ℕ) → Reached p h q → Fine p q)
   accepted_exactly h l = (
     (λ y q w. fine_all w l (sym (ap (λ (d : DeriveAnswer). d.outcome) (derive_answer h l)) ∙ y)),
     λ fine. back fine (derive_told h l),
   )
     where
-      back : ((q : ℕ) → Reached p h q → Fine p q) → Told p h (derive_of p h) → (derive_of p h).outcome ≡ Accepted
+      back : ((q : ℕ) → Reached p h q → Fine p q) → Told p h (derive_of p h) → (derive_of p h).outcome ≡ Ok tt
       back fine (facts e r f up) = e
       back fine (full q w e n) = absurd (omega (arith, n, (fine q w).0))
       back fine (key q w e n) = absurd (true≢false (sym (fine q w).1 ∙ n))

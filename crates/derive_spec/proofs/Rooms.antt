@@ -12,7 +12,7 @@ use Rattle.constraint_spec.specs.Sets.{merge_residuals}
 use Rattle.constraint_spec.specs.Sets.{merge_values, merged_set, room_to, merge_room, merge_from}
 use Rattle.constraint_spec.specs.Room.{listed, pushed, push_to, joint_list}
 use Rattle.constraint_spec.specs.declared.ConstraintSet.{ConstraintSet}
-use Rattle.constraint_spec.specs.declared.Applied.{Applied}
+use Rattle.constraint_spec.specs.Answers.{Applied}
 use Rattle.constraint_spec.proofs.RoomLaws.{same-normalized, same-listed, same-values, pushed_grows, length-listed, room_noted, room-full, Fits}
 use Rattle.constraint_spec.proofs.Merge.{merge_done, merge_refused}
 use Rattle.plan.specs.declared.Plan.{Plan}

@@ -1,4 +1,5 @@
 -- A set that keeps the rules, with residuals of the plan, stays so under a predicate of the plan and under a merge. Assumes nothing.
+use Rattle.std.proofs.Common.{Some, None, Option, Float}
 use mathlib.Core.Path.{sym, subst}
 use mathlib.Core.Bool.{true, false, cond, ◌&&◌, ◌||◌}
 use mathlib.Core.List.{List, [], ◌∷◌}
@@ -10,8 +11,6 @@ use lib.ListN.{get_or, set}
 use lib.Seq.{get_or-set_other}
 use Rattle.laws.proofs.Bools.{cond_T_elim}
 use Rattle.scalar.specs.Scalars.{scalar_to_f64}
-use Rattle.scalar.specs.declared.Number.{Number}
-use Rattle.scalar.specs.declared.Number.TheVariants.{Of, Nothing}
 use Rattle.scalar.specs.declared.ScalarValue.{ScalarValue}
 use Rattle.scalar.specs.declared.ScalarValue.TheVariants as S
 use Rattle.comparison.specs.Operators.{ordinary, bounding}
@@ -21,7 +20,7 @@ use Rattle.constraint_spec.specs.Sets.{handles, handle_at, with_residuals, with_
 use Rattle.constraint_spec.specs.Sets.{ranged_by, add_range, has_handle, room_for, push_residual, add_residual, done, refused_with, empty_set, steps_to}
 use Rattle.constraint_spec.specs.Sets.{merge_residual, merge_residuals, merge_values, merged_set, merge_room, merge_from}
 use Rattle.constraint_spec.specs.declared.ConstraintSet.{ConstraintSet}
-use Rattle.constraint_spec.specs.declared.Applied.{Applied}
+use Rattle.constraint_spec.specs.Answers.{Applied}
 use Rattle.constraint_spec.proofs.Steps.{steps-good}
 use Rattle.constraint_spec.proofs.Beside.{Beside, beside_self, beside_flag, add_non_null_beside, add_literal_beside, add_bound_beside}
 use Rattle.constraint_spec.proofs.Empty.{empty-good}
@@ -106,9 +105,9 @@ module _ (ne : ℕ) where
     literal : (i : ℕ) (v : ScalarValue) → Kept (done (add_literal s i v))
     literal i v = right_beside s (add_literal s i v) (add_literal_beside s i v) r
 
-    bounded : (i : ℕ) (op : BinaryOp) (n : Number) → Kept (range_applied h (ranged_by s i op n))
-    bounded i op Nothing = residual h hl s r
-    bounded i op (Of x) =
+    bounded : (i : ℕ) (op : BinaryOp) (n : Option Float) → Kept (range_applied h (ranged_by s i op n))
+    bounded i op None = residual h hl s r
+    bounded i op (Some x) =
         let q = right_beside s (add_bound s i op x) (add_bound_beside s i op x) r in
         cond_T_elim Kept (bounding op) (done (add_bound s i op x)) (add_residual (add_bound s i op x) h) (λ t. q) (residual h hl (add_bound s i op x) q)
 

@@ -1,6 +1,6 @@
 -- What each operator derives from its inputs' answers, a line a kind, to be read beside the `match` of the Rust's `derive_logical_facts`.
 -- Assumes nothing.
-use Rattle.std.specs.Prelude.{ℕ, Bool, true, false, cond}
+use Rattle.std.specs.Prelude.{ℕ, Bool, true, false, cond, Ok, Err, Result}
 use Rattle.constraint_spec.specs.Sets.{empty_set}
 use Rattle.plan.specs.declared.Plan.{Plan}
 use Rattle.plan.specs.declared.Expr.{Expr}
@@ -16,41 +16,41 @@ use Rattle.plan_identities.specs.declared.Identities.{Identities}
 use Rattle.apply_spec.specs.Facts.{empty_facts, with_constraints}
 use Rattle.apply_spec.specs.Entries.{applied_to, inputs_merged}
 use Rattle.apply_spec.specs.declared.LogicalFacts.{LogicalFacts}
-use Rattle.apply_spec.specs.declared.FactsAnswer.{FactsAnswer}
-use Rattle.apply_spec.specs.declared.Outcome.{Outcome}
-use Rattle.apply_spec.specs.declared.Outcome.TheVariants as O
+use Rattle.apply_spec.specs.Told.{FactsAnswer}
+use Rattle.apply_spec.specs.declared.FactsError.{FactsError}
+use Rattle.apply_spec.specs.declared.FactsError.TheVariants as O
 use Rattle.derive_spec.specs.Columns.{no_columns, columns_in, facts_with, derived_column, scanned, derived_columns, projected, renamed, mapped}
 use Rattle.derive_spec.specs.Columns.{keys_ok, aggregated}
-use Rattle.derive_spec.specs.declared.DeriveOutcome.{DeriveOutcome}
-use Rattle.derive_spec.specs.declared.DeriveOutcome.TheVariants.{Accepted, UnsupportedKey, Residuals, NoSuch}
-use Rattle.derive_spec.specs.declared.DeriveAnswer.{DeriveAnswer}
+use Rattle.derive_spec.specs.declared.DeriveError.{DeriveError}
+use Rattle.derive_spec.specs.declared.DeriveError.TheVariants.{UnsupportedKey, Residuals, NoSuch}
+use Rattle.derive_spec.specs.Answers.{DeriveAnswer}
 
 -- ---- answers
 -- the number of the refusal in the rules (docs/FORMAT.md), 0 for none
-abbrev pub refusal_of : DeriveOutcome → ℕ
-refusal_of Accepted = 0
-refusal_of (UnsupportedKey o) = 6
-refusal_of (Residuals o) = 7
-refusal_of (NoSuch o) = 8
+abbrev pub refusal_of : Result (Unit {0}) DeriveError → ℕ
+refusal_of (Ok tt) = 0
+refusal_of (Err (UnsupportedKey o)) = 6
+refusal_of (Err (Residuals o)) = 7
+refusal_of (Err (NoSuch o)) = 8
 
 -- the operator that refused, the P of `refused N P`; 0 where none did
-abbrev pub refuser_of : DeriveOutcome → ℕ
-refuser_of Accepted = 0
-refuser_of (UnsupportedKey o) = o.0
-refuser_of (Residuals o) = o.0
-refuser_of (NoSuch o) = o.0
+abbrev pub refuser_of : Result (Unit {0}) DeriveError → ℕ
+refuser_of (Ok tt) = 0
+refuser_of (Err (UnsupportedKey o)) = o.0
+refuser_of (Err (Residuals o)) = o.0
+refuser_of (Err (NoSuch o)) = o.0
 
-abbrev pub is_accepted : DeriveOutcome → Bool
-is_accepted Accepted = true
-is_accepted (UnsupportedKey o) = false
-is_accepted (Residuals o) = false
-is_accepted (NoSuch o) = false
+abbrev pub is_accepted : Result (Unit {0}) DeriveError → Bool
+is_accepted (Ok tt) = true
+is_accepted (Err (UnsupportedKey o)) = false
+is_accepted (Err (Residuals o)) = false
+is_accepted (Err (NoSuch o)) = false
 
 abbrev pub accepted : LogicalFacts → DeriveAnswer
-accepted f = record { facts = f; outcome = Accepted }
+accepted f = record { facts = f; outcome = Ok tt }
 
 -- a refusal has empty facts
-abbrev pub refused : DeriveOutcome → DeriveAnswer
+abbrev pub refused : Result (Unit {0}) DeriveError → DeriveAnswer
 refused o = record { facts = empty_facts; outcome = o }
 
 -- the Rust's `?`: what is made of an input's facts; an input's refusal is handed on
@@ -58,10 +58,10 @@ unfoldable pub given : DeriveAnswer → (LogicalFacts → DeriveAnswer) → Deri
 given d f = cond (is_accepted d.outcome) (f d.facts) d
 
 -- what applying or merging said is the answer of the operator h
-abbrev pub fitted_by : Operator → LogicalFacts → Outcome → DeriveAnswer
-fitted_by h f O.Accepted = accepted f
-fitted_by h f O.Residuals = refused (Residuals h)
-fitted_by h f O.NoSuch = refused (NoSuch h)
+abbrev pub fitted_by : Operator → LogicalFacts → Result (Unit {0}) FactsError → DeriveAnswer
+fitted_by h f (Ok tt) = accepted f
+fitted_by h f (Err O.Residuals) = refused (Err (Residuals h))
+fitted_by h f (Err O.NoSuch) = refused (Err (NoSuch h))
 
 abbrev pub fitted : Operator → FactsAnswer → DeriveAnswer
 fitted h a = fitted_by h a.facts a.outcome
@@ -86,7 +86,7 @@ unfoldable pub grouped : Plan → Identities → Operator → Run → Run → Lo
 grouped p ids h keys aggregates f =
     cond (keys_ok (node_at p) p.items.a keys)
     (accepted (facts_with (aggregated ids (node_at p) p.items.a keys aggregates (columns_in f)) empty_set))
-    (refused (UnsupportedKey h))
+    (refused (Err (UnsupportedKey h)))
 
 -- ---- the operator h, from the answer l of its input, or outer input, and the answer r of its inner input
 abbrev pub operator_derived : Plan → Identities → Operator → DeriveAnswer → DeriveAnswer → OperatorData → DeriveAnswer

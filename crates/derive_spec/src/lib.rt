@@ -2,7 +2,6 @@
 // defined in specs/.
 #![tactic(auto)]
 
-use apply_spec::LogicalFacts;
 use plan::Operator;
 
 // What of facts stands by column, as in LogicalFacts: the loops over an operator's lists need no more.
@@ -13,17 +12,9 @@ pub struct ColumnFacts {
 }
 
 // A refusal says which operator refused; NoSuch says which was asked for.
-#[derive(Clone, Copy)]
-pub enum DeriveOutcome {
-    Accepted,
+#[derive(Clone, Copy, PartialEq, Eq)]
+pub enum DeriveError {
     UnsupportedKey(Operator),
     Residuals(Operator),
     NoSuch(Operator),
-}
-
-// The facts of an operator, or a refusal with empty facts.
-#[derive(Clone, Copy)]
-pub struct DeriveAnswer {
-    pub facts: LogicalFacts,
-    pub outcome: DeriveOutcome,
 }

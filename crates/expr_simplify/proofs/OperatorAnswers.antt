@@ -1,4 +1,5 @@
 -- The ways of the functions over an operator, one by one, over their definitions. Assumes nothing.
+use Rattle.std.proofs.Common.{Ok, Err}
 use mathlib.Core.Path.{◌≡◌, refl, sym, ap, ap₂, fun_ext, ◌∙◌}
 use mathlib.Core.Bool.{Bool, true, false, not, cond, ◌&&◌, and-false}
 use mathlib.Core.List.{List}
@@ -13,7 +14,7 @@ use Rattle.plan_kinds.specs.declared.Record.{Record}
 use Rattle.plan.specs.declared.Plan.{Plan}
 use Rattle.plan.specs.declared.Items.{Items}
 use Rattle.plan.specs.declared.Operator.{Operator}
-use Rattle.plan.specs.declared.Appended.{Appended}
+use Rattle.plan.specs.Append.{Appended}
 use Rattle.plan.specs.Append.{append_operator, no_room, added_at, with_operator}
 use Rattle.plan.specs.Records.{operator_record, operator_start}
 use Rattle.plan_rules.specs.Rules.{plan_ok}
@@ -25,12 +26,13 @@ use Rattle.simplify_spec.specs.OneOperator.{held_of, held_count, held_at, each_w
 use Rattle.simplify_spec.specs.OneOperator.{with_list, rebuilt_of, plan_with, plan_added, answered, operator_handle, add_operator, input_or, rewrite_of}
 use Rattle.simplify_spec.specs.OneOperator.{start_of, each_of, simplify_of}
 use Rattle.simplify_spec.specs.declared.Tables.{Tables}
-use Rattle.simplify_spec.specs.declared.Simplified.{Simplified}
-use Rattle.simplify_spec.specs.declared.Each.{Each}
+use Rattle.simplify_spec.specs.Answers.{Simplified}
+use Rattle.simplify_spec.specs.Answers.{Each}
 use Rattle.simplify_spec.specs.declared.Held.{Held}
 use Rattle.simplify_spec.specs.declared.Held.TheVariants.{Nothing, One, Seconds, Firsts}
-use Rattle.simplify_spec.specs.declared.Rewrite.TheVariants.{Keep, Replace, Room, NoSuch}
-use Rattle.simplify_spec.specs.declared.Rewritten.{Rewritten}
+use Rattle.simplify_spec.specs.declared.Rewrite.TheVariants.{Keep, Replace}
+use Rattle.simplify_spec.specs.declared.SimplifyError.TheVariants.{Room, NoSuch}
+use Rattle.simplify_spec.specs.Answers.{Rewritten}
 use Rattle.plan_append.specs.Appending.{items_of}
 use Rattle.laws.proofs.Bools.{cond_elim}
 
@@ -110,13 +112,13 @@ module _ (p : Plan) (st : Tables) (d : OperatorData) (held : Held) (at : ℕ →
   abbrev test : ℕ → Bool
   test m = ltb p.operators.count 128 && leb (st.items.count + m) 2048
 
-  pub operator-off : not (ltb p.operators.count 128 && leb (st.items.count + n) 2048) ≡ true → (w : Rewritten) → w ≡ answered p Room → w ≡
+  pub operator-off : not (ltb p.operators.count 128 && leb (st.items.count + n) 2048) ≡ true → (w : Rewritten) → w ≡ answered p (Err Room) → w ≡
       add_operator p
       st d held at
   operator-off e w ew =
       ew ∙ (λ j. cond (sym (sym (ap test en) ∙ not-true (test n) e) j) (answered (plan_added p st d held at) (Replace (operator_handle
       p.operators.count)))
-      (answered p Room))
+      (answered p (Err Room)))
 
   pub items-fit : not (ltb p.operators.count 128 && leb (st.items.count + n) 2048) ≡ false → st.items.count + n ≤ 2048
   items-fit e = leb-true (st.items.count + n) 2048 (and_right (ltb p.operators.count 128) (leb (st.items.count + n) 2048) (not-false (test n) e))
@@ -129,34 +131,34 @@ module _ (p : Plan) (st : Tables) (d : OperatorData) (held : Held) (at : ℕ →
       → (y : Record) → y ≡ record_of_operator (rebuilt_of d st.items.count at)
       → (r : Appended) → r ≡ append_operator (record { columns = p.columns; expressions = st.exprs; operators = p.operators; items = items }) y
       st.items.count
-      → (w : Rewritten) → w ≡ answered r.plan (Replace (operator_handle p.operators.count)) → w ≡ add_operator p st d held at
+      → (w : Rewritten) → w ≡ answered r.plan (Ok (Replace (operator_handle p.operators.count))) → w ≡ add_operator p st d held at
   unfolding append_operator
   operator-on e items ei y ey r er w ew =
       let t : test n ≡ true = not-false (test n) e in
       let free : p.operators.count < 128 = ltb-true p.operators.count 128 (and_left (ltb p.operators.count 128) (leb (st.items.count + n) 2048) t)
       in
       ew
-      ∙ ap (λ (z : Appended). answered z.plan (Replace (operator_handle p.operators.count)))
+      ∙ ap (λ (z : Appended). answered z.plan (Ok (Replace (operator_handle p.operators.count))))
       (er
       ∙ (λ j. cond (lt-leb 128 p.operators.count free j) (no_room (base items))
       (added_at (with_operator (base items) y st.items.count) p.operators.count))
       ∙ (λ j. added_at (with_operator (base ((ei ∙ ap (λ (m : ℕ). with_list st.items m (item_first p.items held at) (item_second held at)) en) j)) (ey
       j)
       st.items.count) p.operators.count))
-      ∙ (λ j. cond (sym (sym (ap test en) ∙ t) j) (answered (plan_added p st d held at) (Replace (operator_handle p.operators.count))) (answered p
-      Room))
+      ∙ (λ j. cond (sym (sym (ap test en) ∙ t) j) (answered (plan_added p st d held at) (Ok (Replace (operator_handle p.operators.count)))) (answered p
+      (Err Room)))
 
 -- ---- Selection(true, input)
 module _ (p : Plan) (st : Tables) (d : OperatorData) (held : Held) (at : ℕ → ℕ) (x : Record) (start : ℕ) (v : Bool)
     (ev : v ≡ is_literal true (shape_in st (at 0))) where
-  pub input-through : (eqb x.kind 0x33 && v) ≡ true → (w : Rewritten) → w ≡ answered (plan_with p st) (Replace (operator_handle x.b))
+  pub input-through : (eqb x.kind 0x33 && v) ≡ true → (w : Rewritten) → w ≡ answered (plan_with p st) (Ok (Replace (operator_handle x.b)))
       → w ≡ input_or p st d held at (operator_data x start)
   unfolding operator_data
   input-through e w ew =
       let k : x.kind ≡ 0x33 = eqb-true x.kind 0x33 (and_left (eqb x.kind 0x33) v e) in
       let l : is_literal true (shape_in st (at 0)) ≡ true = sym ev ∙ and_right (eqb x.kind 0x33) v e in
       ew
-      ∙ (λ j. cond (sym l j) (answered (plan_with p st) (Replace (operator_handle x.b))) (add_operator p st d held at))
+      ∙ (λ j. cond (sym l j) (answered (plan_with p st) (Ok (Replace (operator_handle x.b)))) (add_operator p st d held at))
       ∙ rw k
 
   pub input-other : (eqb x.kind 0x33 && v) ≡ false → (w : Rewritten) → w ≡ add_operator p st d held at → w ≡ input_or p st d held at (operator_data x
@@ -177,7 +179,7 @@ module _ (p : Plan) (st : Tables) (d : OperatorData) (held : Held) (at : ℕ →
           (λ t. cond_elim P (eqb k 0x31) _ _ (λ t. refl)
           (λ t. cond_elim P (eqb k 0x32) _ _ (λ t. refl)
           (λ t. cond_elim P (eqb k 0x33) _ _
-          (λ t. (λ j. cond (sym (off t) j) (answered (plan_with p st) (Replace (operator_handle x.b))) (add_operator p st d held at)))
+          (λ t. (λ j. cond (sym (off t) j) (answered (plan_with p st) (Ok (Replace (operator_handle x.b)))) (add_operator p st d held at)))
           (λ t. cond_elim P (eqb k 0x34) _ _ (λ t. refl)
           (λ t. cond_elim P (eqb k 0x35) _ _ (λ t. refl)
           (λ t. cond_elim P (eqb k 0x36) _ _ (λ t. refl)
@@ -191,16 +193,16 @@ module _ (p : Plan) (st : Tables) (d : OperatorData) (held : Held) (at : ℕ →
 
 -- ---- the answer
 module _ (p : Plan) (d : OperatorData) (r : Each) (er : r ≡ each_of p d) where
-  pub rewrite_room : r.ok ≡ false → (w : Rewritten) → w ≡ answered p Room → w ≡ rewrite_of p d (each_of p d)
+  pub rewrite_room : r.ok ≡ false → (w : Rewritten) → w ≡ answered p (Err Room) → w ≡ rewrite_of p d (each_of p d)
   unfolding rewrite_of
   rewrite_room o w ew = ew ∙ (λ j. cond (sym o j) (cond r.st.changed (input_or p r.st d (held_of d) (λ (k : ℕ). get_or r.ats k 0) d) (answered p
-      Keep))
-      (answered p Room)) ∙ ap (rewrite_of p d) er
+      (Ok Keep)))
+      (answered p (Err Room))) ∙ ap (rewrite_of p d) er
 
-  pub rewrite_keep : r.ok ≡ true → r.st.changed ≡ false → (w : Rewritten) → w ≡ answered p Keep → w ≡ rewrite_of p d (each_of p d)
+  pub rewrite_keep : r.ok ≡ true → r.st.changed ≡ false → (w : Rewritten) → w ≡ answered p (Ok Keep) → w ≡ rewrite_of p d (each_of p d)
   unfolding rewrite_of
   rewrite_keep o c w ew =
-      ew ∙ (λ j. cond (sym o j) (cond (sym c j) (input_or p r.st d (held_of d) (λ (k : ℕ). get_or r.ats k 0) d) (answered p Keep)) (answered p Room))
+      ew ∙ (λ j. cond (sym o j) (cond (sym c j) (input_or p r.st d (held_of d) (λ (k : ℕ). get_or r.ats k 0) d) (answered p (Ok Keep))) (answered p (Err Room)))
       ∙ ap
       (rewrite_of p d) er
 
@@ -210,7 +212,7 @@ module _ (p : Plan) (d : OperatorData) (r : Each) (er : r ≡ each_of p d) where
   rewrite_changed o c held eh w ew =
       ew
       ∙ ap (λ (h : Held). input_or p r.st d h (λ (k : ℕ). get_or r.ats k 0) d) eh
-      ∙ (λ j. cond (sym o j) (cond (sym c j) (input_or p r.st d (held_of d) (λ (k : ℕ). get_or r.ats k 0) d) (answered p Keep)) (answered p Room))
+      ∙ (λ j. cond (sym o j) (cond (sym c j) (input_or p r.st d (held_of d) (λ (k : ℕ). get_or r.ats k 0) d) (answered p (Ok Keep))) (answered p (Err Room)))
       ∙ ap (rewrite_of p d) er
 
 pub each-held : (p : Plan) (d : OperatorData) (held : Held) → held ≡ held_of d → (r : Each) → r ≡ each_to p.expressions.count (held_at p.items held)
@@ -221,14 +223,14 @@ module _ (p : Plan) (o : Operator) (ok : Bool) (eo : ok ≡ plan_ok p) where
   abbrev whole : Rewritten
   whole = rewrite_of p (operator_at p o.0) (each_of p (operator_at p o.0))
 
-  pub simplify_bad : ok ≡ false → (w : Rewritten) → w ≡ answered p NoSuch → w ≡ simplify_of p o
+  pub simplify_bad : ok ≡ false → (w : Rewritten) → w ≡ answered p (Err NoSuch) → w ≡ simplify_of p o
   unfolding simplify_of
-  simplify_bad e w ew = ew ∙ (λ j. cond ((sym (sym eo ∙ e)) j && ltb o.0 p.operators.count) whole (answered p NoSuch))
+  simplify_bad e w ew = ew ∙ (λ j. cond ((sym (sym eo ∙ e)) j && ltb o.0 p.operators.count) whole (answered p (Err NoSuch)))
 
-  pub simplify_none : p.operators.count ≤ o.0 → (w : Rewritten) → w ≡ answered p NoSuch → w ≡ simplify_of p o
+  pub simplify_none : p.operators.count ≤ o.0 → (w : Rewritten) → w ≡ answered p (Err NoSuch) → w ≡ simplify_of p o
   unfolding simplify_of
   simplify_none le w ew =
-      ew ∙ (λ j. cond (sym (ap (λ (b : Bool). plan_ok p && b) (le-ltb o.0 p.operators.count le) ∙ and-false (plan_ok p)) j) whole (answered p NoSuch))
+      ew ∙ (λ j. cond (sym (ap (λ (b : Bool). plan_ok p && b) (le-ltb o.0 p.operators.count le) ∙ and-false (plan_ok p)) j) whole (answered p (Err NoSuch)))
 
   pub simplify_some : ok ≡ true → o.0 < p.operators.count → (x : Record) → x ≡ operator_record p o.0 → (start : ℕ) → start ≡ operator_start p o.0
       → (w : Rewritten) → w ≡ rewrite_of p (operator_data x start) (each_of p (operator_data x start)) → w ≡ simplify_of p o
@@ -236,4 +238,4 @@ module _ (p : Plan) (o : Operator) (ok : Bool) (eo : ok ≡ plan_ok p) where
   simplify_some e lt x ex start es w ew =
       ew
       ∙ (λ j. rewrite_of p (operator_data (ex j) (es j)) (each_of p (operator_data (ex j) (es j))))
-      ∙ (λ j. cond (sym ((λ i. (sym eo ∙ e) i && lt-ltb o.0 p.operators.count lt i)) j) whole (answered p NoSuch))
+      ∙ (λ j. cond (sym ((λ i. (sym eo ∙ e) i && lt-ltb o.0 p.operators.count lt i)) j) whole (answered p (Err NoSuch)))

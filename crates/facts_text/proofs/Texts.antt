@@ -6,7 +6,7 @@ use mathlib.Core.List.{List}
 use lib.Dec.{eqb}
 use borrow.Author.Tests.{ne_eqb}
 use Rattle.plan_file.specs.Answers as Files
-use Rattle.plan_file.specs.declared.Answer.{Answer}
+use Rattle.plan_file.specs.Answer.{Answer}
 use Rattle.listing.specs.Listing.{listing_text, refused_line}
 use Rattle.refusals.specs.Numbers.{last_of}
 use Rattle.file_facts.specs.Known.{nothing_known, plan_known, answer_known}

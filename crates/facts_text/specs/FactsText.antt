@@ -2,12 +2,12 @@
 use Rattle.std.specs.Prelude.{ℕ, cond, List, eqb}
 use Rattle.plan.specs.declared.Plan.{Plan}
 use Rattle.plan_file.specs.Answers as Files
-use Rattle.plan_file.specs.declared.Answer.{Answer}
+use Rattle.plan_file.specs.Answer.{Answer}
 use Rattle.plan_identities.specs.Identities.{identities_of}
 use Rattle.listing.specs.Listing.{listing_text, refused_line}
 use Rattle.derive_spec.specs.Operators as Deriving
 use Rattle.derive_spec.specs.Deriving.{derive_of}
-use Rattle.derive_spec.specs.declared.DeriveAnswer.{DeriveAnswer}
+use Rattle.derive_spec.specs.Answers.{DeriveAnswer}
 use Rattle.refusals.specs.Numbers.{last_of}
 
 -- of the operator h, from what deriving answers: P is the operator that refused

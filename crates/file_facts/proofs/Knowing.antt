@@ -5,14 +5,14 @@ use lib.ListN.{replicate}
 use borrow.Author.Tests.{ne_eqb}
 use Rattle.plan.specs.declared.Plan.{Plan}
 use Rattle.plan_file.specs.Answers as Files
-use Rattle.plan_file.specs.declared.Answer.{Answer}
+use Rattle.plan_file.specs.Answer.{Answer}
 use Rattle.plan_identities.specs.Identities.{identities_of}
 use Rattle.plan_identities.specs.declared.Identities.{Identities}
 use Rattle.apply_spec.specs.Facts.{empty_facts}
 use Rattle.apply_spec.specs.declared.LogicalFacts.{LogicalFacts}
 use Rattle.derive_spec.specs.Operators as Deriving
 use Rattle.derive_spec.specs.Deriving.{derive_of}
-use Rattle.derive_spec.specs.declared.DeriveAnswer.{DeriveAnswer}
+use Rattle.derive_spec.specs.Answers.{DeriveAnswer}
 use Rattle.file_facts.specs.Known.{nothing_known, plan_known, answer_known}
 use Rattle.file_facts.specs.declared.Known.{Known}
 

@@ -2,7 +2,7 @@
 use Rattle.std.specs.Prelude.{ℕ, cond, eqb, replicate}
 use Rattle.plan.specs.declared.Plan.{Plan}
 use Rattle.plan_file.specs.Answers as Files
-use Rattle.plan_file.specs.declared.Answer.{Answer}
+use Rattle.plan_file.specs.Answer.{Answer}
 use Rattle.plan_identities.specs.Identities.{identities_of}
 use Rattle.apply_spec.specs.Facts.{empty_facts}
 use Rattle.derive_spec.specs.Operators as Deriving

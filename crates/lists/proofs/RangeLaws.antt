@@ -142,3 +142,10 @@ any_of f (suc n) i k lo hi e = elim (ℕ_discrete k i) [
   | yes q ↦ ap (λ (b : Bool). b || any_from f (suc i) n) (subst (λ (j : ℕ). f j ≡ true) q e)
   | no d ↦ or_inr (f i) (any_from f (suc i) n) (any_of f n (suc i) k (omega arith) (omega arith) e)
 ]
+
+-- what a loop over a run of places needs, one place at a time: whether all pass, whether one passes, how many pass
+pub ruleset all_loop = (all-fails, all-passes, all_done)
+
+pub ruleset any_loop = (any_found, any_missed, any-done)
+
+pub ruleset count_loop = (count-found, count_missed, count-done)

@@ -1,22 +1,18 @@
-// Reading a lent slice at any place: past its end stands 0.
+// Reading and writing a lent slice at any place: past its end stands what the caller says, and nothing is written there.
 #![tactic(auto)]
 
-ghost use Rattle.std.specs.Prelude.{◌≡◌, get_or};
+ghost use Rattle.std.specs.Prelude.{◌≡◌, get_or, set};
 
-pub fn at8(s: &[u8], i: usize) -> u8
-    ensures { result ≡ get_or s.now i 0 }
+pub fn at<T: Copy>(s: &[T], i: usize, past: T) -> T
+    ensures { result ≡ get_or s.now i past }
 {
-    if i < s.len() { s[i] } else { 0 }
+    s.get(i).copied().unwrap_or(past)
 }
 
-pub fn at16(s: &[u16], i: usize) -> u16
-    ensures { result ≡ get_or s.now i 0 }
+pub fn put<T: Copy>(s: &mut [T], i: usize, v: T)
+    ensures { s.new ≡ set s.old i v }
 {
-    if i < s.len() { s[i] } else { 0 }
-}
-
-pub fn at64(s: &[u64], i: usize) -> u64
-    ensures { result ≡ get_or s.now i 0 }
-{
-    if i < s.len() { s[i] } else { 0 }
+    if i < s.len() {
+        s[i] = v;
+    }
 }

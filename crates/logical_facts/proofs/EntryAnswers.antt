@@ -1,16 +1,17 @@
 -- The public entries, one law for each way out: a test that fails, and the answer where all pass. Assumes nothing.
+use Rattle.std.proofs.Common.{Err}
 use mathlib.Core.Path.{◌≡◌, ◌∙◌}
 use mathlib.Core.Bool.{Bool, true, false, cond}
 use Rattle.lists.specs.Ranges.{all_from}
 use Rattle.constraint_spec.specs.Sets.{set_ok, merge_from, done}
-use Rattle.constraint_spec.specs.declared.Applied.{Applied}
+use Rattle.constraint_spec.specs.Answers.{Applied}
 use Rattle.plan.specs.declared.Plan.{Plan}
 use Rattle.plan_rules.specs.Rules.{plan_ok}
 use Rattle.apply_spec.specs.Facts.{lineage_ok, definition_ok, residual_ok, facts_ok}
 use Rattle.apply_spec.specs.Entries.{refused, answered, inputs_merged, merge_inputs}
 use Rattle.apply_spec.specs.declared.LogicalFacts.{LogicalFacts}
-use Rattle.apply_spec.specs.declared.FactsAnswer.{FactsAnswer}
-use Rattle.apply_spec.specs.declared.Outcome.TheVariants.{NoSuch}
+use Rattle.apply_spec.specs.Told.{FactsAnswer}
+use Rattle.apply_spec.specs.declared.FactsError.TheVariants.{NoSuch}
 use Rattle.logical_facts.specs.Columns.{columns_over}
 use Rattle.logical_facts.specs.declared.ByColumn.{ByColumn}
 
@@ -41,15 +42,15 @@ module _ (p : Plan) (f : LogicalFacts) where
 
 -- ---- `merge_inputs`
 module _ (p : Plan) (f g : LogicalFacts) (merge : Bool) where
-  pub merge_fail_1 : plan_ok p ≡ false → refused f NoSuch ≡ merge_inputs p f g merge
+  pub merge_fail_1 : plan_ok p ≡ false → refused f (Err NoSuch) ≡ merge_inputs p f g merge
   unfolding merge_inputs
   merge_fail_1 a = rw a
 
-  pub merge_fail_2 : plan_ok p ≡ true → facts_ok p f ≡ false → refused f NoSuch ≡ merge_inputs p f g merge
+  pub merge_fail_2 : plan_ok p ≡ true → facts_ok p f ≡ false → refused f (Err NoSuch) ≡ merge_inputs p f g merge
   unfolding merge_inputs
   merge_fail_2 a b = rw (a, b)
 
-  pub merge_fail_3 : plan_ok p ≡ true → facts_ok p f ≡ true → facts_ok p g ≡ false → refused f NoSuch ≡ merge_inputs p f g merge
+  pub merge_fail_3 : plan_ok p ≡ true → facts_ok p f ≡ true → facts_ok p g ≡ false → refused f (Err NoSuch) ≡ merge_inputs p f g merge
   unfolding merge_inputs
   merge_fail_3 a b c = rw (a, b, c)
 

@@ -11,7 +11,7 @@ use lib.ListN.{length, get_or, set, length-set}
 use lib.Seq.{get_or-set_same, get_or-set_other}
 use Rattle.plan_kinds.specs.declared.Record.{Record}
 use Rattle.plan.specs.declared.Plan.{Plan}
-use Rattle.plan.specs.declared.Appended.{Appended}
+use Rattle.plan.specs.Append.{Appended}
 use Rattle.plan.specs.declared.Items.{Items}
 use Rattle.plan.specs.Append.{with_column, with_expr, with_operator, with_item, append_column, append_expr, append_operator, append_item}
 use Rattle.plan.specs.Records.{column_record, expr_record, expr_start, operator_record, operator_start, item_record}

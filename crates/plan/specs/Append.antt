@@ -1,24 +1,31 @@
 -- Appending to a plan: the plan with one entry more and the entry's place, or Room (3) and the plan as it was. Assumes nothing.
-use Rattle.std.specs.Prelude.{ℕ, cond, leb}
+use Rattle.std.specs.Prelude.{ℕ, cond, leb, Ok, Err, Result}
 use Rattle.plan_kinds.specs.declared.Record.{Record}
 use Rattle.plan.specs.Plans.{column_pushed, expression_pushed, operator_pushed, item_pushed}
 use Rattle.plan.specs.declared.Plan.{Plan}
-use Rattle.plan.specs.declared.Appended.{Appended}
-use Rattle.plan.specs.declared.Added.{Added}
-use Rattle.plan.specs.declared.Added.TheVariants.{At, Room}
+use Rattle.plan.specs.declared.AppendError.{AppendError}
+use Rattle.plan.specs.declared.AppendError.TheVariants.{Room}
 
 -- the number of the refusal in the rules (docs/FORMAT.md), 0 for none
-abbrev pub refusal_of : Added → ℕ
-refusal_of (At n) = 0
-refusal_of Room = 3
+abbrev pub refusal_of : Result ℕ AppendError → ℕ
+refusal_of (Ok n) = 0
+refusal_of (Err Room) = 3
 
 -- where the entry stands, 0 for none
-abbrev pub place_of : Added → ℕ
-place_of (At n) = n
-place_of Room = 0
+abbrev pub place_of : Result ℕ AppendError → ℕ
+place_of (Ok n) = n
+place_of (Err Room) = 0
+
+-- a plan after appending, and where the new entry stands, if there was room
+pub record Appended : Type 0 where
+  pub plan : Plan
+  pub added : Result ℕ AppendError
+
+abbrev pub appended : Plan → Result ℕ AppendError → Appended
+appended p x = record { plan = p; added = x }
 
 abbrev pub no_room : Plan → Appended
-no_room p = record { plan = p; added = Room }
+no_room p = record { plan = p; added = Err Room }
 
 -- the plan with one entry more
 abbrev pub with_column : Plan → Record → Plan
@@ -38,7 +45,7 @@ with_item p x =
     record { columns = p.columns; expressions = p.expressions; operators = p.operators; items = item_pushed p.items x }
 
 abbrev pub added_at : Plan → ℕ → Appended
-added_at p n = record { plan = p; added = At n }
+added_at p n = record { plan = p; added = Ok n }
 
 -- a column; an expression or operator whose lists start at `start`; a list item
 unfoldable pub append_column : Plan → Record → Appended

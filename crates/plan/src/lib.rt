@@ -1,22 +1,22 @@
 // A plan as a value: columns, expressions, operators and list items in four tables of fixed size, each filled from its start.
 #![tactic(auto)]
 
-ghost use Rattle.std.specs.Prelude.{◌≡◌, ◌<◌};
+ghost use Rattle.std.specs.Prelude.{◌≡◌, cond, ltb, get_or};
 ghost use Rattle.plan.specs.Plans.{empty_columns, empty_expressions, empty_operators, empty_items, empty_plan, column_pushed, expression_pushed};
 ghost use Rattle.plan.specs.Plans.{operator_pushed, item_pushed};
-ghost use Rattle.plan.specs.Append.{append_column, append_expr, append_operator, append_item};
-ghost use Rattle.plan.specs.Records.{expr_record_of, operator_record_of, item_record_of};
+ghost use Rattle.plan.specs.Append.{appended, append_column, append_expr, append_operator, append_item};
+ghost use Rattle.plan.specs.Records.{column_record_in, expr_record_in, operator_record_in, item_record_in};
 
 use plan_kinds::Record;
 
 // Handles: three kinds, each a number.
-#[derive(Clone, Copy)]
+#[derive(Clone, Copy, PartialEq, Eq)]
 pub struct Column(pub u16);
 
-#[derive(Clone, Copy)]
+#[derive(Clone, Copy, PartialEq, Eq)]
 pub struct Expr(pub u16);
 
-#[derive(Clone, Copy)]
+#[derive(Clone, Copy, PartialEq, Eq)]
 pub struct Operator(pub u16);
 
 // A column's name and the code of its kind.
@@ -68,16 +68,9 @@ pub struct Plan {
     pub items: Items,
 }
 
-// A plan with one entry more, and where it stands; or the plan as it was, where there is no room.
-#[derive(Clone, Copy)]
-pub struct Appended {
-    pub plan: Plan,
-    pub added: Added,
-}
-
-#[derive(Clone, Copy)]
-pub enum Added {
-    At(u16),
+// Why an entry was not appended: its table is full.
+#[derive(Clone, Copy, PartialEq, Eq)]
+pub enum AppendError {
     Room,
 }
 
@@ -92,17 +85,31 @@ impl Columns {
         }
     }
 
-    fn push(self, x: Record) -> Columns
-        requires { self.count < 64 }
-        ensures { result ≡ column_pushed self x }
+    // The record of column i; past the end of a table stand zeros.
+    pub fn record(&self, i: usize) -> Record
+        ensures { result ≡ column_record_in self.now i }
     {
-        let n = self.count;
-        let i = n as usize;
-        let mut t = self;
-        t.name[i] = x.a;
-        t.kind[i] = x.code;
-        t.count = n + 1;
-        t
+        Record {
+            kind: 0x01,
+            code: lists::at(&self.kind, i, 0),
+            a: lists::at(&self.name, i, 0),
+            b: 0,
+            c: 0,
+            d: 0,
+            bits: 0,
+        }
+    }
+
+    // One more at the end; a table that is full stays as it is.
+    pub fn push(&mut self, x: Record)
+        ensures { self.new ≡ cond (ltb self.old.count 64) (column_pushed self.old x) self.old }
+    {
+        if self.count < Plan::COLUMNS {
+            let i = self.count as usize;
+            self.name[i] = x.a;
+            self.kind[i] = x.code;
+            self.count += 1;
+        }
     }
 }
 
@@ -121,21 +128,40 @@ impl Expressions {
         }
     }
 
-    fn push(self, x: Record, start: u16) -> Expressions
-        requires { self.count < 1024 }
-        ensures { result ≡ expression_pushed self x start }
+    pub fn record(&self, i: usize) -> Record
+        ensures { result ≡ expr_record_in self.now i }
     {
-        let n = self.count;
-        let i = n as usize;
-        let mut t = self;
-        t.kind[i] = x.kind;
-        t.code[i] = x.code;
-        t.a[i] = x.a;
-        t.b[i] = x.b;
-        t.start[i] = start;
-        t.bits[i] = x.bits;
-        t.count = n + 1;
-        t
+        Record {
+            kind: lists::at(&self.kind, i, 0),
+            code: lists::at(&self.code, i, 0),
+            a: lists::at(&self.a, i, 0),
+            b: lists::at(&self.b, i, 0),
+            c: 0,
+            d: 0,
+            bits: lists::at(&self.bits, i, 0),
+        }
+    }
+
+    // Where the list of expression i starts in the item table.
+    pub fn start(&self, i: usize) -> u16
+        ensures { result ≡ get_or self.now.start i 0 }
+    {
+        lists::at(&self.start, i, 0)
+    }
+
+    pub fn push(&mut self, x: Record, start: u16)
+        ensures { self.new ≡ cond (ltb self.old.count 1024) (expression_pushed self.old x start) self.old }
+    {
+        if self.count < Plan::EXPRESSIONS {
+            let i = self.count as usize;
+            self.kind[i] = x.kind;
+            self.code[i] = x.code;
+            self.a[i] = x.a;
+            self.b[i] = x.b;
+            self.start[i] = start;
+            self.bits[i] = x.bits;
+            self.count += 1;
+        }
     }
 }
 
@@ -155,22 +181,41 @@ impl Operators {
         }
     }
 
-    fn push(self, x: Record, start: u16) -> Operators
-        requires { self.count < 128 }
-        ensures { result ≡ operator_pushed self x start }
+    pub fn record(&self, i: usize) -> Record
+        ensures { result ≡ operator_record_in self.now i }
     {
-        let n = self.count;
-        let i = n as usize;
-        let mut t = self;
-        t.kind[i] = x.kind;
-        t.code[i] = x.code;
-        t.a[i] = x.a;
-        t.b[i] = x.b;
-        t.c[i] = x.c;
-        t.d[i] = x.d;
-        t.start[i] = start;
-        t.count = n + 1;
-        t
+        Record {
+            kind: lists::at(&self.kind, i, 0),
+            code: lists::at(&self.code, i, 0),
+            a: lists::at(&self.a, i, 0),
+            b: lists::at(&self.b, i, 0),
+            c: lists::at(&self.c, i, 0),
+            d: lists::at(&self.d, i, 0),
+            bits: 0,
+        }
+    }
+
+    // Where the lists of operator i start in the item table.
+    pub fn start(&self, i: usize) -> u16
+        ensures { result ≡ get_or self.now.start i 0 }
+    {
+        lists::at(&self.start, i, 0)
+    }
+
+    pub fn push(&mut self, x: Record, start: u16)
+        ensures { self.new ≡ cond (ltb self.old.count 128) (operator_pushed self.old x start) self.old }
+    {
+        if self.count < Plan::OPERATORS {
+            let i = self.count as usize;
+            self.kind[i] = x.kind;
+            self.code[i] = x.code;
+            self.a[i] = x.a;
+            self.b[i] = x.b;
+            self.c[i] = x.c;
+            self.d[i] = x.d;
+            self.start[i] = start;
+            self.count += 1;
+        }
     }
 }
 
@@ -185,17 +230,30 @@ impl Items {
         }
     }
 
-    fn push(self, x: Record) -> Items
-        requires { self.count < 2048 }
-        ensures { result ≡ item_pushed self x }
+    // An item has no kind of its own, its list has.
+    pub fn record(&self, i: usize) -> Record
+        ensures { result ≡ item_record_in self.now i }
     {
-        let n = self.count;
-        let i = n as usize;
-        let mut t = self;
-        t.a[i] = x.a;
-        t.b[i] = x.b;
-        t.count = n + 1;
-        t
+        Record {
+            kind: 0,
+            code: 0,
+            a: lists::at(&self.a, i, 0),
+            b: lists::at(&self.b, i, 0),
+            c: 0,
+            d: 0,
+            bits: 0,
+        }
+    }
+
+    pub fn push(&mut self, x: Record)
+        ensures { self.new ≡ cond (ltb self.old.count 2048) (item_pushed self.old x) self.old }
+    {
+        if self.count < Plan::ITEMS {
+            let i = self.count as usize;
+            self.a[i] = x.a;
+            self.b[i] = x.b;
+            self.count += 1;
+        }
     }
 }
 
@@ -208,6 +266,7 @@ impl Plan {
 
     pub const ITEMS: u16 = 2048;
 
+    #[tactic(auto, unfolding(crate::specs::Plans::empty_plan))]
     pub fn empty() -> Plan
         ensures { result ≡ empty_plan }
     {
@@ -219,144 +278,53 @@ impl Plan {
         }
     }
 
-    pub fn append_column(self, x: Record) -> Appended
-        ensures { result ≡ append_column self x }
+    // One column more, and where it stands; where there is no room, the plan stays as it is.
+    #[tactic(auto, unfolding(crate::specs::Append::append_column))]
+    pub fn append_column(&mut self, x: Record) -> Result<u16, AppendError>
+        ensures { appended self.new result ≡ append_column self.old x }
     {
-        let t = self.columns;
-        let n = t.count;
+        let n = self.columns.count;
         if Plan::COLUMNS <= n {
-            return Appended {
-                plan: self,
-                added: Added::Room,
-            };
+            return Err(AppendError::Room);
         }
-        let u = t.push(x);
-        let mut q = self;
-        q.columns = u;
-        Appended {
-            plan: q,
-            added: Added::At(n),
-        }
+        self.columns.push(x);
+        Ok(n)
     }
 
     // An expression whose list, if it has one, starts at `start` in the item table.
-    pub fn append_expr(self, x: Record, start: u16) -> Appended
-        ensures { result ≡ append_expr self x start }
+    #[tactic(auto, unfolding(crate::specs::Append::append_expr))]
+    pub fn append_expr(&mut self, x: Record, start: u16) -> Result<u16, AppendError>
+        ensures { appended self.new result ≡ append_expr self.old x start }
     {
-        let t = self.expressions;
-        let n = t.count;
+        let n = self.expressions.count;
         if Plan::EXPRESSIONS <= n {
-            return Appended {
-                plan: self,
-                added: Added::Room,
-            };
+            return Err(AppendError::Room);
         }
-        let u = t.push(x, start);
-        let mut q = self;
-        q.expressions = u;
-        Appended {
-            plan: q,
-            added: Added::At(n),
-        }
+        self.expressions.push(x, start);
+        Ok(n)
     }
 
-    pub fn append_operator(self, x: Record, start: u16) -> Appended
-        ensures { result ≡ append_operator self x start }
+    #[tactic(auto, unfolding(crate::specs::Append::append_operator))]
+    pub fn append_operator(&mut self, x: Record, start: u16) -> Result<u16, AppendError>
+        ensures { appended self.new result ≡ append_operator self.old x start }
     {
-        let t = self.operators;
-        let n = t.count;
+        let n = self.operators.count;
         if Plan::OPERATORS <= n {
-            return Appended {
-                plan: self,
-                added: Added::Room,
-            };
+            return Err(AppendError::Room);
         }
-        let u = t.push(x, start);
-        let mut q = self;
-        q.operators = u;
-        Appended {
-            plan: q,
-            added: Added::At(n),
-        }
+        self.operators.push(x, start);
+        Ok(n)
     }
 
-    pub fn append_item(self, x: Record) -> Appended
-        ensures { result ≡ append_item self x }
+    #[tactic(auto, unfolding(crate::specs::Append::append_item))]
+    pub fn append_item(&mut self, x: Record) -> Result<u16, AppendError>
+        ensures { appended self.new result ≡ append_item self.old x }
     {
-        let t = self.items;
-        let n = t.count;
+        let n = self.items.count;
         if Plan::ITEMS <= n {
-            return Appended {
-                plan: self,
-                added: Added::Room,
-            };
+            return Err(AppendError::Room);
         }
-        let u = t.push(x);
-        let mut q = self;
-        q.items = u;
-        Appended {
-            plan: q,
-            added: Added::At(n),
-        }
-    }
-}
-
-// The record at a place of the table of expressions, whose arrays are lent one by one: whatever walks a plan takes slices, no struct.
-pub fn expr_record<'a>(
-    kind: &'a [u8],
-    code: &'a [u8],
-    a: &'a [u16],
-    b: &'a [u16],
-    bits: &'a [u64],
-    i: usize,
-) -> Record
-    ensures { result ≡ expr_record_of kind.now code.now a.now b.now bits.now i }
-{
-    Record {
-        kind: lists::at8(kind, i),
-        code: lists::at8(code, i),
-        a: lists::at16(a, i),
-        b: lists::at16(b, i),
-        c: 0,
-        d: 0,
-        bits: lists::at64(bits, i),
-    }
-}
-
-// The same of the table of operators.
-pub fn operator_record<'a>(
-    kind: &'a [u8],
-    code: &'a [u8],
-    a: &'a [u16],
-    b: &'a [u16],
-    c: &'a [u16],
-    d: &'a [u16],
-    i: usize,
-) -> Record
-    ensures { result ≡ operator_record_of kind.now code.now a.now b.now c.now d.now i }
-{
-    Record {
-        kind: lists::at8(kind, i),
-        code: lists::at8(code, i),
-        a: lists::at16(a, i),
-        b: lists::at16(b, i),
-        c: lists::at16(c, i),
-        d: lists::at16(d, i),
-        bits: 0,
-    }
-}
-
-// The same of the table of items: an item has no kind of its own, its list has.
-pub fn item_record<'a>(a: &'a [u16], b: &'a [u16], i: usize) -> Record
-    ensures { result ≡ item_record_of a.now b.now i }
-{
-    Record {
-        kind: 0,
-        code: 0,
-        a: lists::at16(a, i),
-        b: lists::at16(b, i),
-        c: 0,
-        d: 0,
-        bits: 0,
+        self.items.push(x);
+        Ok(n)
     }
 }

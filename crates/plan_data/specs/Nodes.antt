@@ -3,8 +3,10 @@
 use Rattle.std.specs.Prelude.{cond, ℕ, ◌+◌, ◌%◌, List, eqb, get_or, take, drop}
 use Rattle.comparison.specs.Operators.{binary_op_code, binary_op_of}
 use Rattle.plan_kinds.specs.declared.Record.{Record}
+use Rattle.plan.specs.declared.Expressions.{Expressions}
+use Rattle.plan.specs.declared.Operators.{Operators}
 use Rattle.plan.specs.declared.Plan.{Plan}
-use Rattle.plan.specs.Records.{expr_record_of, operator_record, operator_start}
+use Rattle.plan.specs.Records.{expr_record_of, operator_record_in}
 use Rattle.scalar.specs.Coded.{case_code, code_of, bits_of, scalar_of}
 use Rattle.plan_data.specs.Codes.{unary_op_code, unary_op_of, nary_op_code, nary_op_of, join_type_code, join_type_of, kind_of_join, marker_of}
 use Rattle.plan_data.specs.declared.Run.{Run}
@@ -51,12 +53,19 @@ operator_data x start =
 abbrev pub node_of : List ℕ → List ℕ → List ℕ → List ℕ → List ℕ → List ℕ → ℕ → ExprData
 node_of kind code a b bits start h = expr_data (expr_record_of kind code a b bits h) (get_or start h 0)
 
+-- the same from its table, and of a plan
+abbrev pub node_from : Expressions → ℕ → ExprData
+node_from t h = node_of t.kind t.code t.a t.b t.bits t.start h
+
 abbrev pub node_at : Plan → ℕ → ExprData
-node_at p h =
-    node_of p.expressions.kind p.expressions.code p.expressions.a p.expressions.b p.expressions.bits p.expressions.start h
+node_at p h = node_from p.expressions h
+
+-- the operator of a handle, from its table, and of a plan
+abbrev pub operator_from : Operators → ℕ → OperatorData
+operator_from t h = operator_data (operator_record_in t h) (get_or t.start h 0)
 
 abbrev pub operator_at : Plan → ℕ → OperatorData
-operator_at p h = operator_data (operator_record p h) (operator_start p h)
+operator_at p h = operator_from p.operators h
 
 -- the operands of a run of items
 abbrev pub operands_of : List ℕ → Run → List ℕ

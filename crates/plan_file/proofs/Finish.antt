@@ -1,5 +1,6 @@
 -- Reading ends within as many steps as there are bytes; an accepted file was read to its end; a refusal has one of the numbers 1 to 5, a place
 -- in the file, and the empty plan. Assumes nothing.
+use Rattle.std.proofs.Common.{Ok, Err, Result}
 use Prim.Native.Nat.{ℕ, zero, suc, ◌+◌, ◌-◌, ◌*◌, ◌≤◌, ◌<◌}
 use mathlib.Core.Path.{◌≡◌, refl, sym, ap, subst}
 use mathlib.Core.Bool.{Bool, true, false, ◌&&◌, ◌||◌, not}
@@ -15,8 +16,8 @@ use Rattle.plan_kinds.specs.Rows.{row_of}
 use Rattle.plan_kinds.proofs.Table.{long-row}
 use Rattle.plan.specs.Plans.{empty_plan}
 use Rattle.plan_file.specs.declared.State.{State}
-use Rattle.plan_file.specs.declared.Reading.{Reading}
-use Rattle.plan_file.specs.declared.Reading.TheVariants.{Whole, Short, Unknown, Room, Handle, ScannedTwice}
+use Rattle.plan_file.specs.declared.ReadError.{ReadError}
+use Rattle.plan_file.specs.declared.ReadError.TheVariants.{Short, Unknown, Room, Handle, ScannedTwice}
 use Rattle.plan_file.specs.Answers.{is_whole, refusal_of, place_of}
 use Rattle.plan_file.specs.Steps.{kind_wanted, refused_by, is_done, steps_of, start_state, answer_of, read_of}
 use Rattle.plan_file.proofs.StepCases.{Way, a_column, an_expr, an_operator, an_item, Taking, step-cases, wants}
@@ -27,11 +28,11 @@ pub record Going (n k : ℕ) (q : State) : Type 0 where
   pub far : (is_done n q ≡ true) ⊎ (2 * k ≤ q.at)
   pub place : place_of q.reading ≤ n
 
-done_refused : (n : ℕ) (q : State) (k : Reading) → is_whole k ≡ false → is_done n (refused_by q k) ≡ true
+done_refused : (n : ℕ) (q : State) (k : Result (Unit {0}) ReadError) → is_whole k ≡ false → is_done n (refused_by q k) ≡ true
 done_refused n q k e = rw e
 
 -- a taken record is two bytes long at least, and ends in the file
-pub taken_at : (q : State) (x : Record) (t : State) → Way q x t → (t.at ≡ q.at + (row_of x.kind).length) × (t.reading ≡ Whole) × (0 < (row_of x.kind).sort)
+pub taken_at : (q : State) (x : Record) (t : State) → Way q x t → (t.at ≡ q.at + (row_of x.kind).length) × (t.reading ≡ Ok tt) × (0 < (row_of x.kind).sort)
 taken_at q x t (a_column a b c) = (refl, refl, omega arith)
 taken_at q x t (an_expr a b c) = (refl, refl, omega arith)
 taken_at q x t (an_operator a b c) = (refl, refl, omega arith)
@@ -49,7 +50,7 @@ going-taken s k q x t g u =
     let h = u.here in
     let far : 2 * k ≤ q.at = ⊎_elim (λ z. absurd (ne-false-of-true _ z (not_done s q x t u))) (λ z. z) g.far in
     let at = e.0 in
-    record { within = omega arith; far = inr (omega arith); place = subst (λ (r : Reading). place_of r ≤ length s) (sym e.1) (omega arith) }
+    record { within = omega arith; far = inr (omega arith); place = subst (λ (r : Result (Unit {0}) ReadError). place_of r ≤ length s) (sym e.1) (omega arith) }
 
 pub going : (s : List ℕ) (k : ℕ) → Going (length s) k (steps_of s k)
 unfolding steps_of start_state
@@ -87,15 +88,15 @@ pub record Accepted (s : List ℕ) : Type 0 where
   pub end : (last_of s).at ≡ length s
   pub nothing : kind_wanted (last_of s).wanted ≡ 0
   pub plan : (read_of s).plan ≡ (last_of s).plan
-  pub reading : (read_of s).reading ≡ Whole
+  pub reading : (read_of s).reading ≡ Ok tt
 
-is-whole : (k : Reading) → is_whole k ≡ true → k ≡ Whole
-is-whole Whole e = refl
-is-whole (Short at) e = absurd (ne-false-of-true true refl (sym e))
-is-whole (Unknown at) e = absurd (ne-false-of-true true refl (sym e))
-is-whole (Room at) e = absurd (ne-false-of-true true refl (sym e))
-is-whole (Handle at) e = absurd (ne-false-of-true true refl (sym e))
-is-whole (ScannedTwice at) e = absurd (ne-false-of-true true refl (sym e))
+is-whole : (k : Result (Unit {0}) ReadError) → is_whole k ≡ true → k ≡ Ok tt
+is-whole (Ok tt) e = refl
+is-whole (Err (Short at)) e = absurd (ne-false-of-true true refl (sym e))
+is-whole (Err (Unknown at)) e = absurd (ne-false-of-true true refl (sym e))
+is-whole (Err (Room at)) e = absurd (ne-false-of-true true refl (sym e))
+is-whole (Err (Handle at)) e = absurd (ne-false-of-true true refl (sym e))
+is-whole (Err (ScannedTwice at)) e = absurd (ne-false-of-true true refl (sym e))
 
 -- An accepted file was read to its end, with no item wanted, and its plan is what was read. Assumes nothing.
 pub accepted : (s : List ℕ) → is_whole (read_of s).reading ≡ true → Accepted s
@@ -115,22 +116,22 @@ unfolding read_of answer_of
 refused-empty s e = rw e
 
 -- A refusal's number is one of 1 to 5. Assumes nothing.
-pub refusal_number : (k : Reading) → refusal_of k ≤ 5
-refusal_number Whole = omega arith
-refusal_number (Short at) = omega arith
-refusal_number (Unknown at) = omega arith
-refusal_number (Room at) = omega arith
-refusal_number (Handle at) = omega arith
-refusal_number (ScannedTwice at) = omega arith
+pub refusal_number : (k : Result (Unit {0}) ReadError) → refusal_of k ≤ 5
+refusal_number (Ok tt) = omega arith
+refusal_number (Err (Short at)) = omega arith
+refusal_number (Err (Unknown at)) = omega arith
+refusal_number (Err (Room at)) = omega arith
+refusal_number (Err (Handle at)) = omega arith
+refusal_number (Err (ScannedTwice at)) = omega arith
 
 -- and it is 0 exactly for Whole
-pub refusal_none : (k : Reading) → eqb (refusal_of k) 0 ≡ is_whole k
-refusal_none Whole = refl
-refusal_none (Short at) = refl
-refusal_none (Unknown at) = refl
-refusal_none (Room at) = refl
-refusal_none (Handle at) = refl
-refusal_none (ScannedTwice at) = refl
+pub refusal_none : (k : Result (Unit {0}) ReadError) → eqb (refusal_of k) 0 ≡ is_whole k
+refusal_none (Ok tt) = refl
+refusal_none (Err (Short at)) = refl
+refusal_none (Err (Unknown at)) = refl
+refusal_none (Err (Room at)) = refl
+refusal_none (Err (Handle at)) = refl
+refusal_none (Err (ScannedTwice at)) = refl
 
 -- A refusal's place is in the file, or its length. Assumes nothing.
 pub refusal_place : (s : List ℕ) → place_of (read_of s).reading ≤ length s

@@ -1,4 +1,5 @@
 -- What the tests of a record leave. Assumes nothing.
+use Rattle.std.proofs.Common.{Ok, Err, Result}
 use Prim.Native.Nat.{ℕ, ◌≤◌}
 use mathlib.Core.Path.{◌≡◌, refl, sym, ap}
 use mathlib.Core.Bool.{Bool, true, false, cond, ◌&&◌, not}
@@ -14,8 +15,8 @@ use Rattle.plan_kinds.specs.declared.Record.{Record}
 use Rattle.plan_kinds.specs.Records.{code_ok, handles_ok}
 use Rattle.plan_file.specs.declared.Wanted.{Wanted}
 use Rattle.plan_file.specs.declared.State.{State}
-use Rattle.plan_file.specs.declared.Reading.{Reading}
-use Rattle.plan_file.specs.declared.Reading.TheVariants.{Whole, Short, Unknown, Handle, ScannedTwice}
+use Rattle.plan_file.specs.declared.ReadError.{ReadError}
+use Rattle.plan_file.specs.declared.ReadError.TheVariants.{Short, Unknown, Handle, ScannedTwice}
 use Rattle.plan_file.specs.Answers.{is_whole}
 use Rattle.plan_file.specs.Steps.{kind_wanted, kind_ok, scanned_twice, scans_after, fault_of}
 
@@ -60,8 +61,8 @@ pub record Passed (r : Row) (x : Record) (n : ℕ) (q : State) : Type 0 where
   pub once : scanned_twice r x q.wanted q.scans q.plan.operators.count ≡ false
 
 -- the fault by what each test said
-abbrev pub fault_where : ℕ → Bool → Bool → Bool → Bool → Bool → Reading
-fault_where at k l c h t = cond k (cond l (cond c (cond h (cond t (ScannedTwice at) Whole) (Handle at)) (Unknown at)) (Short at)) (Unknown at)
+abbrev pub fault_where : ℕ → Bool → Bool → Bool → Bool → Bool → Result (Unit {0}) ReadError
+fault_where at k l c h t = cond k (cond l (cond c (cond h (cond t (Err (ScannedTwice at)) (Ok tt)) (Err (Handle at))) (Err (Unknown at))) (Err (Short at))) (Err (Unknown at))
 
 passed :
     (at : ℕ) (k l c h t : Bool) →

@@ -1,4 +1,5 @@
 -- The ways through a step as cases: the record that is taken, what held of it, and the state after it. Assumes nothing.
+use Rattle.std.proofs.Common.{Ok, Err, Result}
 use Prim.Native.Nat.{ℕ, zero, suc, ◌+◌, ◌-◌, ◌<◌}
 use mathlib.Core.Path.{◌≡◌, refl, sym, ap, ◌∙◌}
 use mathlib.Core.Bool.{Bool, true, false, cond, ◌&&◌, ◌||◌, not}
@@ -18,8 +19,8 @@ use Rattle.plan.specs.declared.Plan.{Plan}
 use Rattle.plan.specs.Append.{no_room, added_at, with_column, with_expr, with_operator, with_item, append_column, append_expr, append_operator, append_item}
 use Rattle.plan_file.specs.declared.Wanted.{Wanted}
 use Rattle.plan_file.specs.declared.State.{State}
-use Rattle.plan_file.specs.declared.Reading.{Reading}
-use Rattle.plan_file.specs.declared.Reading.TheVariants.{Whole, Short, Room}
+use Rattle.plan_file.specs.declared.ReadError.{ReadError}
+use Rattle.plan_file.specs.declared.ReadError.TheVariants.{Short, Room}
 use Rattle.plan_file.specs.Answers.{is_whole, is_added, place_of}
 use Rattle.plan_file.specs.Bytes.{record_from}
 use Rattle.plan_file.specs.Steps.{kind_wanted, kind_ok, scanned_twice, fault_of, append_of, list_of, less_one, wanted_after, scans_after, refused_by}
@@ -62,7 +63,7 @@ item-sort w f n =
 
 -- ---- the four ways of taking a record
 abbrev pub next_of : State → Record → Wanted → List ℕ → Plan → State
-next_of q x w scans p = record { at = q.at + (row_of x.kind).length; reading = Whole; wanted = w; scans = scans; plan = p }
+next_of q x w scans p = record { at = q.at + (row_of x.kind).length; reading = (Ok tt); wanted = w; scans = scans; plan = p }
 
 pub data Way (q : State) (x : Record) : State → Type 0 where
   a_column :
@@ -184,19 +185,19 @@ place-of_fault r x n q e =
     (scanned_twice r x q.wanted q.scans q.plan.operators.count) e
 
 -- a refusal of a state: not Whole, and placed where the state is
-pub record Refusal (q : State) (k : Reading) : Type 0 where
+pub record Refusal (q : State) (k : Result (Unit {0}) ReadError) : Type 0 where
   pub refuses : is_whole k ≡ false
   pub place : place_of k ≡ q.at
 
 -- What holds of a state that is done, of a state with any refusal, and of every state that taking a record gives, holds after a step.
 -- Assumes nothing.
 pub step-cases :
-    (P : State → Type 0) (s : List ℕ) (q : State) → Wants q.wanted → (is_done (length s) q ≡ true → P q) → ((k : Reading) → Refusal q k → P (refused_by q k))
+    (P : State → Type 0) (s : List ℕ) (q : State) → Wants q.wanted → (is_done (length s) q ≡ true → P q) → ((k : Result (Unit {0}) ReadError) → Refusal q k → P (refused_by q k))
     → ((x : Record) (t : State) → Taking s q x t → P t) → P (step_of s q)
 unfolding step_of record_step row_step judged_step appended_step record_from
 step-cases P s q f same refused taken =
     cond_elim P (is_done (length s) q) q _ same
-    (λ d. cond_elim P (leb (length s) q.at) (refused_by q (Short q.at)) _ (λ l. refused (Short q.at) (record { refuses = refl; place = refl }))
+    (λ d. cond_elim P (leb (length s) q.at) (refused_by q (Err (Short q.at))) _ (λ l. refused (Err (Short q.at)) (record { refuses = refl; place = refl }))
     (λ l.
     let u = drop q.at s in
     let r = row_of (get_or u 0 0) in
@@ -205,9 +206,9 @@ step-cases P s q f same refused taken =
     cond_elim P (is_whole k) _ (refused_by q k)
     (λ w.
     let g = no_fault r x (length u) q w in
-    cond_elim P (is_added (append_of q.plan r x).added) (taken_by q r x (append_of q.plan r x).plan) (refused_by q (Room q.at))
+    cond_elim P (is_added (append_of q.plan r x).added) (taken_by q r x (append_of q.plan r x).plan) (refused_by q (Err (Room q.at)))
     (λ a. taken x _ (record { going = is-going _ _ d; here = leb-false _ _ l; fetched = refl; passed = g; way = way_of q x f g.kind a }))
-    (λ a. refused (Room q.at) (record { refuses = refl; place = refl })))
+    (λ a. refused (Err (Room q.at)) (record { refuses = refl; place = refl })))
     (λ w. refused k (record { refuses = w; place = place-of_fault r x (length u) q w }))))
 
 abbrev Wanting : State → Type 0
@@ -228,7 +229,7 @@ wants s (suc i) =
 
 -- What holds at the start, is kept by a refusal and by every record that is taken holds throughout. Assumes nothing.
 pub steps_keep :
-    (P : State → Type 0) (s : List ℕ) → P start_state → ((q : State) (k : Reading) → P q → Refusal q k → P (refused_by q k))
+    (P : State → Type 0) (s : List ℕ) → P start_state → ((q : State) (k : Result (Unit {0}) ReadError) → P q → Refusal q k → P (refused_by q k))
     → ((q : State) (x : Record) (t : State) → P q → Taking s q x t → P t) → (i : ℕ) → P (steps_of s i)
 unfolding steps_of
 steps_keep P s begin refused taken zero = begin

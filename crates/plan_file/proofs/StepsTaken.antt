@@ -1,4 +1,5 @@
 -- The ways through one step, and the steps of a whole reading. Assumes nothing.
+use Rattle.std.proofs.Common.{Err, Result}
 use Prim.Native.Nat.{ℕ, zero, suc, ◌+◌, ◌-◌, ◌≤◌, ◌<◌}
 use mathlib.Core.Path.{◌≡◌, refl, sym, ap, ◌∙◌}
 use mathlib.Core.List.{List}
@@ -12,17 +13,17 @@ use borrow.Author.Tests.{lt-leb}
 use Rattle.plan_kinds.specs.declared.Row.{Row}
 use Rattle.plan_kinds.specs.declared.Record.{Record}
 use Rattle.plan_kinds.specs.Rows.{row_of}
-use Rattle.plan.specs.declared.Appended.{Appended}
+use Rattle.plan.specs.Append.{Appended}
 use Rattle.plan_file.specs.declared.State.{State}
-use Rattle.plan_file.specs.declared.Reading.{Reading}
-use Rattle.plan_file.specs.declared.Reading.TheVariants.{Room}
+use Rattle.plan_file.specs.declared.ReadError.{ReadError}
+use Rattle.plan_file.specs.declared.ReadError.TheVariants.{Room}
 use Rattle.plan_file.specs.Answers.{is_whole, is_added}
 use Rattle.plan_file.specs.Bytes.{record_from}
 use Rattle.plan_file.specs.Steps.{kind_ok, fault_of, append_of, is_done, refused_by, taken_by, appended_step, judged_step, row_step, record_step, step_of}
 use Rattle.plan_file.specs.Steps.{steps_of, start_state, answer_of, read_of}
 use Rattle.plan_file.proofs.RecordTests.{no_fault}
 
-module _ (s : List ℕ) (q : State) (b : ℕ) (r : Row) (x : Record) (k : Reading) (eb : b ≡ get_or s 0 0) (er : r ≡ row_of b) (ex : x ≡ record_from s r)
+module _ (s : List ℕ) (q : State) (b : ℕ) (r : Row) (x : Record) (k : Result (Unit {0}) ReadError) (eb : b ≡ get_or s 0 0) (er : r ≡ row_of b) (ex : x ≡ record_from s r)
     (ek : k ≡ fault_of r x (length s) q) where
   -- A record that fails a test is refused by it. Assumes nothing.
   pub step-refused : is_whole k ≡ false → refused_by q k ≡ record_step s q
@@ -30,7 +31,7 @@ module _ (s : List ℕ) (q : State) (b : ℕ) (r : Row) (x : Record) (k : Readin
   step-refused n = rw (← eb, ← er, ← ex, ← ek, n)
 
   -- A record that passes them is refused where there is no room, else taken. Assumes nothing.
-  pub step-full : (a : Appended) → is_whole k ≡ true → a ≡ append_of q.plan r x → is_added a.added ≡ false → refused_by q (Room q.at) ≡ record_step s q
+  pub step-full : (a : Appended) → is_whole k ≡ true → a ≡ append_of q.plan r x → is_added a.added ≡ false → refused_by q (Err (Room q.at)) ≡ record_step s q
   unfolding record_step row_step judged_step appended_step
   step-full a n ea m = rw (← eb, ← er, ← ex, ← ek, n, ← ea, m)
 

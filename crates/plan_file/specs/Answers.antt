@@ -1,38 +1,38 @@
 -- How a reading ended, in the numbers of the rules. Assumes nothing.
-use Rattle.std.specs.Prelude.{ℕ, Bool, true, false}
-use Rattle.plan.specs.declared.Added.{Added}
-use Rattle.plan.specs.declared.Added.TheVariants.{At, Room as Full}
-use Rattle.plan_file.specs.declared.Reading.{Reading}
-use Rattle.plan_file.specs.declared.Reading.TheVariants.{Whole, Short, Unknown, Room, Handle, ScannedTwice}
+use Rattle.std.specs.Prelude.{ℕ, Bool, true, false, Ok, Err, Result}
+use Rattle.plan.specs.declared.AppendError.{AppendError}
+use Rattle.plan.specs.declared.AppendError.TheVariants.{Room as Full}
+use Rattle.plan_file.specs.declared.ReadError.{ReadError}
+use Rattle.plan_file.specs.declared.ReadError.TheVariants.{Short, Unknown, Room, Handle, ScannedTwice}
 
 -- the number of the refusal in the rules (docs/FORMAT.md), 0 for none
-abbrev pub refusal_of : Reading → ℕ
-refusal_of Whole = 0
-refusal_of (Short at) = 1
-refusal_of (Unknown at) = 2
-refusal_of (Room at) = 3
-refusal_of (Handle at) = 4
-refusal_of (ScannedTwice at) = 5
+abbrev pub refusal_of : Result (Unit {0}) ReadError → ℕ
+refusal_of (Ok tt) = 0
+refusal_of (Err (Short at)) = 1
+refusal_of (Err (Unknown at)) = 2
+refusal_of (Err (Room at)) = 3
+refusal_of (Err (Handle at)) = 4
+refusal_of (Err (ScannedTwice at)) = 5
 
 -- where the faulty record starts, 0 for none
-abbrev pub place_of : Reading → ℕ
-place_of Whole = 0
-place_of (Short at) = at
-place_of (Unknown at) = at
-place_of (Room at) = at
-place_of (Handle at) = at
-place_of (ScannedTwice at) = at
+abbrev pub place_of : Result (Unit {0}) ReadError → ℕ
+place_of (Ok tt) = 0
+place_of (Err (Short at)) = at
+place_of (Err (Unknown at)) = at
+place_of (Err (Room at)) = at
+place_of (Err (Handle at)) = at
+place_of (Err (ScannedTwice at)) = at
 
 -- there is no refusal
-abbrev pub is_whole : Reading → Bool
-is_whole Whole = true
-is_whole (Short at) = false
-is_whole (Unknown at) = false
-is_whole (Room at) = false
-is_whole (Handle at) = false
-is_whole (ScannedTwice at) = false
+abbrev pub is_whole : Result (Unit {0}) ReadError → Bool
+is_whole (Ok tt) = true
+is_whole (Err (Short at)) = false
+is_whole (Err (Unknown at)) = false
+is_whole (Err (Room at)) = false
+is_whole (Err (Handle at)) = false
+is_whole (Err (ScannedTwice at)) = false
 
 -- an entry was appended
-abbrev pub is_added : Added → Bool
-is_added (At n) = true
-is_added Full = false
+abbrev pub is_added : Result ℕ AppendError → Bool
+is_added (Ok n) = true
+is_added (Err Full) = false

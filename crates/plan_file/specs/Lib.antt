@@ -1,3 +1,4 @@
+pub mod Answer
 pub mod Bytes
 pub mod Answers
 pub mod Steps

@@ -1,18 +1,18 @@
 -- What a byte string means: the state of a reading, the step of one record, and the whole. Assumes nothing.
-use Rattle.std.specs.Prelude.{ℕ, zero, suc, ◌+◌, ◌-◌, Bool, false, cond, ◌&&◌, ◌||◌, not, List, ltb, leb, eqb, get_or, set, replicate, length, drop}
+use Rattle.std.specs.Prelude.{ℕ, zero, suc, ◌+◌, ◌-◌, Bool, false, cond, ◌&&◌, ◌||◌, not, List, ltb, leb, eqb, get_or, set, replicate, length, drop, Ok, Err, Result}
 use Rattle.plan_kinds.specs.declared.Record.{Record}
 use Rattle.plan_kinds.specs.declared.Row.{Row}
 use Rattle.plan_kinds.specs.Rows.{row_of, columns, expressions, operators, items}
 use Rattle.plan_kinds.specs.Records.{code_ok, handles_ok, count_of, more_of}
 use Rattle.plan.specs.declared.Plan.{Plan}
-use Rattle.plan.specs.declared.Appended.{Appended}
+use Rattle.plan.specs.Append.{Appended}
 use Rattle.plan.specs.Plans.{empty_plan}
 use Rattle.plan.specs.Append.{append_column, append_expr, append_operator, append_item}
 use Rattle.plan_file.specs.declared.Wanted.{Wanted}
 use Rattle.plan_file.specs.declared.State.{State}
-use Rattle.plan_file.specs.declared.Answer.{Answer}
-use Rattle.plan_file.specs.declared.Reading.{Reading}
-use Rattle.plan_file.specs.declared.Reading.TheVariants.{Whole, Short, Unknown, Room, Handle, ScannedTwice}
+use Rattle.plan_file.specs.Answer.{Answer}
+use Rattle.plan_file.specs.declared.ReadError.{ReadError}
+use Rattle.plan_file.specs.declared.ReadError.TheVariants.{Short, Unknown, Room, Handle, ScannedTwice}
 use Rattle.plan_file.specs.Bytes.{record_from}
 use Rattle.plan_file.specs.Answers.{is_whole, is_added}
 
@@ -30,19 +30,19 @@ scanned_twice r x w scans np =
     ((eqb r.sort items && w.scan) && not (eqb (get_or scans x.a 0) 0)) && not (eqb (get_or scans x.a 0) np)
 
 -- the tests of a record but the last: kind, whole body (n bytes are left with its kind's), code, handles, one Scan
-unfoldable pub fault_of : Row → Record → ℕ → State → Reading
+unfoldable pub fault_of : Row → Record → ℕ → State → Result (Unit {0}) ReadError
 fault_of r x n q =
     cond (kind_ok r x q.wanted)
     (cond (leb r.length n)
     (cond (code_ok r x)
     (cond (handles_ok r x q.plan.columns.count q.plan.expressions.count q.plan.operators.count)
     (cond (scanned_twice r x q.wanted q.scans q.plan.operators.count)
-    (ScannedTwice q.at)
-    Whole)
-    (Handle q.at))
-    (Unknown q.at))
-    (Short q.at))
-    (Unknown q.at)
+    (Err (ScannedTwice q.at))
+    (Ok tt))
+    (Err (Handle q.at)))
+    (Err (Unknown q.at)))
+    (Err (Short q.at)))
+    (Err (Unknown q.at))
 
 -- a record takes the next handle of its sort, an item the next place; a list starts where the next item is to stand
 unfoldable pub append_of : Plan → Row → Record → Appended
@@ -71,7 +71,7 @@ wanted_after r x w = cond (eqb r.sort items) (less_one w) (list_of r x)
 unfoldable pub scans_after : Row → Record → Wanted → List ℕ → ℕ → List ℕ
 scans_after r x w scans np = cond (eqb r.sort items && w.scan) (set scans x.a np) scans
 
-abbrev pub refused_by : State → Reading → State
+abbrev pub refused_by : State → Result (Unit {0}) ReadError → State
 refused_by q k = record { at = q.at; reading = k; wanted = q.wanted; scans = q.scans; plan = q.plan }
 
 -- a record is taken into the plan p
@@ -79,7 +79,7 @@ abbrev pub taken_by : State → Row → Record → Plan → State
 taken_by q r x p =
     record {
       at = q.at + r.length;
-      reading = Whole;
+      reading = (Ok tt);
       wanted = wanted_after r x q.wanted;
       scans = scans_after r x q.wanted q.scans q.plan.operators.count;
       plan = p;
@@ -87,10 +87,10 @@ taken_by q r x p =
 
 -- the last test: room in the plan
 unfoldable pub appended_step : State → Row → Record → Appended → State
-appended_step q r x a = cond (is_added a.added) (taken_by q r x a.plan) (refused_by q (Room q.at))
+appended_step q r x a = cond (is_added a.added) (taken_by q r x a.plan) (refused_by q (Err (Room q.at)))
 
 -- a record is refused by the tests, or appended
-unfoldable pub judged_step : State → Row → Record → Reading → State
+unfoldable pub judged_step : State → Row → Record → Result (Unit {0}) ReadError → State
 judged_step q r x k = cond (is_whole k) (appended_step q r x (append_of q.plan r x)) (refused_by q k)
 
 -- the record that begins s, of the row r
@@ -102,7 +102,7 @@ unfoldable pub record_step : List ℕ → State → State
 record_step s q = row_step s q (row_of (get_or s 0 0))
 
 -- the reading has ended: by a refusal, or at the end of the n bytes with no item wanted
-abbrev pub done_at : ℕ → ℕ → Reading → Wanted → Bool
+abbrev pub done_at : ℕ → ℕ → Result (Unit {0}) ReadError → Wanted → Bool
 done_at n at k w = not (is_whole k) || (leb n at && eqb (kind_wanted w) 0)
 
 abbrev pub is_done : ℕ → State → Bool
@@ -112,14 +112,14 @@ is_done n q = done_at n q.at q.reading q.wanted
 unfoldable pub step_of : List ℕ → State → State
 step_of s q =
     cond (is_done (length s) q) q
-    (cond (leb (length s) q.at) (refused_by q (Short q.at))
+    (cond (leb (length s) q.at) (refused_by q (Err (Short q.at)))
     (record_step (drop q.at s) q))
 
 unfoldable pub start_state : State
 start_state =
     record {
       at = 0;
-      reading = Whole;
+      reading = (Ok tt);
       wanted = record { item = 0; left = 0; more = 0; scan = false };
       scans = replicate 64 0;
       plan = empty_plan;

@@ -1,4 +1,5 @@
 -- A file that is cut off: inside a record or a counted list it is refused by 1, elsewhere it is accepted as far as it goes. Assumes nothing.
+use Rattle.std.proofs.Common.{Ok, Err}
 use Prim.Native.Nat.{ℕ, zero, suc, ◌+◌, ◌-◌, ◌≤◌, ◌<◌}
 use mathlib.Core.Path.{◌≡◌, refl, sym, ap, ◌∙◌, subst}
 use mathlib.Core.Bool.{Bool, true, false, cond, and-false}
@@ -18,8 +19,8 @@ use Rattle.plan_kinds.specs.Rows.{row_of}
 use Rattle.plan.specs.Plans.{empty_plan}
 use Rattle.plan_file.specs.declared.Wanted.{Wanted}
 use Rattle.plan_file.specs.declared.State.{State}
-use Rattle.plan_file.specs.declared.Answer.{Answer}
-use Rattle.plan_file.specs.declared.Reading.TheVariants.{Whole, Short}
+use Rattle.plan_file.specs.Answer.{Answer}
+use Rattle.plan_file.specs.declared.ReadError.TheVariants.{Short}
 use Rattle.plan_file.specs.Answers.{is_whole, refusal_of}
 use Rattle.plan_file.specs.Bytes.{record_from}
 use Rattle.plan_file.specs.Steps.{kind_wanted, kind_ok, fault_of, refused_by, judged_step, row_step, record_step, is_done, step_of, steps_of, start_state}
@@ -33,9 +34,9 @@ use Rattle.plan_file_laws.proofs.Sequences.{Reads, begin, next, put_snoc, all_le
 
 -- a refusal with the empty plan
 abbrev pub cut_at : ℕ → Answer
-cut_at n = record { plan = empty_plan; reading = Short n }
+cut_at n = record { plan = empty_plan; reading = Err (Short n) }
 
-answer_short : (q : State) (n : ℕ) → answer_of (refused_by q (Short n)) ≡ cut_at n
+answer_short : (q : State) (n : ℕ) → answer_of (refused_by q (Err (Short n))) ≡ cut_at n
 unfolding answer_of
 answer_short q n = refl
 
@@ -49,18 +50,18 @@ not_last s i q h e d =
     (below_or_not i (length s))
 
 -- where the next step refuses by 1, that is the answer
-short_next : (s : List ℕ) (i : ℕ) (q : State) (n : ℕ) → i ≤ length s → steps_of s i ≡ q → is_done (length s) q ≡ false → step_of s q ≡ refused_by q (Short n)
+short_next : (s : List ℕ) (i : ℕ) (q : State) (n : ℕ) → i ≤ length s → steps_of s i ≡ q → is_done (length s) q ≡ false → step_of s q ≡ refused_by q (Err (Short n))
     → read_of s ≡ cut_at n
 unfolding steps_of
 short_next s i q n h e d g =
-    sym (read_early s (suc i) (refused_by q (Short n)) (not_last s i q h e d) (sym (ap (step_of s) e ∙ g)) refl) ∙ answer_short q n
+    sym (read_early s (suc i) (refused_by q (Err (Short n))) (not_last s i q h e d) (sym (ap (step_of s) e ∙ g)) refl) ∙ answer_short q n
 
-wanting : (n : ℕ) (q : State) → q.reading ≡ Whole → (kind_wanted q.wanted ≡ 0 → ⊥) → is_done n q ≡ false
+wanting : (n : ℕ) (q : State) → q.reading ≡ Ok tt → (kind_wanted q.wanted ≡ 0 → ⊥) → is_done n q ≡ false
 wanting n q w z = rw (ap is_whole w, ne_eqb _ 0 z) (and-false (leb n q.at))
 
-short_step : (s : List ℕ) (q : State) → is_done (length s) q ≡ false → q.at ≡ length s → step_of s q ≡ refused_by q (Short (length s))
+short_step : (s : List ℕ) (q : State) → is_done (length s) q ≡ false → q.at ≡ length s → step_of s q ≡ refused_by q (Err (Short (length s)))
 unfolding step_of
-short_step s q d e = rw (d, le-leb (length s) q.at (omega arith)) (ap (λ (n : ℕ). refused_by q (Short n)) e)
+short_step s q d e = rw (d, le-leb (length s) q.at (omega arith)) (ap (λ (n : ℕ). refused_by q (Err (Short n))) e)
 
 -- ---- inside a record
 -- the kind is tested before the length
@@ -68,17 +69,17 @@ kind-same : (r : Row) (x y : Record) (w : Wanted) → y.kind ≡ x.kind → kind
 unfolding kind_ok
 kind-same r x y w e k = rw e k
 
-fault_short : (r : Row) (x : Record) (n : ℕ) (q : State) → kind_ok r x q.wanted ≡ true → n < r.length → fault_of r x n q ≡ Short q.at
+fault_short : (r : Row) (x : Record) (n : ℕ) (q : State) → kind_ok r x q.wanted ≡ true → n < r.length → fault_of r x n q ≡ Err (Short q.at)
 unfolding fault_of
 fault_short r x n q k h = rw (k, lt-leb r.length n h)
 
-judged_short : (q : State) (r : Row) (x : Record) (n : ℕ) → judged_step q r x (Short n) ≡ refused_by q (Short n)
+judged_short : (q : State) (r : Row) (x : Record) (n : ℕ) → judged_step q r x (Err (Short n)) ≡ refused_by q (Err (Short n))
 unfolding judged_step
 judged_short q r x n = refl
 
 record_short :
     (u : List ℕ) (q : State) (x : Record) → get_or u 0 0 ≡ x.kind → length u < (row_of x.kind).length → kind_ok (row_of x.kind) x q.wanted ≡ true
-    → record_step u q ≡ refused_by q (Short q.at)
+    → record_step u q ≡ refused_by q (Err (Short q.at))
 unfolding record_step row_step record_from
 record_short u q x e h k =
     let r = row_of (get_or u 0 0) in
@@ -89,13 +90,13 @@ record_short u q x e h k =
     ap (judged_step q r y) (fault_short r y (length u) q k2 l) ∙ judged_short q r y q.at
 
 inside-step :
-    (s u : List ℕ) (q : State) (x : Record) → q.reading ≡ Whole → drop q.at s ≡ u → q.at < length s → get_or u 0 0 ≡ x.kind → length u < (row_of
+    (s u : List ℕ) (q : State) (x : Record) → q.reading ≡ Ok tt → drop q.at s ≡ u → q.at < length s → get_or u 0 0 ≡ x.kind → length u < (row_of
     x.kind).length
-    → kind_ok (row_of x.kind) x q.wanted ≡ true → step_of s q ≡ refused_by q (Short q.at)
+    → kind_ok (row_of x.kind) x q.wanted ≡ true → step_of s q ≡ refused_by q (Err (Short q.at))
 unfolding step_of
 inside-step s u q x w e l f h k = rw (ap is_whole w, lt-leb (length s) q.at l) (ap (λ (v : List ℕ). record_step v q) e ∙ record_short u q x f h k)
 
-not_done : (n : ℕ) (q : State) → q.reading ≡ Whole → q.at < n → is_done n q ≡ false
+not_done : (n : ℕ) (q : State) → q.reading ≡ Ok tt → q.at < n → is_done n q ≡ false
 not_done n q w h = rw (ap is_whole w, lt-leb n q.at h)
 
 first_byte : (m k : ℕ) (l : List ℕ) → 0 < m → get_or (take m (k ∷ l)) 0 0 ≡ k
@@ -176,7 +177,7 @@ put_rest (x ∷ xs) u = ap (put_record x) (put_rest xs u) ∙ put_record_rest x 
 pub data Cut (p : List ℕ) : Type 0 where
   between :
       (xs : List Record) (q : State) → Reads xs q → p ≡ put_records xs [] → kind_wanted q.wanted ≡ 0
-      → read_of p ≡ record { plan = q.plan; reading = Whole } → Cut p
+      → read_of p ≡ record { plan = q.plan; reading = Ok tt } → Cut p
   in_list :
       (xs : List Record) (q : State) → Reads xs q → p ≡ put_records xs [] → (kind_wanted q.wanted ≡ 0 → ⊥)
       → read_of p ≡ cut_at (length p) → Cut p

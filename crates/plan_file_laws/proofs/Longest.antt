@@ -1,4 +1,5 @@
 -- No reading comes further than 20,856 bytes, so that no longer file is accepted. Assumes nothing.
+use Rattle.std.proofs.Common.{Result}
 use Prim.Native.Nat.{ℕ, ◌+◌, ◌-◌, ◌*◌, ◌≤◌, ◌<◌}
 use mathlib.Core.Path.{◌≡◌, refl, sym, ◌∙◌, subst}
 use mathlib.Core.Bool.{Bool, true, false, cond, ◌&&◌, ◌||◌, not}
@@ -18,7 +19,7 @@ use Rattle.plan.specs.declared.Plan.{Plan}
 use Rattle.plan.specs.Plans.{empty_plan}
 use Rattle.plan_file.specs.declared.Wanted.{Wanted}
 use Rattle.plan_file.specs.declared.State.{State}
-use Rattle.plan_file.specs.declared.Reading.{Reading}
+use Rattle.plan_file.specs.declared.ReadError.{ReadError}
 use Rattle.plan_file.specs.Answers.{is_whole, refusal_of}
 use Rattle.plan_file.specs.Steps.{kind_wanted, less_one, refused_by, steps_of, start_state, read_of}
 use Rattle.plan_file.proofs.StepCases.{Way, a_column, an_expr, an_operator, an_item, steps_keep}
@@ -158,7 +159,7 @@ spent-start =
       far = narrow (omega arith) (λ h. absurd (omega arith)) (omega arith);
     }
 
-far-refused : (q : State) (k : Reading) → Far q → Far (refused_by q k)
+far-refused : (q : State) (k : Result (Unit {0}) ReadError) → Far q → Far (refused_by q k)
 far-refused q k (narrow h f w) = narrow h f w
 far-refused q k (wide h) = wide h
 

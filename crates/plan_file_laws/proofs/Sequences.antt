@@ -1,4 +1,5 @@
 -- A file is accepted exactly where its bytes are those of records that are taken one after the other. Assumes nothing.
+use Rattle.std.proofs.Common.{Ok}
 use Prim.Native.Nat.{ℕ, suc, ◌+◌, ◌-◌, ◌*◌, ◌≤◌, ◌<◌}
 use mathlib.Core.Path.{◌≡◌, refl, sym, ap, ◌∙◌, subst}
 use mathlib.Core.Bool.{Bool, true, false, cond}
@@ -16,7 +17,6 @@ use Rattle.plan_kinds.specs.Rows.{row_of}
 use Rattle.plan_kinds.specs.Records.{code_ok, handles_ok}
 use Rattle.plan.specs.Append.{append_column, append_expr, append_operator, append_item}
 use Rattle.plan_file.specs.declared.State.{State}
-use Rattle.plan_file.specs.declared.Reading.TheVariants.{Whole}
 use Rattle.plan_file.specs.Answers.{is_whole, is_added}
 use Rattle.plan_file.specs.Bytes.{word_from, bits_from, record_from}
 use Rattle.plan_file.specs.Steps.{kind_wanted, kind_ok, scanned_twice, fault_of, append_of, wanted_after, scans_after, taken_by, appended_step, judged_step}
@@ -192,11 +192,11 @@ judged q x t (an_item s h n e) =
 no_fault_back :
     (r : Row) (x : Record) (n : ℕ) (q : State) → kind_ok r x q.wanted ≡ true → r.length ≤ n → code_ok r x ≡ true
     → handles_ok r x q.plan.columns.count q.plan.expressions.count q.plan.operators.count ≡ true
-    → scanned_twice r x q.wanted q.scans q.plan.operators.count ≡ false → fault_of r x n q ≡ Whole
+    → scanned_twice r x q.wanted q.scans q.plan.operators.count ≡ false → fault_of r x n q ≡ Ok tt
 unfolding fault_of
 no_fault_back r x n q a b c d e = rw (a, le-leb _ _ b, c, d, e)
 
-judged-step : (q : State) (x : Record) (t : State) → Judged q x t → judged_step q (row_of x.kind) x Whole ≡ t
+judged-step : (q : State) (x : Record) (t : State) → Judged q x t → judged_step q (row_of x.kind) x Ok tt ≡ t
 unfolding judged_step appended_step
 judged-step q x t j = rw j.added j.after
 
@@ -210,7 +210,7 @@ record_step_lem q x t u k f =
     ∙ ap (judged_step q r x) (no_fault_back r x (length (put_record x u)) q j.kind l k.right.code k.right.handles k.once)
     ∙ judged-step q x t j
 
-step-takes : (s : List ℕ) (q : State) (x : Record) (t : State) (u : List ℕ) → Takes q x t → Fits x → q.reading ≡ Whole → drop q.at s ≡ put_record x u
+step-takes : (s : List ℕ) (q : State) (x : Record) (t : State) (u : List ℕ) → Takes q x t → Fits x → q.reading ≡ Ok tt → drop q.at s ≡ put_record x u
     → step_of s q ≡ t
 unfolding step_of
 step-takes s q x t u k f w e =
@@ -218,7 +218,7 @@ step-takes s q x t u k f w e =
     let l : q.at < length s = omega arith in
     rw (ap is_whole w, lt-leb (length s) q.at l) (ap (λ (v : List ℕ). record_step v q) e ∙ record_step_lem q x t u k f)
 
-pub reads_whole : (xs : List Record) (q : State) → Reads xs q → q.reading ≡ Whole
+pub reads_whole : (xs : List Record) (q : State) → Reads xs q → q.reading ≡ Ok tt
 unfolding start_state
 reads_whole xs q begin = refl
 reads_whole xs q (next x t r k) = (taken_at _ x t k.way).1
@@ -237,7 +237,7 @@ pub record Led (xs : List Record) (q : State) (u : List ℕ) : Type 0 where
   pub rest : drop q.at (put_records xs u) ≡ u
   pub place : q.at + length u ≡ length (put_records xs u)
 
-led-next : (xs : List Record) (q : State) (x : Record) (t : State) (u : List ℕ) → Takes q x t → Fits x → q.reading ≡ Whole → Led xs q (put_record x u) → Led
+led-next : (xs : List Record) (q : State) (x : Record) (t : State) (u : List ℕ) → Takes q x t → Fits x → q.reading ≡ Ok tt → Led xs q (put_record x u) → Led
     (xs ++ (x ∷ [])) t u
 unfolding steps_of
 led-next xs q x t u k f w l =
@@ -259,17 +259,17 @@ led xs q begin a u = record { state = refl; rest = refl; place = omega arith }
 led xs q (next {xs = ys} {q = p} x t r k) a u =
     led-next ys p x t u k (all-last Fits ys x a) (reads_whole ys p r) (led ys p r (all_left Fits ys (x ∷ []) a) (put_record x u))
 
-done_at_lem : (n : ℕ) (q : State) → q.reading ≡ Whole → n ≤ q.at → kind_wanted q.wanted ≡ 0 → is_done n q ≡ true
+done_at_lem : (n : ℕ) (q : State) → q.reading ≡ Ok tt → n ≤ q.at → kind_wanted q.wanted ≡ 0 → is_done n q ≡ true
 done_at_lem n q w h z = rw (ap is_whole w, le-leb n q.at h, eq-eqb _ _ z)
 
-answer-whole : (q : State) → q.reading ≡ Whole → answer_of q ≡ record { plan = q.plan; reading = Whole }
+answer-whole : (q : State) → q.reading ≡ Ok tt → answer_of q ≡ record { plan = q.plan; reading = Ok tt }
 unfolding answer_of
 answer-whole q w = rw w
 
 -- Records that are taken one after the other, with no item wanted at the end, are accepted from their bytes, with the plan to which they lead.
 -- Assumes nothing.
 pub read-records : (xs : List Record) (q : State) → Reads xs q → All Fits xs → kind_wanted q.wanted ≡ 0 → read_of (put_records xs []) ≡ record
-    { plan = q.plan; reading = Whole }
+    { plan = q.plan; reading = Ok tt }
 read-records xs q r a z =
     let s = put_records xs [] in
     let l = led xs q r a [] in

@@ -1,5 +1,6 @@
 -- What the writer writes of an accepted plan is accepted, and gives a copy of the plan; a file in the writer's order is what the writer writes of
 -- its plan. Assumes nothing.
+use Rattle.std.proofs.Common.{Ok}
 use Prim.Native.Nat.{ℕ, zero, suc, ◌+◌, ◌≤◌, ◌<◌}
 use mathlib.Core.Path.{◌≡◌, refl, sym, ap, ◌∙◌, subst}
 use mathlib.Core.Bool.{Bool, true, false, cond}
@@ -16,8 +17,7 @@ use Rattle.plan.specs.Extends.{Extends, Sized}
 use Rattle.plan.proofs.AppendLaws.{expr-longer, operator-longer, new-expr-start, new-operator-start}
 use Rattle.plan_file.specs.declared.Wanted.{Wanted}
 use Rattle.plan_file.specs.declared.State.{State}
-use Rattle.plan_file.specs.declared.Answer.{Answer}
-use Rattle.plan_file.specs.declared.Reading.TheVariants.{Whole}
+use Rattle.plan_file.specs.Answer.{Answer}
 use Rattle.plan_file.specs.Answers.{is_whole}
 use Rattle.plan_file.specs.Steps.{kind_wanted, start_state, read_of}
 use Rattle.plan_file.proofs.StepCases.{Wants, Way, a_column, an_expr, an_operator, an_item}
@@ -134,7 +134,7 @@ fits-plan xs q r a z =
 -- ---- what is read of what is written
 pub record WrittenBack (p : Plan) : Type 0 where
   pub plan : Plan
-  pub answer : read_of (write_of p) ≡ record { plan = plan; reading = Whole }
+  pub answer : read_of (write_of p) ≡ record { plan = plan; reading = Ok tt }
   pub columns : plan.columns.count ≡ p.columns.count
   pub exprs : plan.expressions.count ≡ p.expressions.count
   pub operators : plan.operators.count ≡ p.operators.count
@@ -229,10 +229,10 @@ placed_same p w l =
 -- Reading what the writer writes of an accepted plan in the writer's placement gives the very plan back. Assumes nothing.
 pub placed-back : (s : List ℕ) → Bytes s → is_whole (read_of s).reading ≡ true → Placed (read_of s).plan → read_of (write_of (read_of s).plan) ≡
     record
-    { plan = (read_of s).plan; reading = Whole }
+    { plan = (read_of s).plan; reading = Ok tt }
 placed-back s b e l =
     let w = read-plan s b e in
-    w.back.answer ∙ ap (λ (p : Plan). record { plan = p; reading = Whole }) (sym (placed_same (read_of s).plan w l))
+    w.back.answer ∙ ap (λ (p : Plan). record { plan = p; reading = Ok tt }) (sym (placed_same (read_of s).plan w l))
 
 -- The plan that is read of what the writer wrote is in that placement. Assumes nothing.
 pub back-placed : (p : Plan) (w : WrittenBack p) → Placed w.plan

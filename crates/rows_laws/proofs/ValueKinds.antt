@@ -1,4 +1,5 @@
 -- The value of an expression is NULL or of the expression's kind; so that of a typed predicate is TRUE, FALSE or UNKNOWN. Assumes nothing.
+use Rattle.std.proofs.Common.{Ok, Err}
 use mathlib.Core.Path.{◌≡◌, refl, sym, subst}
 use mathlib.Core.Bool.{Bool, true, false, cond, ◌&&◌, ◌||◌, false≢true}
 use mathlib.Core.List.{List}
@@ -31,7 +32,7 @@ use Rattle.rows_spec.specs.Typing.{kind_of_node, kind_at, boolean_at, typed_at}
 use Rattle.rows_spec.specs.Cells.{cell_at, listed_literal, fits_kind, cell_ok, cell_at_ok, row_ok}
 use Rattle.rows_spec.specs.Evaluate.{value_on, typed, evaluate_of}
 use Rattle.rows_spec.specs.declared.Row.{Row}
-use Rattle.rows_spec.specs.declared.Evaluation.TheVariants.{Value, NoSuch, Untyped, BadRow}
+use Rattle.rows_spec.specs.declared.EvaluationError.TheVariants.{NoSuch, Untyped, BadRow}
 use Rattle.rows_spec.proofs.ValueLaws.{value-step}
 use Rattle.rows_laws.proofs.NodeRules.{NodeOk, node_ok}
 
@@ -109,12 +110,12 @@ pub record Evaluated (p : Plan) (e : Expr) (row : Row) (v : ScalarValue) : Type 
   pub row-right : row_ok p row ≡ true
   pub value-is : v ≡ value_on p row e.0
 
-pub evaluated : (p : Plan) (e : Expr) (row : Row) (v : ScalarValue) → evaluate_of p e row ≡ Value v → Evaluated p e row v
+pub evaluated : (p : Plan) (e : Expr) (row : Row) (v : ScalarValue) → evaluate_of p e row ≡ Ok v → Evaluated p e row v
 unfolding evaluate_of
 evaluated p e row v = go (plan_ok p) (ltb e.0 p.expressions.count) (typed p e.0) (row_ok p row) refl refl refl refl
   where
     go : (a b c d : Bool) → plan_ok p ≡ a → ltb e.0 p.expressions.count ≡ b → typed p e.0 ≡ c → row_ok p row ≡ d
-        → cond (a && b) (cond c (cond d (Value (value_on p row e.0)) BadRow) Untyped) NoSuch ≡ Value v → Evaluated p e row v
+        → cond (a && b) (cond c (cond d (Ok (value_on p row e.0)) (Err BadRow)) (Err Untyped)) (Err NoSuch) ≡ Ok v → Evaluated p e row v
     go true true true true ha hb hc hd q =
         record { rules-kept = ha; is-there = ltb-true e.0 p.expressions.count hb; is-typed = hc; row-right = hd; value-is = cc }
     go true true true false ha hb hc hd q = absurd (let z : ◌≡◌ {A = ℕ} 0 1 = cc in omega arith)
@@ -123,7 +124,7 @@ evaluated p e row v = go (plan_ok p) (ltb e.0 p.expressions.count) (typed p e.0)
     go false b c d ha hb hc hd q = absurd (let z : ◌≡◌ {A = ℕ} 0 1 = cc in omega arith)
 
 -- what is answered is TRUE, FALSE or UNKNOWN
-pub answer-ternary : (p : Plan) (e : Expr) (row : Row) (v : ScalarValue) → evaluate_of p e row ≡ Value v → Ternary v
+pub answer-ternary : (p : Plan) (e : Expr) (row : Row) (v : ScalarValue) → evaluate_of p e row ≡ Ok v → Ternary v
 answer-ternary p e row v q =
     let r = evaluated p e row v q in
     ternary v (subst (λ (w : ScalarValue). of_kind K.Boolean w ≡ true) (sym r.value-is)

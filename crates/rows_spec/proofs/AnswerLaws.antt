@@ -1,4 +1,5 @@
 -- What `evaluate` answers, a way through the code each. Assumes nothing.
+use Rattle.std.proofs.Common.{Ok, Err}
 use mathlib.Core.Path.{◌≡◌}
 use mathlib.Core.Bool.{true, false, ◌&&◌}
 use Prim.Native.Nat.{◌<◌, ◌≤◌}
@@ -12,7 +13,7 @@ use Rattle.plan_rules.proofs.Parts.{exprs-within}
 use Rattle.rows_spec.specs.Cells.{row_ok}
 use Rattle.rows_spec.specs.Evaluate.{value_on, typed, evaluate_of}
 use Rattle.rows_spec.specs.declared.Row.{Row}
-use Rattle.rows_spec.specs.declared.Evaluation.TheVariants.{Value, NoSuch, Untyped, BadRow}
+use Rattle.rows_spec.specs.declared.EvaluationError.TheVariants.{NoSuch, Untyped, BadRow}
 
 -- a plan that keeps the rules has at most 1,024 expressions
 pub few-exprs : (p : Plan) → plan_ok p ≡ true → p.expressions.count ≤ 1024
@@ -26,25 +27,25 @@ few-exprs p h =
     && all_from (scanned_once p) 0 p.columns.count))) h)
 
 module _ (p : Plan) (e : Expr) (row : Row) where
-  pub broken_plan : plan_ok p ≡ false → NoSuch ≡ evaluate_of p e row
+  pub broken_plan : plan_ok p ≡ false → (Err NoSuch) ≡ evaluate_of p e row
   unfolding evaluate_of
   broken_plan a = rw a
 
   module _ (ok : plan_ok p ≡ true) where
-    pub no_such : p.expressions.count ≤ e.0 → NoSuch ≡ evaluate_of p e row
+    pub no_such : p.expressions.count ≤ e.0 → (Err NoSuch) ≡ evaluate_of p e row
     unfolding evaluate_of
     no_such le = rw (ok, le-ltb e.0 p.expressions.count le)
 
     module _ (lt : e.0 < p.expressions.count) where
-      pub not-typed : typed p e.0 ≡ false → Untyped ≡ evaluate_of p e row
+      pub not-typed : typed p e.0 ≡ false → (Err Untyped) ≡ evaluate_of p e row
       unfolding evaluate_of
       not-typed a = rw (ok, lt-ltb e.0 p.expressions.count lt, a)
 
       module _ (is-typed : typed p e.0 ≡ true) where
-        pub bad-row : row_ok p row ≡ false → BadRow ≡ evaluate_of p e row
+        pub bad-row : row_ok p row ≡ false → (Err BadRow) ≡ evaluate_of p e row
         unfolding evaluate_of
         bad-row a = rw (ok, lt-ltb e.0 p.expressions.count lt, is-typed, a)
 
-        pub found : row_ok p row ≡ true → Value (value_on p row e.0) ≡ evaluate_of p e row
+        pub found : row_ok p row ≡ true → Ok (value_on p row e.0) ≡ evaluate_of p e row
         unfolding evaluate_of
         found a = rw (ok, lt-ltb e.0 p.expressions.count lt, is-typed, a)

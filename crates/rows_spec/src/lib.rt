@@ -2,8 +2,6 @@
 // specs/, and what holds of it is proved in proofs/.
 #![tactic(auto)]
 
-use scalar::ScalarValue;
-
 // A value for every column, as the three numbers of a literal's record.
 #[derive(Clone, Copy)]
 pub struct Row {
@@ -12,10 +10,9 @@ pub struct Row {
     pub bits: [u64; 64],
 }
 
-// What evaluating answers: a value, or why there is none.
-#[derive(Clone, Copy)]
-pub enum Evaluation {
-    Value(ScalarValue),
+// Why an expression has no value on a row.
+#[derive(Clone, Copy, PartialEq, Eq)]
+pub enum EvaluationError {
     NoSuch,
     Untyped,
     BadRow,

@@ -1,4 +1,5 @@
 -- Edges of the conversion and of equality, by computing. Assumes nothing.
+use Rattle.std.proofs.Common.{Some, None}
 use mathlib.Core.Path.{◌≡◌, refl}
 use mathlib.Core.Bool.{true, false}
 use lib.IntN.{pos, negsuc}
@@ -6,33 +7,32 @@ use lib.Ieee.{binary64, lt, eq, of_int, of_bits, to_bits}
 use Rattle.scalar.specs.Scalars.{scalar_to_f64, same_scalar, less_scalar}
 use Rattle.scalar.specs.Coded.{scalar_of, bits_of}
 use Rattle.scalar.specs.declared.ScalarValue.TheVariants as S
-use Rattle.scalar.specs.declared.Number.TheVariants.{Of, Nothing}
 
 -- 2 ^ 53 converts, and 2 ^ 53 + 1 does not
-pub at_edge : scalar_to_f64 (S.Int64 (pos 9007199254740992)) ≡ Of (of_bits binary64 0x4340_0000_0000_0000)
+pub at_edge : scalar_to_f64 (S.Int64 (pos 9007199254740992)) ≡ Some (of_bits binary64 0x4340_0000_0000_0000)
 unfolding of_int of_bits
 at_edge = refl
 
-pub past_edge : scalar_to_f64 (S.Int64 (pos 9007199254740993)) ≡ Nothing
+pub past_edge : scalar_to_f64 (S.Int64 (pos 9007199254740993)) ≡ None
 past_edge = refl
 
 -- -2 ^ 53 converts, and -2 ^ 53 - 1 and the least Int64 do not
-pub at-low_edge : scalar_to_f64 (S.Int64 (negsuc 9007199254740991)) ≡ Of (of_bits binary64 0xc340_0000_0000_0000)
+pub at-low_edge : scalar_to_f64 (S.Int64 (negsuc 9007199254740991)) ≡ Some (of_bits binary64 0xc340_0000_0000_0000)
 unfolding of_int of_bits
 at-low_edge = refl
 
-pub past-low_edge : scalar_to_f64 (S.Int64 (negsuc 9007199254740992)) ≡ Nothing
+pub past-low_edge : scalar_to_f64 (S.Int64 (negsuc 9007199254740992)) ≡ None
 past-low_edge = refl
 
-pub least : scalar_to_f64 (S.Int64 (negsuc 9223372036854775807)) ≡ Nothing
+pub least : scalar_to_f64 (S.Int64 (negsuc 9223372036854775807)) ≡ None
 least = refl
 
 -- infinity and the NaN bound nothing
-pub infinity : scalar_to_f64 (S.Float64 (of_bits binary64 0x7ff0_0000_0000_0000)) ≡ Nothing
+pub infinity : scalar_to_f64 (S.Float64 (of_bits binary64 0x7ff0_0000_0000_0000)) ≡ None
 unfolding of_bits
 infinity = refl
 
-pub nan_no_number : scalar_to_f64 (S.Float64 (of_bits binary64 0x7ff8_0000_0000_0000)) ≡ Nothing
+pub nan_no_number : scalar_to_f64 (S.Float64 (of_bits binary64 0x7ff8_0000_0000_0000)) ≡ None
 unfolding of_bits
 nan_no_number = refl
 

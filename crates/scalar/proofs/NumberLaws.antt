@@ -1,5 +1,6 @@
 -- The number that a scalar gives is finite, fits an f64, and is the scalar's own exact value: the conversion loses nothing. So numbers of scalars compare
 -- as the scalars' values do, and those of whole numbers as the whole numbers do. Assumes nothing.
+use Rattle.std.proofs.Common.{Some, None, Option}
 use mathlib.Core.Path.{◌≡◌, refl, ◌∙◌, ap₂, subst}
 use mathlib.Core.Bool.{Bool, true, false, cond, false≢true}
 use Prim.Native.Nat.{◌^◌}
@@ -14,8 +15,6 @@ use Rattle.scalar.specs.Exact.{eq_z, finite, exact_in, whole_in}
 use Rattle.scalar.specs.Scalars.{small, scalar_to_f64, Typed, has_value, value_of, is_whole, whole_of}
 use Rattle.scalar.specs.declared.ScalarValue.{ScalarValue}
 use Rattle.scalar.specs.declared.ScalarValue.TheVariants as S
-use Rattle.scalar.specs.declared.Number.{Number}
-use Rattle.scalar.specs.declared.Number.TheVariants.{Of, Nothing}
 use Rattle.scalar.proofs.ExactLaws.{lt-exact, eq-exact, exact_of_int, of_int_finite, i32_in_float, lt_z_scale, eq_z_scale}
 
 -- the small whole numbers are those that an f64 holds
@@ -38,11 +37,11 @@ whole : (z : ℤ) → T (in_float binary64 z) → record {
 whole z t = record { number = of_int_finite binary64 z t; held = of_int-fits binary64 z; same = exact_of_int binary64 z t }
 
 -- P of the number, where there is one
-abbrev pub OfNumber : (Float → Type 0) → Number → Type 0
-OfNumber P (Of x) = P x
-OfNumber P Nothing = Unit {0}
+abbrev pub OfNumber : (Float → Type 0) → Option Float → Type 0
+OfNumber P (Some x) = P x
+OfNumber P None = Unit {0}
 
-pub chosen : (P : Float → Type 0) (b : Bool) (x : Float) → (T b → P x) → OfNumber P (cond b (Of x) Nothing)
+pub chosen : (P : Float → Type 0) (b : Bool) (x : Float) → (T b → P x) → OfNumber P (cond b (Some x) None)
 chosen P true x f = f tt
 chosen P false x f = tt
 
@@ -55,11 +54,11 @@ all (S.Int64 n) h = chosen (Converts (S.Int64 n)) (small n) (of_int binary64 n)
 all (S.Float64 x) h = chosen (Converts (S.Float64 x)) (finite x) x (λ t. record { number = t; held = h; same = refl })
 all (S.Date32 n) h = let w = whole n (i32_in_float n h) in record { number = w.number; held = w.held; same = w.same }
 
-pub converts : (v : ScalarValue) (x : Float) → Typed v → scalar_to_f64 v ≡ Of x → Converts v x
+pub converts : (v : ScalarValue) (x : Float) → Typed v → scalar_to_f64 v ≡ Some x → Converts v x
 converts v x h e = subst (OfNumber (Converts v)) e (all v h)
 
 -- a scalar that gives a number has an exact value
-pub number-value : (v : ScalarValue) (x : Float) → scalar_to_f64 v ≡ Of x → has_value v ≡ true
+pub number-value : (v : ScalarValue) (x : Float) → scalar_to_f64 v ≡ Some x → has_value v ≡ true
 number-value v x e = subst (OfNumber (λ (y : Float). has_value v ≡ true)) e (go v)
   where
     go : (v : ScalarValue) → OfNumber (λ (y : Float). has_value v ≡ true) (scalar_to_f64 v)
@@ -71,7 +70,7 @@ number-value v x e = subst (OfNumber (λ (y : Float). has_value v ≡ true)) e (
     go (S.Date32 n) = refl
 
 -- the numbers of two scalars compare as the scalars' exact values do
-module _ (v w : ScalarValue) (x y : Float) (hv : Typed v) (hw : Typed w) (ev : scalar_to_f64 v ≡ Of x) (ew : scalar_to_f64 w ≡ Of y) where
+module _ (v w : ScalarValue) (x y : Float) (hv : Typed v) (hw : Typed w) (ev : scalar_to_f64 v ≡ Some x) (ew : scalar_to_f64 w ≡ Some y) where
   pub number_lt : lt x y ≡ lt_z (value_of v) (value_of w)
   number_lt =
       let a = converts v x hv ev in
@@ -93,7 +92,7 @@ whole-value (S.Int64 n) h = refl
 whole-value (S.Float64 x) h = absurd (false≢true h)
 whole-value (S.Date32 n) h = refl
 
-module _ (v w : ScalarValue) (x y : Float) (hv : Typed v) (hw : Typed w) (ev : scalar_to_f64 v ≡ Of x) (ew : scalar_to_f64 w ≡ Of y) (wv : is_whole v ≡ true)
+module _ (v w : ScalarValue) (x y : Float) (hv : Typed v) (hw : Typed w) (ev : scalar_to_f64 v ≡ Some x) (ew : scalar_to_f64 w ≡ Some y) (wv : is_whole v ≡ true)
     (ww : is_whole w ≡ true) where
   pub wholes_lt : lt x y ≡ lt_z (whole_of v) (whole_of w)
   wholes_lt =

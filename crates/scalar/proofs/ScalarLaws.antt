@@ -1,6 +1,7 @@
 -- Equality and order of scalars. Equality is symmetric, transitive, and reflexive but for the NaN; the same scalars have one kind, are NULL together,
 -- compare alike with every scalar, and bound by the same number. Order is irreflexive and transitive, and total on one kind but for NULL and the NaN.
 -- On exact values both are those of the values. Assumes nothing.
+use Rattle.std.proofs.Common.{Some, None, Option}
 use mathlib.Core.Path.{◌≡◌, refl, sym, ap, ap₂, ◌∙◌, subst}
 use mathlib.Core.Bool.{Bool, true, false, not, cond, ◌&&◌, ◌||◌, beq, true≢false, false≢true}
 use Prim.Native.Nat.{ℕ, zero, suc, ◌+◌, ◌-◌, ◌*◌, ◌/◌, ◌%◌, ◌^◌, compare}
@@ -16,8 +17,6 @@ use Rattle.scalar.specs.Scalars.{pairwise, same_scalar, less_scalar, small, scal
 use Rattle.scalar.specs.Coded.{case_code}
 use Rattle.scalar.specs.declared.Kind.{Kind}
 use Rattle.scalar.specs.declared.Kind.TheVariants as K
-use Rattle.scalar.specs.declared.Number.{Number}
-use Rattle.scalar.specs.declared.Number.TheVariants.{Of, Nothing}
 use Rattle.scalar.specs.declared.ScalarValue.{ScalarValue}
 use Rattle.scalar.specs.declared.ScalarValue.TheVariants as S
 use Rattle.scalar.proofs.WholeLaws.{eq_z→eq, eq_z-refl, lt→le, le_lt, irrefl, one_of}
@@ -230,24 +229,24 @@ no_nan (S.Float64 x) = chosen (λ (y : Float). is_nan y ≡ false) (finite x) x 
 no_nan (S.Date32 n) = whole_no_nan n
 
 -- no scalar bounds by the NaN
-pub number_no_nan : (v : ScalarValue) (x : Float) → scalar_to_f64 v ≡ Of x → is_nan x ≡ false
+pub number_no_nan : (v : ScalarValue) (x : Float) → scalar_to_f64 v ≡ Some x → is_nan x ≡ false
 number_no_nan v x e = subst (OfNumber (λ (y : Float). is_nan y ≡ false)) e (no_nan v)
 
 -- numbers that are both none, or are `==`
-abbrev pub same_number : Number → Number → Bool
-same_number (Of x) (Of y) = eq x y
-same_number (Of x) Nothing = false
-same_number Nothing (Of y) = false
-same_number Nothing Nothing = true
+abbrev pub same_number : Option Float → Option Float → Bool
+same_number (Some x) (Some y) = eq x y
+same_number (Some x) None = false
+same_number None (Some y) = false
+same_number None None = true
 
-number-self : (r : Number) → OfNumber (λ (x : Float). is_nan x ≡ false) r → same_number r r ≡ true
-number-self (Of x) h = eq_self x ∙ ap not h
-number-self Nothing h = refl
+number-self : (r : Option Float) → OfNumber (λ (x : Float). is_nan x ≡ false) r → same_number r r ≡ true
+number-self (Some x) h = eq_self x ∙ ap not h
+number-self None h = refl
 
 float-number : (x y : Float) → eq x y ≡ true → same_number (scalar_to_f64 (S.Float64 x)) (scalar_to_f64 (S.Float64 y)) ≡ true
-float-number x y h = ap (λ (b : Bool). same_number (cond b (Of x) Nothing) (cond (finite y) (Of y) Nothing)) (finite-alike x y h) ∙ go (finite y)
+float-number x y h = ap (λ (b : Bool). same_number (cond b (Some x) None) (cond (finite y) (Some y) None)) (finite-alike x y h) ∙ go (finite y)
   where
-    go : (b : Bool) → same_number (cond b (Of x) Nothing) (cond b (Of y) Nothing) ≡ true
+    go : (b : Bool) → same_number (cond b (Some x) None) (cond b (Some y) None) ≡ true
     go true = h
     go false = refl
 
@@ -256,15 +255,15 @@ pub same_numbers : (a b : ScalarValue) → same_scalar a b ≡ true → same_num
 same_numbers = same_cases (λ (a b : ScalarValue). same_number (scalar_to_f64 a) (scalar_to_f64 b) ≡ true) (λ v. number-self (scalar_to_f64 v) (no_nan
     v)) float-number
 
-pub same_number_lem : (a b : ScalarValue) (x y : Float) → same_scalar a b ≡ true → scalar_to_f64 a ≡ Of x → scalar_to_f64 b ≡ Of y → eq x y ≡ true
+pub same_number_lem : (a b : ScalarValue) (x y : Float) → same_scalar a b ≡ true → scalar_to_f64 a ≡ Some x → scalar_to_f64 b ≡ Some y → eq x y ≡ true
 same_number_lem a b x y h e d = sym (ap₂ same_number e d) ∙ same_numbers a b h
 
-pub same-nothing : (a b : ScalarValue) → same_scalar a b ≡ true → scalar_to_f64 a ≡ Nothing → scalar_to_f64 b ≡ Nothing
-same-nothing a b h e = go (scalar_to_f64 b) (sym (ap (λ (r : Number). same_number r (scalar_to_f64 b)) e) ∙ same_numbers a b h)
+pub same-nothing : (a b : ScalarValue) → same_scalar a b ≡ true → scalar_to_f64 a ≡ None → scalar_to_f64 b ≡ None
+same-nothing a b h e = go (scalar_to_f64 b) (sym (ap (λ (r : Option Float). same_number r (scalar_to_f64 b)) e) ∙ same_numbers a b h)
   where
-    go : (r : Number) → same_number Nothing r ≡ true → r ≡ Nothing
-    go (Of y) k = absurd (false≢true k)
-    go Nothing k = refl
+    go : (r : Option Float) → same_number None r ≡ true → r ≡ None
+    go (Some y) k = absurd (false≢true k)
+    go None k = refl
 
 -- ---- order
 float-less : (x y : Float) → eq x y ≡ true → (c : ScalarValue) → less_scalar (S.Float64 x) c ≡ less_scalar (S.Float64 y) c

@@ -1,5 +1,5 @@
 -- Equality and order of scalars, and the number that a scalar bounds by. Assumes nothing.
-use Rattle.std.specs.Prelude.{Bool, true, false, not, cond, ◌&&◌, T, leb, ℤ, pos, nat_abs, Float}
+use Rattle.std.specs.Prelude.{Bool, true, false, not, cond, ◌&&◌, T, leb, ℤ, pos, nat_abs, Float, Some, None, Option}
 use Rattle.std.specs.Bool.{beq}
 use Rattle.std.specs.Int.Signed.{lt_z}
 use Rattle.std.specs.Float.{binary64}
@@ -11,8 +11,6 @@ use Rattle.scalar.specs.Kinds.{same_kind}
 use Rattle.scalar.specs.declared.Kind.{Kind}
 use Rattle.scalar.specs.declared.ScalarValue.{ScalarValue}
 use Rattle.scalar.specs.declared.ScalarValue.TheVariants as S
-use Rattle.scalar.specs.declared.Number.{Number}
-use Rattle.scalar.specs.declared.Number.TheVariants.{Of, Nothing}
 
 -- two scalars of one variant by that variant's function, and two of different variants as `other` says
 abbrev pub pairwise : {X : Type 0} → X → (Kind → Kind → X) → (Bool → Bool → X) → (ℤ → ℤ → X) → (ℤ → ℤ → X) → (Float → Float → X) → (ℤ → ℤ → X) → ScalarValue
@@ -67,13 +65,13 @@ abbrev pub small : ℤ → Bool
 small n = leb (nat_abs n) 9007199254740992
 
 -- the number that a scalar bounds by: an Int32, a Date32, a small Int64 converted, and a finite Float64
-abbrev pub scalar_to_f64 : ScalarValue → Number
-scalar_to_f64 (S.Null k) = Nothing
-scalar_to_f64 (S.Boolean b) = Nothing
-scalar_to_f64 (S.Int32 n) = Of (of_int binary64 n)
-scalar_to_f64 (S.Int64 n) = cond (small n) (Of (of_int binary64 n)) Nothing
-scalar_to_f64 (S.Float64 x) = cond (finite x) (Of x) Nothing
-scalar_to_f64 (S.Date32 n) = Of (of_int binary64 n)
+abbrev pub scalar_to_f64 : ScalarValue → Option Float
+scalar_to_f64 (S.Null k) = None
+scalar_to_f64 (S.Boolean b) = None
+scalar_to_f64 (S.Int32 n) = Some (of_int binary64 n)
+scalar_to_f64 (S.Int64 n) = cond (small n) (Some (of_int binary64 n)) None
+scalar_to_f64 (S.Float64 x) = cond (finite x) (Some x) None
+scalar_to_f64 (S.Date32 n) = Some (of_int binary64 n)
 
 -- what a scalar holds is a value of its type
 abbrev pub Typed : ScalarValue → Type 0

@@ -19,7 +19,7 @@ use Rattle.simplify_spec.specs.OneExpression.{shape_in, kept, failed, add_record
 use Rattle.simplify_spec.specs.OneExpression.{joined, operands_from, item_set, items_put, counted, with_items, room_for, rebuilt, nary_of, step_by}
 use Rattle.simplify_spec.specs.OneExpression.{simplify_at, with_node}
 use Rattle.simplify_spec.specs.declared.Tables.{Tables}
-use Rattle.simplify_spec.specs.declared.Simplified.{Simplified}
+use Rattle.simplify_spec.specs.Answers.{Simplified}
 use Rattle.simplify_spec.specs.declared.Shape.{Shape}
 use Rattle.simplify_spec.specs.declared.Shape.TheVariants.{Boolean, Not, Compare, And, Or, Other}
 use Rattle.simplify_spec.proofs.StepLaws.{simplify_at_lem}

@@ -1,4 +1,5 @@
 -- The ways of the functions that make one step, one by one, over their definitions. Assumes nothing.
+use Rattle.std.proofs.Common.{Ok, Err, Result}
 use mathlib.Core.Path.{◌≡◌, refl, sym, ap, ◌∙◌}
 use mathlib.Core.Bool.{Bool, true, false, not, cond, ◌&&◌}
 use mathlib.Core.List.{List}
@@ -9,8 +10,8 @@ use borrow.Author.Tests.{eq-eqb, ne_eqb, le-leb, lt-leb}
 use Rattle.comparison.specs.declared.BinaryOp.{BinaryOp}
 use Rattle.plan_kinds.specs.declared.Record.{Record}
 use Rattle.plan.specs.Plans.{expression_pushed}
-use Rattle.plan.specs.declared.Added.{Added}
-use Rattle.plan.specs.declared.Added.TheVariants.{At, Room}
+use Rattle.plan.specs.declared.AppendError.{AppendError}
+use Rattle.plan.specs.declared.AppendError.TheVariants.{Room}
 use Rattle.plan.specs.declared.Expressions.{Expressions}
 use Rattle.plan_append.specs.Appending.{exprs_of, items_of, Grew, grown_to, expr_added}
 use Rattle.plan_append.specs.declared.Grown.{Grown}
@@ -23,7 +24,7 @@ use Rattle.simplify_spec.specs.OneExpression.{st_of, with_node, handle, shape_in
 use Rattle.simplify_spec.specs.OneExpression.{not_step, not_of}
 use Rattle.simplify_spec.specs.OneExpression.{compare_of, item_set, counted, with_items}
 use Rattle.simplify_spec.specs.declared.Tables.{Tables}
-use Rattle.simplify_spec.specs.declared.Simplified.{Simplified}
+use Rattle.simplify_spec.specs.Answers.{Simplified}
 use Rattle.simplify_spec.specs.declared.Shape.{Shape}
 use Rattle.simplify_expr.specs.declared.Done.{Done}
 use Rattle.simplify_expr.specs.declared.Tally.{Tally}
@@ -43,9 +44,9 @@ module _ (kind code a b start bits ia ib : List ℕ) where
   there d s h e = ap (result_of kind code a b start bits ia ib) e
 
 -- an expression more, if there was room
-abbrev took_or : Tables → Expressions → Added → Simplified
-took_or st t (At n) = kept (st_of t st.items true) n
-took_or st t Room = failed (st_of t st.items st.changed)
+abbrev took_or : Tables → Expressions → Result ℕ AppendError → Simplified
+took_or st t (Ok n) = kept (st_of t st.items true) n
+took_or st t (Err Room) = failed (st_of t st.items st.changed)
 
 took_or_lem : (st : Tables) (x : Record) (first : ℕ)
     → took_or st (expr_added st.exprs x first).table (expr_added st.exprs x first).added ≡ add_record st x first
@@ -53,7 +54,7 @@ unfolding expr_added
 took_or_lem st x first = go (ltb st.exprs.count 1024)
   where
     either : Bool → Grew Expressions
-    either b = cond b (grown_to (expression_pushed st.exprs x first) (At st.exprs.count)) (grown_to st.exprs Room)
+    either b = cond b (grown_to (expression_pushed st.exprs x first) (Ok st.exprs.count)) (grown_to st.exprs (Err Room))
 
     go : (b : Bool) → took_or st (either b).table (either b).added ≡ cond b (kept (with_node st x first) st.exprs.count) (failed st)
     go true = refl
@@ -61,9 +62,9 @@ took_or_lem st x first = go (ltb st.exprs.count 1024)
 
 module _ (kind code a b start bits ia ib : List ℕ) (s : Done) (st : Tables) (ei : st.items ≡ items_of ia ib s.used) (ec : st.changed ≡ s.changed)
   where
-    done-way : (k : ℕ) (x : Added) → result_of kind code a b start bits ia ib (done_of s k x) ≡ took_or st (exprs_of kind code a b start bits k) x
-    done-way k (At n) = λ j. kept (st_of (exprs_of kind code a b start bits k) (sym ei j) true) n
-    done-way k Room = λ j. failed (st_of (exprs_of kind code a b start bits k) (sym ei j) (sym ec j))
+    done-way : (k : ℕ) (x : Result ℕ AppendError) → result_of kind code a b start bits ia ib (done_of s k x) ≡ took_or st (exprs_of kind code a b start bits k) x
+    done-way k (Ok n) = λ j. kept (st_of (exprs_of kind code a b start bits k) (sym ei j) true) n
+    done-way k (Err Room) = λ j. failed (st_of (exprs_of kind code a b start bits k) (sym ei j) (sym ec j))
 
 pub added-way : (kind code a b start bits kind' code' a' b' start' bits' ia ib : List ℕ) (s r : Done) (g : Grown) (x : Record) (first : ℕ)
     → grown_to (exprs_of kind' code' a' b' start' bits' g.count) g.added ≡ expr_added (exprs_of kind code a b start bits s.exprs) x first

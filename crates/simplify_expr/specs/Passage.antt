@@ -1,16 +1,16 @@
 -- How the code comes to what the definitions say: the tables as arrays lent one by one, and how it goes through the operands of an And or Or. It counts
 -- on the way in, makes the node at the end, and writes each operand that is kept on the way back. Assumes nothing.
-use Rattle.std.specs.Prelude.{ℕ, ◌+◌, Bool, true, false, not, cond, ◌&&◌, ◌||◌, List, [], ◌∷◌, eqb, length}
+use Rattle.std.specs.Prelude.{ℕ, ◌+◌, Bool, true, false, not, cond, ◌&&◌, ◌||◌, List, [], ◌∷◌, eqb, length, Ok, Err, Result}
 use Rattle.plan.specs.declared.Items.{Items}
-use Rattle.plan.specs.declared.Added.{Added}
-use Rattle.plan.specs.declared.Added.TheVariants.{At, Room}
+use Rattle.plan.specs.declared.AppendError.{AppendError}
+use Rattle.plan.specs.declared.AppendError.TheVariants.{Room}
 use Rattle.plan_append.specs.Appending.{exprs_of, items_of}
 use Rattle.plan_data.specs.Nodes.{run_of, record_of_expr}
 use Rattle.plan_data.specs.declared.ExprData.TheVariants.{Nary}
 use Rattle.simplify_spec.specs.Shapes.{nary_op_for}
 use Rattle.simplify_spec.specs.OneExpression.{kept, failed, took, add_record, add_literal, Operands, item_set, items_put, counted, with_items, room_for}
 use Rattle.simplify_spec.specs.declared.Tables.{Tables}
-use Rattle.simplify_spec.specs.declared.Simplified.{Simplified}
+use Rattle.simplify_spec.specs.Answers.{Simplified}
 use Rattle.simplify_expr.specs.declared.Done.{Done}
 use Rattle.simplify_expr.specs.declared.Tally.{Tally}
 use Rattle.simplify_expr.specs.declared.Walk.{Walk}
@@ -43,9 +43,9 @@ abbrev pub plain_out : Simplified → Out
 plain_out r = record { res = r; base = 0; list = false }
 
 -- how far it came from s with one expression more, if there was room: there are k of them
-abbrev pub done_of : Done → ℕ → Added → Done
-done_of s k (At n) = record { at = n; exprs = k; used = s.used; changed = true; ok = true }
-done_of s k Room = record { at = 0; exprs = k; used = s.used; changed = s.changed; ok = false }
+abbrev pub done_of : Done → ℕ → Result ℕ AppendError → Done
+done_of s k (Ok n) = record { at = n; exprs = k; used = s.used; changed = true; ok = true }
+done_of s k (Err Room) = record { at = 0; exprs = k; used = s.used; changed = s.changed; ok = false }
 
 abbrev pub no_tally : Tally
 no_tally = record { kept = 0; last = 0; dirty = false; absorbed = false }

@@ -35,8 +35,8 @@ use Rattle.simplify_spec.specs.OneOperator.{held_of, held_count, held_at, each_t
 use Rattle.simplify_spec.specs.OneOperator.{simplify_of, item_count, item_first, item_second, with_list, rebuilt_of, plan_with, plan_added}
 use Rattle.simplify_spec.specs.Meaning.{Good}
 use Rattle.simplify_spec.specs.declared.Tables.{Tables}
-use Rattle.simplify_spec.specs.declared.Each.{Each}
-use Rattle.simplify_spec.specs.declared.Rewritten.{Rewritten}
+use Rattle.simplify_spec.specs.Answers.{Each}
+use Rattle.simplify_spec.specs.Answers.{Rewritten}
 use Rattle.simplify_spec.proofs.OperatorTheorems.{list-extends, all-kept, is_rewrite}
 use Rattle.simplify_laws.specs.Wholes.{RightOperator}
 use Rattle.simplify_laws.proofs.NewOperators.{new-rules, selection_right, Marked, join-operator-right, map-right, sort-right, aggregation_right}

@@ -1,5 +1,6 @@
 -- Case 11 of the rules, on plans with a Boolean column b: And[] and And[b] stay, And[true] is true, Or[false, b] is b. And what the Selection on each is
 -- answered. Assumes nothing.
+use Rattle.std.proofs.Common.{Ok}
 use mathlib.Core.Path.{◌≡◌, refl}
 use mathlib.Core.Bool.{true}
 use mathlib.Core.List.{List, [], ◌∷◌, ◌++◌}
@@ -96,8 +97,8 @@ unfolding simplify_at simplify_below operands_from nary_of rebuilt expr_data
 or_false-is = refl
 
 -- a Selection on And[] or And[b] is kept, on And[true] replaced by its input, on Or[false, b] by a Selection on b
-pub selections_answered : ((simplify_of and_none asked).rewrite ≡ Keep) × ((simplify_of and_one asked).rewrite ≡ Keep)
-    × ((simplify_of and-true asked).rewrite ≡ Replace (record { 0 = 0 })) × ((simplify_of or-false asked).rewrite ≡ Replace (record { 0 = 2 }))
+pub selections_answered : ((simplify_of and_none asked).rewrite ≡ (Ok Keep)) × ((simplify_of and_one asked).rewrite ≡ (Ok Keep))
+    × ((simplify_of and-true asked).rewrite ≡ Ok (Replace (record { 0 = 0 }))) × ((simplify_of or-false asked).rewrite ≡ Ok (Replace (record { 0 = 2 })))
 unfolding simplify_of rewrite_of each_to write_all operator_data simplify_at simplify_below operands_from nary_of rebuilt expr_data plan_ok
     counts_within expr_ok_of
     operator_ok_of record_ok lists_ok item_ok scans_of all_from any_from count_from row_of line_of bits_ok handle_ok count_of more_of

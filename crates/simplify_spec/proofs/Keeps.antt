@@ -27,7 +27,7 @@ use Rattle.simplify_spec.specs.OneExpression.{nary_of, step_by, simplify_at}
 use Rattle.simplify_spec.specs.OneOperator.{plan_with}
 use Rattle.simplify_spec.specs.Meaning.{bare, Good, Grown, value_in, kind_in, TypedIn}
 use Rattle.simplify_spec.specs.declared.Tables.{Tables}
-use Rattle.simplify_spec.specs.declared.Simplified.{Simplified}
+use Rattle.simplify_spec.specs.Answers.{Simplified}
 use Rattle.simplify_spec.specs.declared.Shape.{Shape}
 use Rattle.simplify_spec.specs.declared.Shape.TheVariants.{Boolean, Not, Compare, And, Or, Other}
 use Rattle.simplify_spec.proofs.StepLaws.{enter_in, simplify_at_lem}

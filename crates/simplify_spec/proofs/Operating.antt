@@ -24,7 +24,7 @@ use Rattle.simplify_spec.specs.OneExpression.{node_in, shape_in, kept, enter_of,
 use Rattle.simplify_spec.specs.OneOperator.{plan_with}
 use Rattle.simplify_spec.specs.Meaning.{Good, Grown, Fixed, value_in, kind_in, TypedIn}
 use Rattle.simplify_spec.specs.declared.Tables.{Tables}
-use Rattle.simplify_spec.specs.declared.Simplified.{Simplified}
+use Rattle.simplify_spec.specs.Answers.{Simplified}
 use Rattle.simplify_spec.specs.declared.Shape.TheVariants.{Not}
 use Rattle.simplify_spec.proofs.StepLaws.{enter_in}
 use Rattle.simplify_spec.proofs.ShapeLaws.{not-of-shape, literal-of-shape}

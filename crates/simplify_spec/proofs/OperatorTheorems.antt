@@ -28,10 +28,10 @@ use Rattle.simplify_spec.specs.OneOperator.{write_all, with_list, rebuilt_of, pl
 use Rattle.simplify_spec.specs.OneOperator.{each_of, simplify_of}
 use Rattle.simplify_spec.specs.Meaning.{Good, Grown}
 use Rattle.simplify_spec.specs.declared.Tables.{Tables}
-use Rattle.simplify_spec.specs.declared.Simplified.{Simplified}
-use Rattle.simplify_spec.specs.declared.Each.{Each}
+use Rattle.simplify_spec.specs.Answers.{Simplified}
+use Rattle.simplify_spec.specs.Answers.{Each}
 use Rattle.simplify_spec.specs.declared.Held.{Held}
-use Rattle.simplify_spec.specs.declared.Rewritten.{Rewritten}
+use Rattle.simplify_spec.specs.Answers.{Rewritten}
 use Rattle.simplify_spec.proofs.StepLaws.{enter_in}
 use Rattle.simplify_spec.proofs.Growth.{grown-self, grown-on}
 use Rattle.simplify_spec.proofs.Keeping.{Kept, more-exprs}

@@ -1,4 +1,5 @@
 -- A Selection or a join that the simplifier replaces passes the same rows. Assumes nothing.
+use Rattle.std.proofs.Common.{Ok, Err}
 use mathlib.Core.Path.{◌≡◌, refl, sym, ap, ap₂, subst, ◌∙◌}
 use mathlib.Core.Bool.{true, ◌&&◌}
 use mathlib.Core.Logic.{◌⊎◌, inl, inr}
@@ -31,11 +32,12 @@ use Rattle.simplify_spec.specs.OneOperator.{held_of, held_count, held_at, each_t
 use Rattle.simplify_spec.specs.OneOperator.{rebuilt_of, plan_with, plan_added, operator_handle, rewrite_of, start_of, each_of, simplify_of}
 use Rattle.simplify_spec.specs.Meaning.{Good, value_in}
 use Rattle.simplify_spec.specs.declared.Tables.{Tables}
-use Rattle.simplify_spec.specs.declared.Simplified.{Simplified}
+use Rattle.simplify_spec.specs.Answers.{Simplified}
 use Rattle.simplify_spec.specs.declared.Held.{Held}
 use Rattle.simplify_spec.specs.declared.Held.TheVariants.{One}
-use Rattle.simplify_spec.specs.declared.Rewrite.TheVariants.{Keep, Replace, Room}
-use Rattle.simplify_spec.specs.declared.Rewritten.{Rewritten}
+use Rattle.simplify_spec.specs.declared.Rewrite.TheVariants.{Keep, Replace}
+use Rattle.simplify_spec.specs.declared.SimplifyError.TheVariants.{Room}
+use Rattle.simplify_spec.specs.Answers.{Rewritten}
 use Rattle.simplify_spec.proofs.StepLaws.{enter_in}
 use Rattle.simplify_spec.proofs.Operating.{lit_truth}
 use Rattle.simplify_spec.proofs.Theorems.{plan-good, grows, within, truth_kept}
@@ -143,18 +145,18 @@ module _ (p : Plan) (s : Sized p) (ok : plan_ok p ≡ true) (o : Operator) (lt :
             same = same_truth_of;
           }
 
-never : {A : Type 0} {r : Operator} → Keep ≡ Replace r → A
+never : {A : Type 0} {r : Operator} → (Ok Keep) ≡ Ok (Replace r) → A
 never e = absurd (let z : ◌≡◌ {A = ℕ} 0 1 = cc in omega arith)
 
-never-room : {A : Type 0} {r : Operator} → Room ≡ Replace r → A
+never-room : {A : Type 0} {r : Operator} → (Err Room) ≡ Ok (Replace r) → A
 never-room e = absurd (let z : ◌≡◌ {A = ℕ} 0 1 = cc in omega arith)
 
-same-handle : {a b : Operator} → Replace a ≡ Replace b → a ≡ b
+same-handle : {a b : Operator} → Ok (Replace a) ≡ Ok (Replace b) → a ≡ b
 same-handle e = cc
 
 module _ (p : Plan) (s : Sized p) (ok : plan_ok p ≡ true) (o : Operator) (lt : o.0 < p.operators.count) (e : Expr) (ty : typed p e.0 ≡ true) where
   -- a typed Selection that is replaced
-  pub selection_passes : (i : Operator) → operator_at p o.0 ≡ Selection e i → (r : Operator) → (simplify_of p o).rewrite ≡ Replace r → Passed p
+  pub selection_passes : (i : Operator) → operator_at p o.0 ≡ Selection e i → (r : Operator) → (simplify_of p o).rewrite ≡ Ok (Replace r) → Passed p
       (simplify_of p o).plan e.0 i r
   unfolding rewrite_of operator_data
   selection_passes i is = subst P (sym whole) parts
@@ -169,7 +171,7 @@ module _ (p : Plan) (s : Sized p) (ok : plan_ok p ≡ true) (o : Operator) (lt :
       at k = get_or (set (replicate 2048 0) 0 (simplify_at e.0 (start_of p)).at) k 0
 
       P : Rewritten → Type 0
-      P w = (r : Operator) → w.rewrite ≡ Replace r → Passed p w.plan e.0 i r
+      P w = (r : Operator) → w.rewrite ≡ Ok (Replace r) → Passed p w.plan e.0 i r
 
       whole : simplify_of p o
           ≡ rewrite_of p (Selection e i)
@@ -216,7 +218,7 @@ module _ (p : Plan) (s : Sized p) (ok : plan_ok p ≡ true) (o : Operator) (lt :
           (λ q r f. never-room f)
 
   -- a join by a typed `on` that is replaced: an Inner join passes the same pairs of rows
-  pub join-passes : (j : JoinType) (l i : Operator) → operator_at p o.0 ≡ Join j e l i → (r : Operator) → (simplify_of p o).rewrite ≡ Replace r
+  pub join-passes : (j : JoinType) (l i : Operator) → operator_at p o.0 ≡ Join j e l i → (r : Operator) → (simplify_of p o).rewrite ≡ Ok (Replace r)
       → Remade p (simplify_of p o).plan e.0 (λ (f : Expr). Join j f l i) r
   unfolding rewrite_of
   join-passes j l i is = subst P (sym whole) parts
@@ -225,7 +227,7 @@ module _ (p : Plan) (s : Sized p) (ok : plan_ok p ≡ true) (o : Operator) (lt :
       one = ap held_of is
 
       P : Rewritten → Type 0
-      P w = (r : Operator) → w.rewrite ≡ Replace r → Remade p w.plan e.0 (λ (f : Expr). Join j f l i) r
+      P w = (r : Operator) → w.rewrite ≡ Ok (Replace r) → Remade p w.plan e.0 (λ (f : Expr). Join j f l i) r
 
       whole : simplify_of p o
           ≡ rewrite_of p (Join j e l i)

@@ -10,7 +10,7 @@ use Rattle.comparison.specs.declared.BinaryOp.{BinaryOp}
 use Rattle.simplify_spec.specs.OneExpression.{shape_in, kept, not_of, compare_of, enter_of, joined, operands_from, nary_of, step_by, step_at}
 use Rattle.simplify_spec.specs.OneExpression.{simplify_below, simplify_at}
 use Rattle.simplify_spec.specs.declared.Tables.{Tables}
-use Rattle.simplify_spec.specs.declared.Simplified.{Simplified}
+use Rattle.simplify_spec.specs.Answers.{Simplified}
 use Rattle.simplify_spec.specs.declared.Shape.{Shape}
 use Rattle.simplify_spec.specs.declared.Shape.TheVariants.{Boolean, Not, Compare, And, Or, Other}
 

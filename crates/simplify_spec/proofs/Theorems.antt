@@ -1,4 +1,5 @@
 -- The theorems about simplifying one expression of a plan that keeps the rules. Assumes nothing.
+use Rattle.std.proofs.Common.{Ok}
 use mathlib.Core.Path.{◌≡◌, refl, sym, ap, ap₂, ◌∙◌}
 use mathlib.Core.Bool.{Bool, true, false, cond, ◌&&◌}
 use mathlib.Core.List.{List, [], ◌∷◌}
@@ -28,7 +29,6 @@ use Rattle.rows_spec.specs.Typing.{boolean_at, wanted, node_typed, flagged, typi
 use Rattle.rows_spec.specs.Cells.{row_ok}
 use Rattle.rows_spec.specs.Evaluate.{value_on, typed, evaluate_of}
 use Rattle.rows_spec.specs.declared.Row.{Row}
-use Rattle.rows_spec.specs.declared.Evaluation.TheVariants.{Value}
 use Rattle.rows_spec.proofs.TypingLaws.{typing_step, typing_in}
 use Rattle.rows_laws.proofs.NodeRules.{NodeOk, node_ok}
 use Rattle.rows_laws.proofs.ValueKinds.{Evaluated, evaluated}
@@ -184,7 +184,7 @@ pub plan-good : (p : Plan) → Sized p → plan_ok p ≡ true → Good p (start_
 plan-good p s ok = record { rules = rules p ok; sized = s }
 
 -- an expression of a plan, simplified: what evaluating it says on a row is said again, in the plan with the appended nodes, of the new expression
-module _ (p : Plan) (s : Sized p) (e : Expr) (row : Row) (v : ScalarValue) (said : evaluate_of p e row ≡ Value v)
+module _ (p : Plan) (s : Sized p) (e : Expr) (row : Row) (v : ScalarValue) (said : evaluate_of p e row ≡ Ok v)
     (ok : (simplify_at e.0 (start_of p)).ok ≡ true) where
   E : Evaluated p e row v
   E = evaluated p e row v said
@@ -209,7 +209,7 @@ module _ (p : Plan) (s : Sized p) (e : Expr) (row : Row) (v : ScalarValue) (said
       (typed-again p e.0 (start_of p) g E.is-there ok flag)
 
   pub said-again : evaluate_of (plan_with p (simplify_at e.0 (start_of p)).st) (handle (simplify_at e.0 (start_of p)).at) row
-      ≡ Value (value_on (plan_with p (simplify_at e.0 (start_of p)).st) row (simplify_at e.0 (start_of p)).at)
+      ≡ Ok (value_on (plan_with p (simplify_at e.0 (start_of p)).st) row (simplify_at e.0 (start_of p)).at)
   unfolding evaluate_of
   said-again =
       rw (

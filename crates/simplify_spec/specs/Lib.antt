@@ -1,3 +1,4 @@
+pub mod Answers
 pub mod Shapes
 pub mod OneExpression
 pub mod OneOperator

@@ -13,7 +13,7 @@ use Rattle.plan_data.specs.declared.ExprData.{ExprData}
 use Rattle.plan_data.specs.declared.ExprData.TheVariants.{Literal, Unary, Binary, Nary}
 use Rattle.simplify_spec.specs.Shapes.{shape_of, is_literal, nary_op_for}
 use Rattle.simplify_spec.specs.declared.Tables.{Tables}
-use Rattle.simplify_spec.specs.declared.Simplified.{Simplified}
+use Rattle.simplify_spec.specs.Answers.{Simplified}
 use Rattle.simplify_spec.specs.declared.Shape.{Shape}
 use Rattle.simplify_spec.specs.declared.Shape.TheVariants.{Boolean, Not, Compare, And, Or, Other}
 

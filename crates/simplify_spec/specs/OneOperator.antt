@@ -1,5 +1,5 @@
 -- Simplifying the expressions of one operator, as the Rust's `rewrite` and `simplify_operator_exprs` do, and the answer. Assumes nothing.
-use Rattle.std.specs.Prelude.{ℕ, zero, suc, ◌+◌, true, false, cond, ◌&&◌, List, ltb, leb, get_or, set, replicate}
+use Rattle.std.specs.Prelude.{ℕ, zero, suc, ◌+◌, true, false, cond, ◌&&◌, List, ltb, leb, get_or, set, replicate, Ok, Err, Result}
 use Rattle.plan.specs.declared.Plan.{Plan}
 use Rattle.plan.specs.declared.Items.{Items}
 use Rattle.plan.specs.declared.Operator.{Operator}
@@ -13,12 +13,14 @@ use Rattle.plan_data.specs.declared.OperatorData.TheVariants.{Limit, Output, Cro
 use Rattle.simplify_spec.specs.Shapes.{is_literal}
 use Rattle.simplify_spec.specs.OneExpression.{st_of, handle, shape_in, enter_of, simplify_at}
 use Rattle.simplify_spec.specs.declared.Tables.{Tables}
-use Rattle.simplify_spec.specs.declared.Each.{Each}
+use Rattle.simplify_spec.specs.Answers.{Each}
 use Rattle.simplify_spec.specs.declared.Held.{Held}
 use Rattle.simplify_spec.specs.declared.Held.TheVariants.{Nothing, One, Seconds, Firsts}
 use Rattle.simplify_spec.specs.declared.Rewrite.{Rewrite}
-use Rattle.simplify_spec.specs.declared.Rewrite.TheVariants.{Keep, Replace, Room, NoSuch}
-use Rattle.simplify_spec.specs.declared.Rewritten.{Rewritten}
+use Rattle.simplify_spec.specs.declared.SimplifyError.{SimplifyError}
+use Rattle.simplify_spec.specs.declared.Rewrite.TheVariants.{Keep, Replace}
+use Rattle.simplify_spec.specs.declared.SimplifyError.TheVariants.{Room, NoSuch}
+use Rattle.simplify_spec.specs.Answers.{Rewritten}
 
 -- which expressions are simplified: a Selection's predicate, the `on` of every join, a Map's expressions, the keys of Aggregation and Sort
 abbrev pub held_of : OperatorData → Held
@@ -120,7 +122,7 @@ plan_added p st d held at =
       items = with_list st.items (item_count held) (item_first p.items held at) (item_second held at);
     }
 
-abbrev pub answered : Plan → Rewrite → Rewritten
+abbrev pub answered : Plan → Result Rewrite SimplifyError → Rewritten
 answered p r = record { plan = p; rewrite = r }
 
 abbrev pub operator_handle : ℕ → Operator
@@ -130,8 +132,8 @@ operator_handle o = record { 0 = o }
 abbrev pub add_operator : Plan → Tables → OperatorData → Held → (ℕ → ℕ) → Rewritten
 add_operator p st d held at =
     cond (ltb p.operators.count 128 && leb (st.items.count + item_count held) 2048)
-    (answered (plan_added p st d held at) (Replace (operator_handle p.operators.count)))
-    (answered p Room)
+    (answered (plan_added p st d held at) (Ok (Replace (operator_handle p.operators.count))))
+    (answered p (Err Room))
 
 -- Selection(true, input) is replaced by its input
 abbrev pub input_or : Plan → Tables → OperatorData → Held → (ℕ → ℕ) → OperatorData → Rewritten
@@ -139,7 +141,7 @@ input_or p st d held at (Scan t cs) = add_operator p st d held at
 input_or p st d held at (ConstScan cs) = add_operator p st d held at
 input_or p st d held at (TableFunction cs) = add_operator p st d held at
 input_or p st d held at (Selection e i) =
-    cond (is_literal true (shape_in st (at 0))) (answered (plan_with p st) (Replace i)) (add_operator p st d held at)
+    cond (is_literal true (shape_in st (at 0))) (answered (plan_with p st) (Ok (Replace i))) (add_operator p st d held at)
 input_or p st d held at (Projection i cs) = add_operator p st d held at
 input_or p st d held at (Rename i ds) = add_operator p st d held at
 input_or p st d held at (Map i cs) = add_operator p st d held at
@@ -154,8 +156,8 @@ input_or p st d held at (Join t e l r) = add_operator p st d held at
 unfoldable pub rewrite_of : Plan → OperatorData → Each → Rewritten
 rewrite_of p d r =
     cond r.ok
-    (cond r.st.changed (input_or p r.st d (held_of d) (λ (k : ℕ). get_or r.ats k 0) d) (answered p Keep))
-    (answered p Room)
+    (cond r.st.changed (input_or p r.st d (held_of d) (λ (k : ℕ). get_or r.ats k 0) d) (answered p (Ok Keep)))
+    (answered p (Err Room))
 
 abbrev pub start_of : Plan → Tables
 start_of p = st_of p.expressions p.items false
@@ -166,11 +168,11 @@ each_of p d = each_to p.expressions.count (held_at p.items (held_of d)) (start_o
 -- the answer for the operator o of a plan, 8 first
 unfoldable pub simplify_of : Plan → Operator → Rewritten
 simplify_of p o =
-    cond (plan_ok p && ltb o.0 p.operators.count) (rewrite_of p (operator_at p o.0) (each_of p (operator_at p o.0))) (answered p NoSuch)
+    cond (plan_ok p && ltb o.0 p.operators.count) (rewrite_of p (operator_at p o.0) (each_of p (operator_at p o.0))) (answered p (Err NoSuch))
 
 -- the number of a refusal, 0 for none
-abbrev pub refusal_of : Rewrite → ℕ
-refusal_of Keep = 0
-refusal_of (Replace o) = 0
-refusal_of Room = 3
-refusal_of NoSuch = 8
+abbrev pub refusal_of : Result Rewrite SimplifyError → ℕ
+refusal_of (Ok Keep) = 0
+refusal_of (Ok (Replace o)) = 0
+refusal_of (Err Room) = 3
+refusal_of (Err NoSuch) = 8

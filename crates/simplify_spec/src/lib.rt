@@ -2,8 +2,10 @@
 // specs/, and what it keeps is proved in proofs/.
 #![tactic(auto)]
 
+ghost use Rattle.std.specs.Prelude.{◌≡◌};
+
 use comparison::BinaryOp;
-use plan::{Expr, Expressions, Items, Operator, Plan};
+use plan::{AppendError, Expr, Expressions, Items, Operator};
 
 // What an expression is to the simplifier: a literal Boolean, what it enters, or anything else. And and Or have a run of items.
 #[derive(Clone, Copy)]
@@ -44,34 +46,26 @@ pub struct Tables {
     pub changed: bool,
 }
 
-// One expression simplified: the tables, its handle, and whether there was room.
-#[derive(Clone, Copy)]
-pub struct Simplified {
-    pub st: Tables,
-    pub at: u16,
-    pub ok: bool,
-}
-
-// Expressions simplified one after the other: the tables, whether there was room, and the handles.
-#[derive(Clone, Copy)]
-pub struct Each {
-    pub st: Tables,
-    pub ok: bool,
-    pub ats: [u16; 2048],
-}
-
-// The answer: the operator stays, or another one stands for it; or a refusal.
-#[derive(Clone, Copy)]
+// What simplifying makes of an operator: it stays, or another one stands for it.
+#[derive(Clone, Copy, PartialEq, Eq)]
 pub enum Rewrite {
     Keep,
     Replace(Operator),
+}
+
+// Why an operator was not simplified: a table would be passed, or plan or handle break the rules.
+#[derive(Clone, Copy, PartialEq, Eq)]
+pub enum SimplifyError {
     Room,
     NoSuch,
 }
 
-// The plan with what was appended, or the plan as it was.
-#[derive(Clone, Copy)]
-pub struct Rewritten {
-    pub plan: Plan,
-    pub rewrite: Rewrite,
+impl From<AppendError> for SimplifyError {
+    ghost from_gives = { λ e f. f ≡ SimplifyError.Room };
+
+    fn from(e: AppendError) -> SimplifyError {
+        match e {
+            AppendError::Room => SimplifyError::Room,
+        }
+    }
 }

@@ -8,7 +8,7 @@ use borrow.Author.Tests.{le-ltb, lt-ltb, eq-eqb, ne_eqb}
 use Rattle.value_classes.specs.Parents.{joined}
 use Rattle.value_classes.specs.Classes.{classes_by, Whole, Falling, canonical_of, joined_classes, roots_joined, union_of}
 use Rattle.value_classes.specs.declared.ValueEquivalenceClasses.{ValueEquivalenceClasses}
-use Rattle.value_classes.specs.declared.United.{United}
+use Rattle.value_classes.specs.Answers.{United}
 use Rattle.value_classes.proofs.RootLaws.{joined_same}
 
 abbrev pub united : ValueEquivalenceClasses → Bool → United

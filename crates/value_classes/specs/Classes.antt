@@ -2,7 +2,7 @@
 use Rattle.std.specs.Prelude.{ℕ, Bool, true, false, cond, ◌&&◌, List, ◌≡◌, ltb, eqb, length, set}
 use Rattle.value_classes.specs.Parents.{Falls, root_of, parents_ok, joined, each}
 use Rattle.value_classes.specs.declared.ValueEquivalenceClasses.{ValueEquivalenceClasses}
-use Rattle.value_classes.specs.declared.United.{United}
+use Rattle.value_classes.specs.Answers.{United}
 
 -- classes by the parent of each identity
 abbrev pub classes_by : List ℕ → ValueEquivalenceClasses

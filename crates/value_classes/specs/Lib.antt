@@ -1,3 +1,4 @@
+pub mod Answers
 pub mod Parents
 pub mod Classes
 pub mod Listed

@@ -11,13 +11,6 @@ pub struct ValueEquivalenceClasses {
     pub parents: [u8; 128],
 }
 
-// The classes after a union, and whether two became one.
-#[derive(Clone, Copy)]
-pub struct United {
-    pub classes: ValueEquivalenceClasses,
-    pub joined: bool,
-}
-
 // Each class as a chain: the first member by representative, then the next after each member; 128 where there is none.
 #[derive(Clone, Copy)]
 pub struct Members {

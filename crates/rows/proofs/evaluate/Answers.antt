@@ -1,6 +1,6 @@
+use Rattle.std.proofs.Common.{Ok}
 use mathlib.Core.Path.{sym, ap, ◌∙◌}
 use native.Mathlib.Omega.{arith}
-use Rattle.rows_spec.specs.declared.Evaluation.TheVariants.{Value}
 use Rattle.rows_spec.proofs.AnswerLaws.{few-exprs, broken_plan, no_such, not-typed, bad-row, found}
 use Rattle.rows.proofs.evaluate.Goals as goal
 
@@ -25,6 +25,6 @@ returns-then-not-row_ok c =
 
 pub returns : goal.returns
 returns c =
-    ap Value c.value_on.ensures
+    ap Ok c.value_on.ensures
     ∙ found c.args.p c.args.e c.args.row (sym c.plan_ok.ensures ∙ c.if-not-plan_ok.false) c.if-n-e.false
     (sym c.typed.ensures ∙ c.if-not-typed.false) (sym c.row_ok.ensures ∙ c.if-not-row_ok.false)
