@@ -4,6 +4,7 @@
 ghost use Rattle.std.specs.Prelude.{◌≡◌};
 ghost use Rattle.value_range.specs.Ranges.{no_bound, bound_at, unbounded_range, takes_lower, takes_upper, tighten_lower, tighten_upper, empty_range};
 
+// One end of a range. That it is a float with flags, and no Option, is a rule of the project.
 #[derive(Clone, Copy)]
 pub struct Bound {
     pub value: f64,
@@ -38,36 +39,18 @@ impl Bound {
         }
     }
 
+    // Whether a lower bound at the value says more than this one.
     pub fn takes_lower(self, value: f64, inclusive: bool) -> bool
         ensures { result ≡ takes_lower self value inclusive }
     {
-        if !self.present {
-            return true;
-        }
-        if value > self.value {
-            return true;
-        }
-        if value == self.value {
-            self.inclusive && !inclusive
-        } else {
-            false
-        }
+        !self.present || value > self.value || (value == self.value && self.inclusive && !inclusive)
     }
 
+    // Whether an upper bound at the value says more than this one.
     pub fn takes_upper(self, value: f64, inclusive: bool) -> bool
         ensures { result ≡ takes_upper self value inclusive }
     {
-        if !self.present {
-            return true;
-        }
-        if value < self.value {
-            return true;
-        }
-        if value == self.value {
-            self.inclusive && !inclusive
-        } else {
-            false
-        }
+        !self.present || value < self.value || (value == self.value && self.inclusive && !inclusive)
     }
 }
 
@@ -85,12 +68,10 @@ impl ValueRange {
     pub fn tighten_lower(self, value: f64, inclusive: bool) -> Self
         ensures { result ≡ tighten_lower self value inclusive }
     {
-        let lower = self.lower;
-        if lower.takes_lower(value, inclusive) {
-            let upper = self.upper;
+        if self.lower.takes_lower(value, inclusive) {
             ValueRange {
                 lower: Bound::at(value, inclusive),
-                upper,
+                ..self
             }
         } else {
             self
@@ -100,12 +81,10 @@ impl ValueRange {
     pub fn tighten_upper(self, value: f64, inclusive: bool) -> Self
         ensures { result ≡ tighten_upper self value inclusive }
     {
-        let upper = self.upper;
-        if upper.takes_upper(value, inclusive) {
-            let lower = self.lower;
+        if self.upper.takes_upper(value, inclusive) {
             ValueRange {
-                lower,
                 upper: Bound::at(value, inclusive),
+                ..self
             }
         } else {
             self
@@ -115,25 +94,10 @@ impl ValueRange {
     pub fn is_empty(self) -> bool
         ensures { result ≡ empty_range self }
     {
-        let lower = self.lower;
-        let upper = self.upper;
-        let low = lower.value;
-        let high = upper.value;
-        let low_in = lower.inclusive;
-        let high_in = upper.inclusive;
-        if !lower.present {
-            return false;
-        }
-        if !upper.present {
-            return false;
-        }
-        if low > high {
-            return true;
-        }
-        if low == high {
-            if low_in { !high_in } else { true }
-        } else {
-            false
-        }
+        let ValueRange { lower, upper } = self;
+        lower.present
+            && upper.present
+            && (lower.value > upper.value
+                || (lower.value == upper.value && !(lower.inclusive && upper.inclusive)))
     }
 }
