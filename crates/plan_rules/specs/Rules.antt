@@ -5,6 +5,8 @@ use Rattle.lists.specs.Ranges.{all_from, any_from, count_from}
 use Rattle.plan_kinds.specs.declared.Record.{Record}
 use Rattle.plan_kinds.specs.Rows.{row_of, expressions, operators}
 use Rattle.plan_kinds.specs.Records.{code_ok, bits_ok, handles_ok, count_of, more_of}
+use Rattle.plan.specs.declared.Items.{Items}
+use Rattle.plan.specs.declared.Operators.{Operators}
 use Rattle.plan.specs.declared.Plan.{Plan}
 use Rattle.plan.specs.Records.{expr_record_of, operator_record_of, item_record_of}
 
@@ -60,8 +62,12 @@ unfoldable pub scans_of : List ℕ → List ℕ → List ℕ → List ℕ → �
 scans_of kind b start items c i =
     eqb (get_or kind i 0) 0x30 && any_from (λ (j : ℕ). eqb (get_or items j 0) c) (get_or start i 0) (get_or b i 0)
 
+-- the same from the tables, and of a plan
+abbrev pub scans_in : Operators → Items → ℕ → ℕ → Bool
+scans_in t items c i = scans_of t.kind t.b t.start items.a c i
+
 abbrev pub scans : Plan → ℕ → ℕ → Bool
-scans p c i = scans_of p.operators.kind p.operators.b p.operators.start p.items.a c i
+scans p c i = scans_in p.operators p.items c i
 
 -- column c belongs to at most one Scan
 abbrev pub once_of : List ℕ → List ℕ → List ℕ → List ℕ → ℕ → ℕ → Bool

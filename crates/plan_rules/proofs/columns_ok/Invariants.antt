@@ -1,11 +1,7 @@
-use Rattle.plan_rules.specs.Rules.{column_ok_of}
+use Rattle.std.proofs.Common.{◌≡◌, ◌-◌}
 use Rattle.lists.specs.Ranges.{all_from}
-use Prim.Native.Nat.{◌-◌, ◌≤◌}
-use mathlib.Core.Path.{◌≡◌}
+use Rattle.plan_rules.specs.Rules.{column_ok}
 use Rattle.plan_rules.proofs.columns_ok.Given as goal
 
 abbrev pub invariant-loop-i : goal.invariant-loop-i
-invariant-loop-i l = (l.i ≤ l.n) × (all_from (column_ok_of l.kind) 0 l.n ≡ all_from (column_ok_of l.kind) l.i (l.n - l.i))
-
-abbrev pub decreases-loop-i : goal.decreases-loop-i
-decreases-loop-i l = l.n - l.i
+invariant-loop-i l = all_from (column_ok l.p) 0 l.p.columns.count ≡ all_from (column_ok l.p) l.i (l.p.columns.count - l.i)

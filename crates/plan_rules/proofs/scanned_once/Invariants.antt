@@ -1,12 +1,7 @@
-use Rattle.plan_rules.specs.Rules.{once_of}
+use Rattle.std.proofs.Common.{◌≡◌, ◌-◌}
 use Rattle.lists.specs.Ranges.{all_from}
-use Prim.Native.Nat.{◌-◌, ◌≤◌}
-use mathlib.Core.Path.{◌≡◌}
+use Rattle.plan_rules.specs.Rules.{scanned_once}
 use Rattle.plan_rules.proofs.scanned_once.Given as goal
 
 abbrev pub invariant-loop-c : goal.invariant-loop-c
-invariant-loop-c l = (l.c ≤ l.n) × (all_from (once_of l.kind l.b l.start l.items l.np) 0 l.n ≡ all_from (once_of l.kind l.b l.start l.items l.np) l.c
-    (l.n - l.c))
-
-abbrev pub decreases-loop-c : goal.decreases-loop-c
-decreases-loop-c l = l.n - l.c
+invariant-loop-c l = all_from (scanned_once l.p) 0 l.p.columns.count ≡ all_from (scanned_once l.p) l.c (l.p.columns.count - l.c)
