@@ -1,3 +1,4 @@
 pub mod Wrotes
 pub mod Signs
 pub mod Whole
+pub mod Writings

@@ -18,3 +18,5 @@ signed_below (negsuc k) f h = rw (add-one k)
 pub signed-not : (n : ℤ) → SFits w64 n → lt_z (to_z w64 (of_z w64 n)) (pos 0) ≡ false → signed_of n ≡ decimal_of (nat_abs n)
 signed-not (pos n) f h = refl
 signed-not (negsuc n) f h = absurd (true≢false (ap (λ (z : ℤ). lt_z z (pos 0)) (sym (to_z-of_z w64 (negsuc n) f)) ∙ h))
+
+pub ruleset signs = (signed_below, signed-not)

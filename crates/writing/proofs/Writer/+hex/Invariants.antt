@@ -1,4 +1,4 @@
-use Rattle.writing.proofs.+hex.Given as goal
+use Rattle.writing.proofs.Writer.+hex.Given as goal
 
 abbrev pub decreases-hex : goal.decreases-hex
 decreases-hex l = l.k
