@@ -5,7 +5,7 @@ use mathlib.Core.Logic.{◌↔◌}
 use mathlib.Core.Path.{◌≡◌, refl, ap, subst, ◌∙◌}
 use native.Mathlib.Decide.{ℕ_discrete}
 use native.Mathlib.Omega.{arith}
-use borrow.Author.Tests.{le-ltb, lt-ltb}
+use borrow.Author.Tests.{lt-ltb}
 use lib.Dec.{ltb}
 use lib.ListN.{length-set}
 use lib.Seq.{get_or-set_same, get_or-set_other}
@@ -77,12 +77,6 @@ module _ (c : ValueEquivalenceClasses) (l r x y : ℕ) (ex : x ≡ canonical_of 
 module _ (c : ValueEquivalenceClasses) (a b : ℕ) where
   abbrev pub roots_answered : ValueEquivalenceClasses
   roots_answered = cond (ltb a 128 && ltb b 128) (roots_joined c a b) c
-
-  pub low-out : 128 ≤ a → c ≡ roots_answered
-  low-out h = rw (le-ltb _ _ h)
-
-  pub high_out : a < 128 → 128 ≤ b → c ≡ roots_answered
-  high_out g h = rw (lt-ltb _ _ g, le-ltb _ _ h)
 
   pub roots_answered_lem : a < 128 → b < 128 → roots_answered ≡ roots_joined c a b
   roots_answered_lem g h = rw (lt-ltb _ _ g, lt-ltb _ _ h)

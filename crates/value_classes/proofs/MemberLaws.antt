@@ -5,17 +5,15 @@ use mathlib.Core.Path.{◌≡◌, sym, ap, ◌∙◌}
 use native.Mathlib.Decide.{dec_lt, ℕ_discrete}
 use native.Mathlib.Omega.{arith}
 use native.Mathlib.Numerals.{add-one}
-use borrow.Author.Tests.{eq-eqb, ne_eqb, ltb-true}
-use mathlib.Core.Bool.{Bool, true, ◌&&◌}
-use lib.Dec.{ltb}
+use borrow.Author.Tests.{eq-eqb, ne_eqb}
+use mathlib.Core.Bool.{true}
 use lib.ListN.{length, get_or, set, take, replicate, get_or-replicate}
 use lib.Seq.{get_or-set_same, get_or-set_other, get_or-take, ext_get_or}
-use Rattle.laws.proofs.Bools.{and_right}
 use Rattle.value_classes.specs.Parents.{root_of, parents_ok, each}
 use Rattle.value_classes.specs.Classes.{Falling, canonical_of}
 use Rattle.value_classes.specs.Listed.{roots_of, members_to, first_from, first_member, next_member, members_of}
 use Rattle.value_classes.specs.declared.ValueEquivalenceClasses.{ValueEquivalenceClasses}
-use Rattle.value_classes.proofs.RootLaws.{falls, parent_in_lem, root-step, root_le, length-each, each_at}
+use Rattle.value_classes.proofs.RootLaws.{falls, parent_in_lem, root_below, root-step, root_le, take-each-more, take-each-done, length-each, each_at}
 
 -- a list is f 0, f 1, .. where each of its entries is
 pub each_all : (f : ℕ → ℕ) (n : ℕ) (l : List ℕ) → length l ≡ n → ((i : ℕ) → i < n → get_or l i 0 ≡ f i) → l ≡ each f n
@@ -153,5 +151,7 @@ root-known p l n i q e ok eq low h t =
     ∙ ap (root_of p) (eq ∙ sym (parent_in_lem p i (omega arith) (omega arith)))
     ∙ sym (root-step p (falls p ok) i)
 
-pub parent_low : (ok : Bool) (q i n : ℕ) → (ok && ltb q i) ≡ true → i < n → q < n
-parent_low ok q i n e h = let l = ltb-true q i (and_right ok (ltb q i) e) in omega arith
+-- what the two loops need that fill these tables
+pub ruleset roots_loop = (root_below, root-known, take-each-more, take-each-done)
+
+pub ruleset members_loop = (root_below, firsts-start, firsts-again, nexts_again, each_all)

@@ -11,16 +11,11 @@ use borrow.Author.Tests.{leb-true, le-leb, lt-ltb, le-ltb}
 use lib.Dec.{leb}
 use lib.ListN.{length, get_or, set, take, length-set, length-append, get_or-append}
 use lib.Seq.{get_or-set_same, get_or-set_other, take-suc-set, take_all, get_or_at, set-get_or}
-use Rattle.lists.specs.Ranges.{all_from}
 use Rattle.lists.proofs.RangeLaws.{all-at, all_of}
 use Rattle.value_classes.specs.Parents.{Falls, parent_in, climb, root_of, parents_ok, joined, each}
 
 abbrev pub low_test : List ℕ → ℕ → Bool
 low_test p i = leb (get_or p i 0) i
-
-pub ok-by : (p : List ℕ) (n : ℕ) → length p ≡ n → parents_ok p ≡ all_from (low_test p) 0 n
-unfolding parents_ok
-ok-by p n e = rw e
 
 -- the test says that the parents fall. Assumes nothing
 pub falls : (p : List ℕ) → parents_ok p ≡ true → Falls p
@@ -68,19 +63,17 @@ unfolding climb
 climb-own p zero i e = refl
 climb-own p (suc k) i e = rw e (climb-own p k i e)
 
-pub root-climb : (p : List ℕ) (n i : ℕ) → length p ≡ n → climb p n i ≡ root_of p i
-unfolding root_of
-root-climb p n i e = rw e
-
--- a climb, one step at a time
-pub climb-step : (p : List ℕ) (k i j : ℕ) → 0 < k → j ≡ parent_in p i → climb p (k - 1) j ≡ climb p k i
+-- a climb of n steps, the k-th of them
+pub climb-step : (p : List ℕ) (n k i : ℕ) → k < n → climb p (n - k) i ≡ climb p (n - (k + 1)) (parent_in p i)
 unfolding climb
-climb-step p zero i j h e = absurd (omega arith)
-climb-step p (suc k) i j h e = let n : suc k - 1 ≡ k = omega arith in rw (n, e)
+climb-step p n k i h = let e : n - k ≡ suc (n - (k + 1)) = omega arith in rw e
 
-pub climb-none : (p : List ℕ) (k i : ℕ) → k ≡ 0 → climb p k i ≡ i
+pub climb-none : (p : List ℕ) (n k i : ℕ) → n ≤ k → climb p (n - k) i ≡ i
 unfolding climb
-climb-none p k i e = rw e
+climb-none p n k i h = let e : n - k ≡ 0 = omega arith in rw e
+
+-- what a walk up to a representative needs, one parent at a time
+pub ruleset climb_loop = (climb-own, climb-step, climb-none)
 
 pub root-of-own : (p : List ℕ) (i : ℕ) → parent_in p i ≡ i → root_of p i ≡ i
 unfolding root_of
@@ -288,6 +281,9 @@ take-each-more f l i x h e t = rw (add-one, take-suc-set l i x h, t, e)
 
 pub take-each-done : (f : ℕ → ℕ) (n : ℕ) (l : List ℕ) (i : ℕ) → length l ≡ n → i ≡ n → take i l ≡ each f i → l ≡ each f n
 take-each-done f n l i e g t = sym (take_all n l (omega arith)) ∙ rw g at t
+
+-- what a loop needs that fills a list in order
+pub ruleset each_loop = (take-each-more, take-each-done)
 
 pub length-each : (f : ℕ → ℕ) (n : ℕ) → length (each f n) ≡ n
 unfolding each

@@ -1,18 +1,14 @@
 -- What `union_of` comes to on each way through the code of `union`, and what a union keeps. Assumes nothing.
-use Prim.Native.Nat.{ℕ, ◌≤◌, ◌<◌, min, max}
-use mathlib.Core.Bool.{Bool, true, false}
+use Prim.Native.Nat.{ℕ, ◌≤◌, ◌<◌}
+use mathlib.Core.Bool.{true, false}
 use mathlib.Core.Path.{◌≡◌, sym}
 use native.Mathlib.Decide.{ℕ_discrete}
 use native.Mathlib.Omega.{arith}
 use borrow.Author.Tests.{le-ltb, lt-ltb, eq-eqb, ne_eqb}
-use Rattle.value_classes.specs.Parents.{joined}
-use Rattle.value_classes.specs.Classes.{classes_by, Whole, Falling, canonical_of, joined_classes, roots_joined, union_of}
+use Rattle.value_classes.specs.Classes.{classes_by, Whole, Falling, canonical_of, joined_classes, union_of}
 use Rattle.value_classes.specs.declared.ValueEquivalenceClasses.{ValueEquivalenceClasses}
-use Rattle.value_classes.specs.Answers.{United}
+use Rattle.value_classes.specs.Answers.{united}
 use Rattle.value_classes.proofs.RootLaws.{joined_same}
-
-abbrev pub united : ValueEquivalenceClasses → Bool → United
-united c j = record { classes = c; joined = j }
 
 module _ (c : ValueEquivalenceClasses) (l r : ℕ) where
   pub left_out : 128 ≤ l → united c false ≡ union_of c l r
@@ -22,27 +18,6 @@ module _ (c : ValueEquivalenceClasses) (l r : ℕ) where
   pub right-out : l < 128 → 128 ≤ r → united c false ≡ union_of c l r
   unfolding union_of
   right-out g h = rw (lt-ltb _ _ g, le-ltb _ _ h)
-
-module _ (c : ValueEquivalenceClasses) (l r : ℕ) (hl : l < 128) (hr : r < 128) (x y : ℕ) (ex : x ≡ canonical_of c l) (ey : y ≡ canonical_of c r) where
-  pub same : x ≡ y → united c false ≡ union_of c l r
-  unfolding union_of
-  same e = rw (lt-ltb _ _ hl, lt-ltb _ _ hr, ← ex, ← ey, eq-eqb _ _ e)
-
-  pub to-left : x < y → united (roots_joined c x y) true ≡ union_of c l r
-  unfolding union_of joined
-  to-left h =
-      let m : max x y ≡ y = omega arith in
-      let n : min x y ≡ x = omega arith in
-      let d : x ≡ y → ⊥ = omega arith in
-      rw (lt-ltb _ _ hl, lt-ltb _ _ hr, ← ex, ← ey, ne_eqb _ _ d, m, n)
-
-  pub to-right : y < x → united (roots_joined c y x) true ≡ union_of c l r
-  unfolding union_of joined
-  to-right h =
-      let m : max x y ≡ x = omega arith in
-      let n : min x y ≡ y = omega arith in
-      let d : x ≡ y → ⊥ = omega arith in
-      rw (lt-ltb _ _ hl, lt-ltb _ _ hr, ← ex, ← ey, ne_eqb _ _ d, m, n)
 
 -- ---- a union of two identities
 module _ (c : ValueEquivalenceClasses) (l r : ℕ) (hl : l < 128) (hr : r < 128) where

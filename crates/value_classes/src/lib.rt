@@ -4,6 +4,7 @@
 ghost use Rattle.std.specs.Prelude.{◌≡◌, cond, ◌&&◌, ltb};
 ghost use Rattle.value_classes.specs.Parents.{parent_in};
 ghost use Rattle.value_classes.specs.Classes.{classes_ok, empty_classes, canonical_of, same_class, roots_joined, union_of};
+ghost use Rattle.value_classes.specs.Answers.{united};
 ghost use Rattle.value_classes.specs.Listed.{roots_of, members_of};
 
 #[derive(Clone, Copy)]
@@ -11,7 +12,8 @@ pub struct ValueEquivalenceClasses {
     pub parents: [u8; 128],
 }
 
-// Each class as a chain: the first member by representative, then the next after each member; 128 where there is none.
+// Each class as a chain: the first member by representative, then the next after each member. A chain ends at 128, the place past the identities:
+// an Option would be no plainer, as whoever follows a chain only asks whether its next place is an identity.
 #[derive(Clone, Copy)]
 pub struct Members {
     pub first: [u8; 128],
@@ -27,153 +29,119 @@ pub struct Roots {
 impl ValueEquivalenceClasses {
     pub const IDENTITIES: usize = 128;
 
+    #[tactic(auto, unfolding(crate::specs::Parents::each, crate::specs::Classes::empty_classes), using(crate::proofs::RootLaws::each_loop))]
     pub fn empty() -> Self
         ensures { result ≡ empty_classes }
     {
         let mut parents = [0u8; 128];
-        let mut i: usize = 0;
-        while i < 128 {
-            parents[i] = i as u8;
-            i += 1;
+        for i in 0..128u8 {
+            parents[usize::from(i)] = i;
         }
         ValueEquivalenceClasses { parents }
     }
 
     // Whether no parent is above its child.
-    pub fn parents_ok(self) -> bool
-        ensures { result ≡ classes_ok self }
+    #[tactic(auto, unfolding(crate::specs::Parents::parents_ok), using(lists::proofs::RangeLaws::all_loop))]
+    pub fn parents_ok(&self) -> bool
+        ensures { result ≡ classes_ok self.now }
     {
-        let mut i: usize = 0;
-        while i < 128 {
-            let parent = self.parents[i] as usize;
-            if i < parent {
+        for i in 0..Self::IDENTITIES {
+            if i < usize::from(self.parents[i]) {
                 return false;
             }
-            i += 1;
         }
         true
     }
 
     // A parent that is no identity, and one past the identities, count for nothing.
-    fn parent(self, value: usize) -> usize
-        ensures { result ≡ parent_in self.parents value }
+    #[tactic(auto, unfolding(crate::specs::Parents::parent_in))]
+    fn parent(&self, value: usize) -> usize
+        ensures { result ≡ parent_in self.now.parents value }
     {
-        if 128 <= value {
-            return value;
+        if value < Self::IDENTITIES && usize::from(self.parents[value]) < Self::IDENTITIES {
+            usize::from(self.parents[value])
+        } else {
+            value
         }
-        let parent = self.parents[value] as usize;
-        if 128 <= parent {
-            return value;
-        }
-        parent
     }
 
     // The walk is bounded, so that a chain in a circle ends too.
-    pub fn canonical(self, value: usize) -> usize
-        ensures { result ≡ canonical_of self value }
+    #[tactic(auto, unfolding(crate::specs::Parents::root_of), using(crate::proofs::RootLaws::climb_loop))]
+    pub fn canonical(&self, value: usize) -> usize
+        ensures { result ≡ canonical_of self.now value }
     {
         let mut current = value;
-        let mut left: usize = 128;
-        while 0 < left {
+        for _ in 0..Self::IDENTITIES {
             let parent = self.parent(current);
             if parent == current {
                 return current;
             }
             current = parent;
-            left -= 1;
         }
         current
     }
 
-    pub fn equivalent(self, left: usize, right: usize) -> bool
-        ensures { result ≡ same_class self left right }
+    pub fn equivalent(&self, left: usize, right: usize) -> bool
+        ensures { result ≡ same_class self.now left right }
     {
         self.canonical(left) == self.canonical(right)
     }
 
     // Of two representatives the higher one gets the lower one as its parent. Nothing changes where one of the numbers is no identity.
-    pub fn join_roots(self, low: usize, high: usize) -> Self
-        ensures { result ≡ cond (ltb low 128 && ltb high 128) (roots_joined self low high) self }
+    pub fn join_roots(&mut self, low: usize, high: usize)
+        ensures { self.new ≡ cond (ltb low 128 && ltb high 128) (roots_joined self.old low high) self.old }
     {
-        if 128 <= low {
-            return self;
+        if low < Self::IDENTITIES && high < Self::IDENTITIES {
+            self.parents[high] = low as u8;
         }
-        if 128 <= high {
-            return self;
-        }
-        let mut classes = self;
-        classes.parents[high] = low as u8;
-        classes
     }
 
-    // The smaller root stays. A number past the identities is joined to nothing.
-    pub fn union(self, left: usize, right: usize) -> United
-        ensures { result ≡ union_of self left right }
+    // Whether two classes became one. The smaller root stays. A number past the identities is joined to nothing.
+    #[tactic(auto, unfolding(crate::specs::Classes::union_of, crate::specs::Parents::joined), using(crate::proofs::RootLaws::root_below))]
+    pub fn union(&mut self, left: usize, right: usize) -> bool
+        ensures { united self.new result ≡ union_of self.old left right }
     {
-        if 128 <= left {
-            return United {
-                classes: self,
-                joined: false,
-            };
+        if Self::IDENTITIES <= left || Self::IDENTITIES <= right {
+            return false;
         }
-        if 128 <= right {
-            return United {
-                classes: self,
-                joined: false,
-            };
+        let left_root = self.canonical(left);
+        let right_root = self.canonical(right);
+        if left_root == right_root {
+            return false;
         }
-        let l = self.canonical(left);
-        let r = self.canonical(right);
-        if l == r {
-            return United {
-                classes: self,
-                joined: false,
-            };
-        }
-        let mut classes = self;
-        if l < r {
-            classes.parents[r] = l as u8;
-        } else {
-            classes.parents[l] = r as u8;
-        }
-        United {
-            classes,
-            joined: true,
-        }
+        self.join_roots(left_root.min(right_root), left_root.max(right_root));
+        true
     }
 
     // Where parents are in order, the parent's representative is known when the child's turn comes, and no chain is walked.
-    pub fn roots(self) -> Roots
-        ensures { result ≡ roots_of self }
+    #[tactic(auto, unfolding(crate::specs::Parents::each, crate::specs::Listed::roots_of), using(crate::proofs::MemberLaws::roots_loop))]
+    pub fn roots(&self) -> Roots
+        ensures { result ≡ roots_of self.now }
     {
-        let ok = self.parents_ok();
+        let in_order = self.parents_ok();
         let mut of = [0u8; 128];
-        let mut i: usize = 0;
-        while i < 128 {
-            let parent = self.parents[i] as usize;
-            if ok & (parent < i) {
-                of[i] = of[parent];
+        for i in 0..Self::IDENTITIES {
+            let parent = usize::from(self.parents[i]);
+            of[i] = if in_order && parent < i {
+                of[parent]
             } else {
-                of[i] = self.canonical(i) as u8;
-            }
-            i += 1;
+                self.canonical(i) as u8
+            };
         }
         Roots { of }
     }
 
     // The classes, their members in order. From the last identity to the first, so that each finds the member after it.
-    #[tactic(auto, using(crate::proofs::RootLaws::root_below))]
-    pub fn members(self) -> Members
-        ensures { result ≡ members_of self }
+    #[tactic(auto, unfolding(crate::specs::Listed::members_of), using(crate::proofs::MemberLaws::members_loop))]
+    pub fn members(&self) -> Members
+        ensures { result ≡ members_of self.now }
     {
         let mut first = [128u8; 128];
         let mut next = [128u8; 128];
-        let mut i: usize = 128;
-        while 0 < i {
-            i -= 1;
-            let r = self.canonical(i);
-            next[i] = first[r];
-            first[r] = i as u8;
+        for i in (0..Self::IDENTITIES).rev() {
+            let root = self.canonical(i);
+            next[i] = first[root];
+            first[root] = i as u8;
         }
         Members { first, next }
     }
