@@ -68,17 +68,15 @@ impl ConstraintSet {
 
     pub const RESIDUALS: usize = 64;
 
+    #[tactic(auto, unfolding(crate::specs::Sets::empty_set))]
     pub fn empty() -> Self
         ensures { result ≡ empty_set }
     {
-        let classes = ValueEquivalenceClasses::empty();
-        let holder = Holder::empty();
-        let entry = Entry::empty();
         ConstraintSet {
-            equivalence_classes: classes,
+            equivalence_classes: ValueEquivalenceClasses::empty(),
             non_null_values: [false; 128],
-            literal_equalities: [holder; 128],
-            ranges: [entry; 128],
+            literal_equalities: [Holder::empty(); 128],
+            ranges: [Entry::empty(); 128],
             residual_predicates: [0; 64],
             residuals: 0,
             contradictory: false,
