@@ -8,7 +8,7 @@ use mathlib.Core.Logic.{◌⊎◌, ⊎_elim}
 use native.Mathlib.Nat.{eq-or-lt_of_le, sub-eq-zero_of_le}
 use native.Mathlib.Omega.{arith}
 use native.Mathlib.Numerals.{add-one}
-use lib.ListN.{length, get_or, set, length-set}
+use lib.ListN.{length, get_or, set, replicate, length-set}
 use lib.Seq.{get_or-set_same, get_or-set_other}
 use Rattle.laws.proofs.Numbers.{sub_suc-of-lt}
 use Rattle.lists.specs.Ranges.{any_from}
@@ -27,13 +27,11 @@ module _ (f : ℕ → Bool) (g : ℕ → ℕ) (d : ℕ) where
   unfolding first_from
   first_step i e lt = rw (sub_suc-of-lt i e lt, add-one)
 
-  -- t is what the code's test said
-  pub first_found : (i e : ℕ) (t : Bool) → i < e → t ≡ f i → t ≡ true → first_from f g d i (e - i) ≡ g i
-  first_found i e t lt p q = rw (first_step i e lt, ← p, q)
+  pub first_found : (i e : ℕ) → i < e → f i ≡ true → first_from f g d i (e - i) ≡ g i
+  first_found i e lt q = rw (first_step i e lt, q)
 
-  pub first_missed :
-      (i e : ℕ) (t : Bool) → i < e → t ≡ f i → t ≡ false → first_from f g d i (e - i) ≡ first_from f g d (i + 1) (e - (i + 1))
-  first_missed i e t lt p q = rw (first_step i e lt, ← p, q)
+  pub first_missed : (i e : ℕ) → i < e → f i ≡ false → first_from f g d i (e - i) ≡ first_from f g d (i + 1) (e - (i + 1))
+  first_missed i e lt q = rw (first_step i e lt, q)
 
   pub first_done : (i e : ℕ) → e ≤ i → first_from f g d i (e - i) ≡ d
   unfolding first_from
@@ -98,3 +96,13 @@ filled-same f g (suc n) h = rw (filled-same f g n (λ c l. h c (omega arith)), h
 pub filled_more : (f : ℕ → ℕ) (t : List ℕ) (i x : ℕ) → x ≡ f i → t ≡ filled f i → set t i x ≡ filled f (i + 1)
 unfolding filled
 filled_more f t i x e q = rw (add-one, e, q)
+
+-- what a loop needs that goes to the first place that passes
+pub ruleset first_loop = (first_found, first_missed, first_done)
+
+-- and one that fills a table
+pub filled_none : (f : ℕ → ℕ) → replicate 64 0 ≡ filled f 0
+unfolding filled
+filled_none f = refl
+
+pub ruleset fill_loop = (filled_none, filled_more)

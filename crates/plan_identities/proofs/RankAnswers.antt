@@ -1,51 +1,19 @@
--- What each way out of the code has to show, on plain values. Assumes nothing.
-use Prim.Native.Nat.{ℕ, ◌+◌, ◌-◌, ◌<◌, ◌≤◌}
+-- The ranks that the code counts from a table of tables are the Base numbers of the plan. Assumes nothing.
+use Prim.Native.Nat.{ℕ, ◌<◌}
 use mathlib.Core.Path.{◌≡◌, ap, ◌∙◌}
 use mathlib.Core.Bool.{Bool, ◌&&◌, ◌||◌}
 use mathlib.Core.List.{List}
 use native.Mathlib.Omega.{arith}
 use lib.Dec.{ltb, eqb}
 use lib.ListN.{get_or}
-use borrow.Author.Tests.{lt-ltb, le-ltb}
 use Rattle.lists.specs.Ranges.{count_from}
 use Rattle.lists.proofs.RangeLaws.{count_same}
 use Rattle.plan.specs.declared.Plan.{Plan}
-use Rattle.plan.specs.declared.Column.{Column}
-use Rattle.plan_identities.specs.declared.ValueId.{ValueId}
-use Rattle.plan_identities.specs.declared.ValueId.TheVariants.{Base, Derived}
 use Rattle.plan_identities.specs.declared.Identities.{Identities}
-use Rattle.plan_identities.specs.Places.{first_from, filled}
-use Rattle.plan_identities.specs.Identities.{table_of, name_of, by_key, before, size_of, columns_of, base_of, number_by, value_by, identities_of}
-use Rattle.plan_identities.specs.Identities.{number_in, value_in, rank_in}
+use Rattle.plan_identities.specs.Places.{filled}
+use Rattle.plan_identities.specs.Identities.{table_of, name_of, by_key, before, columns_of, base_of, identities_of}
+use Rattle.plan_identities.specs.Identities.{rank_in}
 use Rattle.plan_identities.proofs.PlaceLaws.{filled-table-at, filled-same}
-
-module _ (ids : Identities) where
-  module _ (v : ValueId) (c : Column) where
-    pub base_there : (m : ℕ) → v ≡ Base c → m ≡ size_of ids.columns → c.0 < m → get_or ids.base c.0 0 ≡ number_in ids v
-    unfolding number_by
-    base_there m e s h = rw (e, ← s, lt-ltb c.0 m h)
-
-    pub base-gone : (m : ℕ) → v ≡ Base c → m ≡ size_of ids.columns → m ≤ c.0 → 128 ≡ number_in ids v
-    unfolding number_by
-    base-gone m e s h = rw (e, ← s, le-ltb c.0 m h)
-
-    pub derived_there : v ≡ Derived c → c.0 < 64 → 64 + c.0 ≡ number_in ids v
-    unfolding number_by
-    derived_there e h = rw (e, lt-ltb c.0 64 h)
-
-    pub derived_gone : v ≡ Derived c → 64 ≤ c.0 → 128 ≡ number_in ids v
-    unfolding number_by
-    derived_gone e h = rw (e, le-ltb c.0 64 h)
-
-  pub value-base :
-      (k m r : ℕ) → k < 64 → m ≡ size_of ids.columns → r ≡ first_from (λ (c : ℕ). eqb (get_or ids.base c 0) k) (λ (c : ℕ). c) 0 0 m
-      → Base (record { 0 = r }) ≡ value_in ids k
-  unfolding value_by
-  value-base k m r h s e = rw (lt-ltb k 64 h, ← s, ← e)
-
-  pub value_derived : (k : ℕ) → 64 ≤ k → Derived (record { 0 = k - 64 }) ≡ value_in ids k
-  unfolding value_by
-  value_derived k h = rw (le-ltb k 64 h)
 
 -- an order by keys that are the same is the same
 key-same : (k l : ℕ → ℕ) (rest : ℕ → ℕ → Bool) (a b : ℕ) → k a ≡ l a → k b ≡ l b → by_key k rest a b ≡ by_key l rest a b
@@ -63,10 +31,10 @@ rank-base p n ts s e c h =
     at : (j : ℕ) → j < n → get_or ts j 0 ≡ table_of p j
     at j l = rw e (filled-table-at (table_of p) n j (omega arith) l)
 
-pub all-numbered :
+pub all_numbered :
     (p : Plan) (n : ℕ) (ts bs : List ℕ) → n ≡ columns_of p → ts ≡ filled (table_of p) n → bs ≡ filled (rank_in ts p.columns.name n) n
     → ◌≡◌ {A = Identities} (record { base = bs; columns = n }) (identities_of p)
 unfolding identities_of
-all-numbered p n ts bs s e q =
+all_numbered p n ts bs s e q =
     let b : bs ≡ filled (base_of p) (columns_of p) = q ∙ filled-same _ _ n (rank-base p n ts s e) ∙ ap (filled (base_of p)) s in
     λ i. record { base = b i; columns = s i }

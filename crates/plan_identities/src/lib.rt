@@ -2,9 +2,8 @@
 #![tactic(auto)]
 
 ghost use Rattle.std.specs.Prelude.{◌≡◌, ℕ, ◌≤◌, eqb, get_or};
-ghost use Rattle.plan_rules.specs.Rules.{scans_of};
 ghost use Rattle.plan_identities.specs.Places.{first_from, filled};
-ghost use Rattle.plan_identities.specs.Identities.{table_in, before_in, rank_in, size_of, identities_of, number_in, value_in};
+ghost use Rattle.plan_identities.specs.Identities.{table_of, before_in, rank_in, size_of, identities_of, number_in, value_in};
 
 use plan::{Column, Plan};
 
@@ -23,156 +22,115 @@ pub struct Identities {
     pub columns: usize,
 }
 
-// The table of the first of the np operators that is a Scan of column c.
-fn table_of<'a>(
-    kind: &'a [u8],
-    a: &'a [u16],
-    b: &'a [u16],
-    start: &'a [u16],
-    items: &'a [u16],
-    np: usize,
-    c: u16,
-) -> u64
-    ensures { result ≡ table_in kind.now a.now b.now start.now items.now np c }
+// The table of the first operator that is a Scan of column c; past every table where none is.
+#[tactic(auto, unfolding(crate::specs::Identities::table_in), using(crate::proofs::PlaceLaws::first_loop))]
+fn table_of(p: &Plan, c: u16) -> u32
+    ensures { result ≡ table_of p.now c }
 {
-    let mut i: usize = 0;
-    while i < np {
-        if plan_rules::scan_lists(kind, b, start, items, c, i) {
-            return lists::at16(a, i) as u64;
+    for i in 0..usize::from(p.operators.count) {
+        if plan_rules::scan_lists(&p.operators, &p.items, c, i) {
+            return u32::from(p.operators.record(i).a);
         }
-        i += 1;
     }
     65536
 }
 
 // The tables of the first n columns.
-fn tables<'a>(
-    kind: &'a [u8],
-    a: &'a [u16],
-    b: &'a [u16],
-    start: &'a [u16],
-    items: &'a [u16],
-    np: usize,
-    n: u16,
-) -> [u64; 64]
+#[tactic(auto, using(crate::proofs::PlaceLaws::fill_loop))]
+fn tables(p: &Plan, n: u16) -> [u32; 64]
     requires { n ≤ 64 }
-    ensures { result ≡ filled (table_in kind.now a.now b.now start.now items.now np) n }
+    ensures { result ≡ filled (table_of p.now) n }
 {
-    let mut t = [0u64; 64];
-    let mut c: u16 = 0;
-    while c < n {
-        let v = table_of(kind, a, b, start, items, np, c);
-        let i = c as usize;
-        t[i] = v;
-        c += 1;
+    let mut t = [0; 64];
+    for c in 0..n {
+        t[usize::from(c)] = table_of(p, c);
     }
     t
 }
 
 // Whether column a comes before column b: by table, then name, then column number.
-fn before<'a>(tables: &'a [u64], names: &'a [u16], a: usize, b: usize) -> bool
+#[tactic(auto, unfolding(crate::specs::Identities::by_key))]
+fn before(tables: &[u32], names: &[u16], a: usize, b: usize) -> bool
     ensures { result ≡ before_in tables.now names.now a b }
 {
-    let ta = lists::at64(tables, a);
-    let tb = lists::at64(tables, b);
-    let na = lists::at16(names, a);
-    let nb = lists::at16(names, b);
-    (ta < tb) | ((ta == tb) & ((na < nb) | ((na == nb) & (a < b))))
+    (lists::at(tables, a, 0), lists::at(names, a, 0), a)
+        < (lists::at(tables, b, 0), lists::at(names, b, 0), b)
 }
 
 // How many of the first n columns come before column c.
-fn rank<'a>(tables: &'a [u64], names: &'a [u16], n: usize, c: usize) -> u8
+#[tactic(auto, unfolding(crate::specs::Identities::rank_in), using(lists::proofs::RangeLaws::count_loop))]
+fn rank(tables: &[u32], names: &[u16], n: usize, c: usize) -> u8
     requires { n ≤ 64 }
     ensures { result ≡ rank_in tables.now names.now n c }
 {
-    let mut found: u8 = 0;
-    let mut b: usize = 0;
-    while b < n {
+    let mut found = 0;
+    for b in 0..n {
         if before(tables, names, b, c) {
             found += 1;
         }
-        b += 1;
     }
     found
 }
 
 // The ranks of the first n columns.
-fn ranks<'a>(tables: &'a [u64], names: &'a [u16], n: usize) -> [u8; 64]
+#[tactic(auto, using(crate::proofs::PlaceLaws::fill_loop))]
+fn ranks(tables: &[u32], names: &[u16], n: usize) -> [u8; 64]
     requires { n ≤ 64 }
     ensures { result ≡ filled (rank_in tables.now names.now n) n }
 {
-    let mut t = [0u8; 64];
-    let mut c: usize = 0;
-    while c < n {
-        let v = rank(tables, names, n, c);
-        t[c] = v;
-        c += 1;
+    let mut t = [0; 64];
+    for c in 0..n {
+        t[c] = rank(tables, names, n, c);
     }
     t
 }
 
-// A count of columns, no more than there is room for.
-fn size(count: usize) -> usize
-    ensures { result ≡ size_of count }
-{
-    if count < 64 { count } else { 64 }
-}
-
 // The numbers of a plan's identities.
-pub fn identities_of(p: Plan) -> Identities
-    ensures { result ≡ identities_of p }
+#[tactic(auto, using(crate::proofs::RankAnswers::all_numbered))]
+pub fn identities_of(p: &Plan) -> Identities
+    ensures { result ≡ identities_of p.now }
 {
-    let c = p.columns;
-    let o = p.operators;
-    let t = p.items;
-    let count = c.count as usize;
-    let np = o.count as usize;
-    let n = size(count);
-    let m = n as u16;
-    let table = tables(&o.kind, &o.a, &o.b, &o.start, &t.a, np, m);
-    let base = ranks(&table, &c.name, n);
-    Identities { base, columns: n }
+    let n = p.columns.count.min(64);
+    let columns = usize::from(n);
+    let tables = tables(p, n);
+    Identities {
+        base: ranks(&tables, &p.columns.name, columns),
+        columns,
+    }
 }
 
 // The number of an identity; 128, past every number, for a column that is not there.
-pub fn number_of(ids: Identities, v: ValueId) -> u8
-    ensures { result ≡ number_in ids v }
+#[tactic(auto, unfolding(crate::specs::Identities::number_by))]
+pub fn number_of(ids: &Identities, v: ValueId) -> u8
+    ensures { result ≡ number_in ids.now v }
 {
-    let n = size(ids.columns);
     match v {
-        ValueId::Base(c) => {
-            let i = c.0 as usize;
-            if i < n { ids.base[i] } else { 128 }
-        }
-        ValueId::Derived(c) => {
-            let i = c.0;
-            if i < 64 { 64 + i as u8 } else { 128 }
-        }
+        ValueId::Base(c) if usize::from(c.0) < ids.columns.min(64) => ids.base[usize::from(c.0)],
+        ValueId::Derived(c) if c.0 < 64 => 64 + c.0 as u8,
+        _ => 128,
     }
 }
 
-// The first of the n columns whose Base identity has the number, and column 0 where none has.
-fn column_of(base: &[u8], n: u16, number: u8) -> u16
-    ensures { result ≡ first_from (λ (c : ℕ). eqb (get_or base.now c 0) number) (λ (c : ℕ). c) 0 0 n }
+// The identity that has the number: Base of the first column whose number it is, and of column 0 where there is none; from 64 on Derived.
+#[tactic(auto, unfolding(crate::specs::Identities::value_by), using(crate::proofs::PlaceLaws::first_loop))]
+pub fn value_id(ids: &Identities, n: u8) -> ValueId
+    ensures { result ≡ value_in ids.now n }
 {
-    let mut c: u16 = 0;
-    while c < n {
-        if lists::at8(base, c as usize) == number {
+    if 64 <= n {
+        return ValueId::Derived(Column(u16::from(n - 64)));
+    }
+    ValueId::Base(Column(column_of(ids, n)))
+}
+
+// The first column whose Base identity has the number, and column 0 where none has.
+#[tactic(auto, using(crate::proofs::PlaceLaws::first_loop))]
+fn column_of(ids: &Identities, number: u8) -> u16
+    ensures { result ≡ first_from (λ (c : ℕ). eqb (get_or ids.now.base c 0) number) (λ (c : ℕ). c) 0 0 (size_of ids.now.columns) }
+{
+    for c in 0..ids.columns.min(64) as u16 {
+        if ids.base[usize::from(c)] == number {
             return c;
         }
-        c += 1;
     }
     0
-}
-
-// The identity that has the number.
-pub fn value_id(ids: Identities, n: u8) -> ValueId
-    ensures { result ≡ value_in ids n }
-{
-    if n < 64 {
-        let m = size(ids.columns) as u16;
-        let base = ids.base;
-        return ValueId::Base(Column(column_of(&base, m, n)));
-    }
-    ValueId::Derived(Column((n - 64) as u16))
 }

@@ -1,13 +1,11 @@
-use Prim.Native.Nat.{ℕ, ◌-◌, ◌≤◌}
-use mathlib.Core.Path.{◌≡◌}
-use lib.Dec.{eqb}
-use lib.ListN.{get_or}
+use Rattle.std.proofs.Common.{ℕ, Bool, List, ◌≡◌, ◌-◌, eqb, get_or}
 use Rattle.plan_identities.specs.Places.{first_from}
+use Rattle.plan_identities.specs.Identities.{size_of}
 use Rattle.plan_identities.proofs.column_of.Given as goal
 
-abbrev pub invariant-loop-c : goal.invariant-loop-c
-invariant-loop-c l = (l.c ≤ l.n) × (first_from (λ (j : ℕ). eqb (get_or l.base j 0) l.number) (λ (j : ℕ). j) 0 0 l.n ≡ first_from
-    (λ (j : ℕ). eqb (get_or l.base j 0) l.number) (λ (j : ℕ). j) 0 l.c (l.n - l.c))
+abbrev has : List ℕ → ℕ → ℕ → Bool
+has base number j = eqb (get_or base j 0) number
 
-abbrev pub decreases-loop-c : goal.decreases-loop-c
-decreases-loop-c l = l.n - l.c
+abbrev pub invariant-loop-c : goal.invariant-loop-c
+invariant-loop-c l = first_from (has l.ids.base l.number) (λ (j : ℕ). j) 0 0 (size_of l.ids.columns)
+    ≡ first_from (has l.ids.base l.number) (λ (j : ℕ). j) 0 l.c (size_of l.ids.columns - l.c)
