@@ -4,6 +4,7 @@
 
 ghost use Rattle.std.specs.Prelude.{◌≡◌};
 ghost use Rattle.apply_spec.specs.Facts.{empty_facts};
+ghost use Rattle.apply_spec.specs.declared.FactsError.TheVariants.{Residuals};
 
 use constraint_spec::{ConstraintError, ConstraintSet};
 use scalar::ScalarValue;
@@ -32,7 +33,7 @@ pub enum FactsError {
 }
 
 impl From<ConstraintError> for FactsError {
-    ghost from_gives = { λ e f. f ≡ FactsError.Residuals };
+    ghost from_gives = { λ _ f. f ≡ Residuals };
 
     fn from(e: ConstraintError) -> FactsError {
         match e {
