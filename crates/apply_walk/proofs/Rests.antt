@@ -11,26 +11,28 @@ use lib.Seq.{drop-cons, take-nil, get_or-set_same, get_or-set_other}
 use borrow.Author.Tests.{lt-ltb}
 use native.Mathlib.Nat.{ne_of_lt}
 use Rattle.lists.proofs.RangeLaws.{below_or_not}
+use Rattle.plan.specs.declared.Expressions.{Expressions}
 use Rattle.plan_data.specs.declared.ExprData.{ExprData}
 use Rattle.apply_spec.specs.Conjuncts.{joined_of, conjuncts_to}
 use Rattle.rows_spec.specs.InOrder.{in_order}
+use Rattle.apply_walk.specs.declared.Frame.{Frame}
 use Rattle.apply_walk.specs.declared.Walk.{Walk}
-use Rattle.apply_walk.specs.Walks.{is_and, owner_at, place_at, left_at, pushed, popped, passed}
+use Rattle.apply_walk.specs.Walks.{and_in, no_frame, frame_at, frame_of, less, pushed, popped, passed}
 
 -- ---- something of each frame taken together, from the frame on top down
 unfoldable pub fold_to : {A : Type 0} → (A → A → A) → A → (ℕ → A) → ℕ → A
 fold_to op none f zero = none
 fold_to op none f (suc k) = op (f k) (fold_to op none f k)
 
-abbrev pub frame_of : {A : Type 0} → (ℕ → ℕ → ℕ → A) → Walk → ℕ → A
-frame_of run w k = run (owner_at w k) (place_at w k) (left_at w k)
+abbrev pub of_frame : {A : Type 0} → (Frame → A) → Walk → ℕ → A
+of_frame run w k = run (frame_at w k)
 
-unfoldable pub fold_of : {A : Type 0} → (A → A → A) → A → (ℕ → ℕ → ℕ → A) → Walk → A
-fold_of op none run w = fold_to op none (frame_of run w) w.depth
+unfoldable pub fold_of : {A : Type 0} → (A → A → A) → A → (Frame → A) → Walk → A
+fold_of op none run w = fold_to op none (of_frame run w) w.depth
 
--- ---- the conjuncts to come: of the And o, `left` operands from the place `at` on
-unfoldable pub run_rest : (ℕ → ExprData) → List ℕ → ℕ → ℕ → ℕ → List ℕ
-run_rest node items o at left = joined_of (conjuncts_to node items o) (take left (drop at items))
+-- ---- the conjuncts to come: of a frame, its operands that are left
+unfoldable pub run_rest : (ℕ → ExprData) → List ℕ → Frame → List ℕ
+run_rest node items f = joined_of (conjuncts_to node items f.owner) (take f.left (drop f.at items))
 
 abbrev pub rest_of : (ℕ → ExprData) → List ℕ → Walk → List ℕ
 rest_of node items = fold_of ◌++◌ [] (run_rest node items)
@@ -40,18 +42,21 @@ unfoldable pub steps_in : List ℕ → List ℕ → ℕ
 steps_in below [] = 0
 steps_in below (e ∷ es) = suc (get_or below e 0) + steps_in below es
 
-abbrev pub steps_by : List ℕ → List ℕ → List ℕ → List ℕ → List ℕ → List ℕ → ℕ → ℕ
-steps_by kind code a start items below h =
-    cond (is_and kind code h) (suc (steps_in below (take (get_or a h 0) (drop (get_or start h 0) items)))) 0
+-- those of a frame, by those of each expression
+abbrev pub frame_steps : List ℕ → List ℕ → Frame → ℕ
+frame_steps items below f = suc (steps_in below (take f.left (drop f.at items)))
 
-abbrev pub steps_to : List ℕ → List ℕ → List ℕ → List ℕ → List ℕ → ℕ → List ℕ
-steps_to kind code a start items = in_order (steps_by kind code a start items)
+abbrev pub steps_by : Expressions → List ℕ → List ℕ → ℕ → ℕ
+steps_by t items below h = cond (and_in t h) (frame_steps items below (frame_of t h)) 0
 
-unfoldable pub run_steps : List ℕ → List ℕ → List ℕ → List ℕ → List ℕ → ℕ → ℕ → ℕ → ℕ
-run_steps kind code a start items o at left = suc (steps_in (steps_to kind code a start items o) (take left (drop at items)))
+abbrev pub steps_to : Expressions → List ℕ → ℕ → List ℕ
+steps_to t items = in_order (steps_by t items)
 
-abbrev pub steps_left : List ℕ → List ℕ → List ℕ → List ℕ → List ℕ → Walk → ℕ
-steps_left kind code a start items = fold_of ◌+◌ 0 (run_steps kind code a start items)
+unfoldable pub run_steps : Expressions → List ℕ → Frame → ℕ
+run_steps t items f = frame_steps items (steps_to t items f.owner) f
+
+abbrev pub steps_left : Expressions → List ℕ → Walk → ℕ
+steps_left t items = fold_of ◌+◌ 0 (run_steps t items)
 
 fold_same : {A : Type 0} (op : A → A → A) (none : A) (f g : ℕ → A) (n : ℕ) → ((k : ℕ) → k < n → f k ≡ g k) → fold_to op none f n ≡ fold_to op none g n
 unfolding fold_to
@@ -60,11 +65,9 @@ fold_same op none f g (suc n) h = λ i. op (h n (omega arith) i) (fold_same op n
 
 -- ---- walks as the steps make them: a frame's And stands at most as high as there is room for the frames below it, so there is always room
 pub record Good (w : Walk) : Type 0 where
-  pub owners : length w.owner ≡ 1024
-  pub places : length w.at ≡ 1024
-  pub lefts : length w.left ≡ 1024
+  pub many : length w.frames ≡ 1024
   pub few : w.depth ≤ 1024
-  pub low : (k : ℕ) → k < w.depth → k + owner_at w k ≤ 1023
+  pub low : (k : ℕ) → k < w.depth → k + (frame_at w k).owner ≤ 1023
 
 -- ---- the operands of a run, one less
 module _ (items : List ℕ) (long : length items ≡ 2048) where
@@ -81,105 +84,84 @@ module _ (w : Walk) (g : Good w) (k : ℕ) (top : w.depth ≡ suc k) where
   unfolding passed
   passed-depth = refl
 
-  passed-place : place_at (passed w k) k ≡ place_at w k + 1
-  unfolding passed
-  passed-place = get_or-set_same w.at k (place_at w k + 1) 0 (omega (arith, g.places, g.few))
-
-  passed-left : left_at (passed w k) k ≡ left_at w k - 1
-  unfolding passed
-  passed-left = get_or-set_same w.left k (left_at w k - 1) 0 (omega (arith, g.lefts, g.few))
-
   -- the frame on top has an operand less, and the others are as they were
-  pub passed-top : {A : Type 0} (f : ℕ → ℕ → ℕ → A)
-      → f (owner_at (passed w k) k) (place_at (passed w k) k) (left_at (passed w k) k) ≡ f (owner_at w k) (place_at w k + 1) (left_at w k - 1)
+  pub passed-top : frame_at (passed w k) k ≡ less (frame_at w k)
   unfolding passed
-  passed-top f = λ i. f (owner_at w k) (passed-place i) (passed-left i)
+  passed-top = get_or-set_same w.frames k (less (frame_at w k)) no_frame (omega (arith, g.many, g.few))
 
-  pub passed-below : {A : Type 0} (f : ℕ → ℕ → ℕ → A) (j : ℕ) → j < k
-      → f (owner_at (passed w k) j) (place_at (passed w k) j) (left_at (passed w k) j) ≡ f (owner_at w j) (place_at w j) (left_at w j)
+  pub passed-below : (j : ℕ) → j < k → frame_at (passed w k) j ≡ frame_at w j
   unfolding passed
-  passed-below f j l =
-      λ i. f (owner_at w j) (get_or-set_other w.at k j (place_at w k + 1) 0 (ne_of_lt l) i) (get_or-set_other w.left k j (left_at w k - 1) 0 (ne_of_lt l) i)
+  passed-below j l = get_or-set_other w.frames k j (less (frame_at w k)) no_frame (ne_of_lt l)
+
+  passed-owner : (j : ℕ) → j < suc k → (frame_at (passed w k) j).owner ≡ (frame_at w j).owner
+  passed-owner j l =
+      ⊎_elim (λ m. ap (λ (f : Frame). f.owner) (passed-below j m))
+      (λ m. let e : k ≡ j = omega arith in subst (λ (i : ℕ). (frame_at (passed w k) i).owner ≡ (frame_at w i).owner) e (ap (λ (f : Frame). f.owner) passed-top))
+      (below_or_not j k)
 
   pub passed-good : Good (passed w k)
   unfolding passed
   passed-good = record {
-    owners = g.owners;
-    places = length-set w.at k _ ∙ g.places;
-    lefts = length-set w.left k _ ∙ g.lefts;
+    many = length-set w.frames k _ ∙ g.many;
     few = g.few;
-    low = g.low;
+    low = λ j l. omega (arith, g.low j l, passed-owner j (omega (arith, top)));
   }
 
   pub popped-good : Good (popped w k)
-  popped-good = record { owners = g.owners; places = g.places; lefts = g.lefts; few = omega (arith, g.few); low = λ j l. g.low j (omega arith) }
+  popped-good = record { many = g.many; few = omega (arith, g.few); low = λ j l. g.low j (omega arith) }
 
 -- one frame more
-module _ (w : Walk) (g : Good w) (e at left : ℕ) (room : w.depth + e ≤ 1023) where
+module _ (w : Walk) (g : Good w) (f : Frame) (room : w.depth + f.owner ≤ 1023) where
   abbrev more : Walk
-  more = record { owner = set w.owner w.depth e; at = set w.at w.depth at; left = set w.left w.depth left; depth = w.depth + 1 }
+  more = record { frames = set w.frames w.depth f; depth = w.depth + 1 }
 
-  pub pushed-is : pushed w e at left ≡ more
+  pub pushed-is : pushed w f ≡ more
   unfolding pushed
   pushed-is = rw (lt-ltb w.depth 1024 (omega arith))
 
-  pub pushed-top : {A : Type 0} (f : ℕ → ℕ → ℕ → A) → f (owner_at more w.depth) (place_at more w.depth) (left_at more w.depth) ≡ f e at left
-  pushed-top f =
-      λ i.
-      f (get_or-set_same w.owner w.depth e 0 (omega (arith, g.owners)) i) (get_or-set_same w.at w.depth at 0 (omega (arith, g.places)) i)
-      (get_or-set_same w.left w.depth left 0 (omega (arith, g.lefts)) i)
+  pub pushed-top : frame_at more w.depth ≡ f
+  pushed-top = get_or-set_same w.frames w.depth f no_frame (omega (arith, g.many))
 
-  pub pushed-below : {A : Type 0} (f : ℕ → ℕ → ℕ → A) (j : ℕ) → j < w.depth
-      → f (owner_at more j) (place_at more j) (left_at more j) ≡ f (owner_at w j) (place_at w j) (left_at w j)
-  pushed-below f j l =
-      λ i.
-      f (get_or-set_other w.owner w.depth j e 0 (ne_of_lt l) i) (get_or-set_other w.at w.depth j at 0 (ne_of_lt l) i)
-      (get_or-set_other w.left w.depth j left 0 (ne_of_lt l) i)
+  pub pushed-below : (j : ℕ) → j < w.depth → frame_at more j ≡ frame_at w j
+  pushed-below j l = get_or-set_other w.frames w.depth j f no_frame (ne_of_lt l)
 
-  more-low : (k : ℕ) → k < w.depth + 1 → k + owner_at more k ≤ 1023
+  more-low : (k : ℕ) → k < w.depth + 1 → k + (frame_at more k).owner ≤ 1023
   more-low k l = ⊎_elim older last (below_or_not k w.depth)
     where
-      older : k < w.depth → k + owner_at more k ≤ 1023
-      older m = rw (get_or-set_other w.owner w.depth k e 0 (ne_of_lt m)) (g.low k m)
+      older : k < w.depth → k + (frame_at more k).owner ≤ 1023
+      older m = omega (arith, g.low k m, ap (λ (x : Frame). x.owner) (pushed-below k m))
 
-      last : w.depth ≤ k → k + owner_at more k ≤ 1023
+      last : w.depth ≤ k → k + (frame_at more k).owner ≤ 1023
       last m =
           let q : w.depth ≡ k = omega arith in
-          subst (λ (j : ℕ). j + owner_at more j ≤ 1023) q (rw (get_or-set_same w.owner w.depth e 0 (omega (arith, g.owners))) room)
+          subst (λ (j : ℕ). j + (frame_at more j).owner ≤ 1023) q (omega (arith, room, ap (λ (x : Frame). x.owner) pushed-top))
 
   more-good : Good more
-  more-good = record {
-    owners = length-set w.owner w.depth e ∙ g.owners;
-    places = length-set w.at w.depth at ∙ g.places;
-    lefts = length-set w.left w.depth left ∙ g.lefts;
-    few = omega arith;
-    low = more-low;
-  }
+  more-good = record { many = length-set w.frames w.depth f ∙ g.many; few = omega arith; low = more-low }
 
-  pub pushed-good : Good (pushed w e at left)
+  pub pushed-good : Good (pushed w f)
   pushed-good = subst Good (sym pushed-is) more-good
 
 -- ---- the same of what the frames make together
-module _ {A : Type 0} (op : A → A → A) (none : A) (run : ℕ → ℕ → ℕ → A) where
-  pub fold_top : (w : Walk) (k : ℕ) → w.depth ≡ suc k → fold_of op none run w ≡ op (frame_of run w k) (fold_of op none run (popped w k))
+module _ {A : Type 0} (op : A → A → A) (none : A) (run : Frame → A) where
+  pub fold_top : (w : Walk) (k : ℕ) → w.depth ≡ suc k → fold_of op none run w ≡ op (of_frame run w k) (fold_of op none run (popped w k))
   unfolding fold_of fold_to
-  fold_top w k top = ap (fold_to op none (frame_of run w)) top
+  fold_top w k top = ap (fold_to op none (of_frame run w)) top
 
   pub fold_passed : (w : Walk) (g : Good w) (k : ℕ) → w.depth ≡ suc k
-      → fold_of op none run (passed w k) ≡ op (run (owner_at w k) (place_at w k + 1) (left_at w k - 1)) (fold_of op none run (popped w k))
+      → fold_of op none run (passed w k) ≡ op (run (less (frame_at w k))) (fold_of op none run (popped w k))
   unfolding fold_of
   fold_passed w g k top =
       fold_top (passed w k) k (passed-depth w g k top ∙ top)
-      ∙ (λ i. op (passed-top w g k top run i) (fold_same op none _ _ k (passed-below w g k top run) i))
+      ∙ (λ i. op (run (passed-top w g k top i)) (fold_same op none _ _ k (λ j l. ap run (passed-below w g k top j l)) i))
 
-  pub fold_pushed : (w : Walk) (g : Good w) (e at left : ℕ) → w.depth + e ≤ 1023
-      → fold_of op none run (pushed w e at left) ≡ op (run e at left) (fold_of op none run w)
+  pub fold_pushed : (w : Walk) (g : Good w) (f : Frame) → w.depth + f.owner ≤ 1023 → fold_of op none run (pushed w f) ≡ op (run f) (fold_of op none run w)
   unfolding fold_of
-  fold_pushed w g e at left room =
-      ap (fold_of op none run) (pushed-is w g e at left room)
-      ∙ fold_top (more w g e at left room) w.depth (add-one w.depth)
-      ∙ (λ i. op (pushed-top w g e at left room run i) (fold_same op none _ _ w.depth (pushed-below w g e at left room run) i))
+  fold_pushed w g f room =
+      ap (fold_of op none run) (pushed-is w g f room)
+      ∙ fold_top (more w g f room) w.depth (add-one w.depth)
+      ∙ (λ i. op (run (pushed-top w g f room i)) (fold_same op none _ _ w.depth (λ j l. ap run (pushed-below w g f room j l)) i))
 
   pub fold_none : (w : Walk) → w.depth ≡ 0 → fold_of op none run w ≡ none
   unfolding fold_of fold_to
-  fold_none w e = ap (fold_to op none (frame_of run w)) e
+  fold_none w e = ap (fold_to op none (of_frame run w)) e

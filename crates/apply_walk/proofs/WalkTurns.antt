@@ -1,104 +1,108 @@
 -- What a frame does next says what its numbers are, and the walk that is moved so goes on. Assumes nothing.
-use Prim.Native.Nat.{ℕ, suc, ◌+◌, ◌-◌, ◌<◌, ◌≤◌}
+use Prim.Native.Nat.{ℕ, suc, ◌+◌, ◌<◌, ◌≤◌}
 use mathlib.Core.Path.{◌≡◌, refl, sym, subst}
 use mathlib.Core.Bool.{Bool, true, false, cond, ◌||◌}
 use mathlib.Core.List.{List, [], ◌∷◌}
 use native.Mathlib.Omega.{arith}
 use lib.Dec.{ltb, leb, eqb}
-use lib.ListN.{length, get_or, set}
-use borrow.Author.Tests.{ltb-true}
+use lib.ListN.{length, get_or}
+use Rattle.plan.specs.declared.Expressions.{Expressions}
+use Rattle.apply_walk.specs.declared.Frame.{Frame}
 use Rattle.apply_walk.specs.declared.Walk.{Walk}
 use Rattle.apply_walk.specs.declared.Move.{Move}
 use Rattle.apply_walk.specs.declared.Move.TheVariants.{Pop, Skip, Enter, Found}
-use Rattle.apply_walk.specs.Walks.{is_and, owner_at, place_at, left_at, popped, passed, entered, operand_turn, turn_of}
+use Rattle.apply_walk.specs.Walks.{and_in, frame_at, top_of, popped, passed, entered, operand_turn, turn_of, frame_turn, top_turn}
 use Rattle.apply_walk.proofs.Guards.{goes_on}
-use Rattle.apply_walk.proofs.Rests.{Good, passed-depth, passed-good, pushed-is}
+use Rattle.apply_walk.proofs.Rests.{Good}
 use Rattle.apply_walk.proofs.Stepping.{Goes, pop_goes, skip-goes, found-goes, enter_goes, enter_room}
 
--- ---- what each turn says of a frame of the And o
-module _ (kind code items : List ℕ) (o at left : ℕ) where
+-- ---- what each turn says of a frame
+module _ (t : Expressions) (items : List ℕ) (f : Frame) where
   abbrev operand : ℕ
-  operand = get_or items at 0
+  operand = get_or items f.at 0
+
+  -- it has an operand, which stands before its And or not
+  pub record Operand (before : Bool) : Type 0 where
+    pub some : 1 ≤ f.left
+    pub low : f.at < 2048
+    pub stands : ltb operand f.owner ≡ before
+
+  -- and which is e, an And or not
+  pub record Named (and : Bool) (e : ℕ) : Type 0 where
+    pub has : Operand true
+    pub opened : and_in t operand ≡ and
+    pub is : operand ≡ e
 
   abbrev pub Said : Move → Type 0
-  Said Pop = (eqb left 0 || leb 2048 at) ≡ true
-  Said Skip = (1 ≤ left) × (at < 2048) × (ltb operand o ≡ false)
-  Said (Enter e) = (1 ≤ left) × (at < 2048) × (ltb operand o ≡ true) × (is_and kind code operand ≡ true) × (operand ≡ e)
-  Said (Found e) = (1 ≤ left) × (at < 2048) × (ltb operand o ≡ true) × (is_and kind code operand ≡ false) × (operand ≡ e)
+  Said Pop = (eqb f.left 0 || leb 2048 f.at) ≡ true
+  Said Skip = Operand false
+  Said (Enter e) = Named true e
+  Said (Found e) = Named false e
 
-  operand-said : (1 ≤ left) × (at < 2048) → Said (operand_turn kind code o operand)
-  operand-said h = go (ltb operand o) (is_and kind code operand) refl refl
+  operand-said : (1 ≤ f.left) × (f.at < 2048) → Said (operand_turn t.kind t.code f.owner operand)
+  operand-said h = go (ltb operand f.owner) (and_in t operand) refl refl
     where
-      go : (l y : Bool) → ltb operand o ≡ l → is_and kind code operand ≡ y → Said (cond l (cond y (Enter operand) (Found operand)) Skip)
-      go true true p q = (h.0, h.1, p, q, refl)
-      go true false p q = (h.0, h.1, p, q, refl)
-      go false y p q = (h.0, h.1, p)
+      go : (l y : Bool) → ltb operand f.owner ≡ l → and_in t operand ≡ y → Said (cond l (cond y (Enter operand) (Found operand)) Skip)
+      go true true p q = record { has = record { some = h.0; low = h.1; stands = p }; opened = q; is = refl }
+      go true false p q = record { has = record { some = h.0; low = h.1; stands = p }; opened = q; is = refl }
+      go false y p q = record { some = h.0; low = h.1; stands = p }
 
-  said : Said (turn_of kind code items o at left)
+  said : Said (frame_turn t items f)
   unfolding turn_of
-  said = go (eqb left 0 || leb 2048 at) refl
+  said = go (eqb f.left 0 || leb 2048 f.at) refl
     where
-      go : (t : Bool) → (eqb left 0 || leb 2048 at) ≡ t → Said (cond t Pop (operand_turn kind code o operand))
+      go : (b : Bool) → (eqb f.left 0 || leb 2048 f.at) ≡ b → Said (cond b Pop (operand_turn t.kind t.code f.owner operand))
       go true p = p
-      go false p = operand-said (goes_on left at p)
+      go false p = operand-said (goes_on f.left f.at p)
 
-  pub move_said : (m : Move) → m ≡ turn_of kind code items o at left → Said m
+  pub move_said : (m : Move) → m ≡ frame_turn t items f → Said m
   move_said m e = subst Said (sym e) said
 
--- ---- the frame on top of a walk
+  -- a frame that is not done has an operand among the items
+  pub has_operand : (m : Move) → m ≡ frame_turn t items f → (m ≡ Pop → ⊥) → (1 ≤ f.left) × (f.at < 2048)
+  has_operand m e other = go m (move_said m e) other
+    where
+      go : (m : Move) → Said m → (m ≡ Pop → ⊥) → (1 ≤ f.left) × (f.at < 2048)
+      go Pop s n = absurd (n refl)
+      go Skip s n = (s.some, s.low)
+      go (Enter x) s n = (s.has.some, s.has.low)
+      go (Found x) s n = (s.has.some, s.has.low)
 
--- an operand of the frame k is done, and a frame for the And x stands on top
-abbrev pub deeper : Walk → ℕ → ℕ → ℕ → ℕ → Walk
-deeper w k x at left = record {
-  owner = set w.owner w.depth x;
-  at = set (set w.at k (place_at w k + 1)) w.depth at;
-  left = set (set w.left k (left_at w k - 1)) w.depth left;
-  depth = w.depth + 1;
-}
-
-module _ (kind code a start items : List ℕ) (long : length items ≡ 2048) (w : Walk) (g : Good w) (k : ℕ) (top : w.depth ≡ suc k) where
+-- ---- a turn of a walk
+module _ (t : Expressions) (items : List ℕ) (long : length items ≡ 2048) (w : Walk) (g : Good w) (some : 0 < w.depth) where
   abbrev here : Move → Type 0
-  here m = m ≡ turn_of kind code items (owner_at w k) (place_at w k) (left_at w k)
+  here m = m ≡ top_turn t items w
 
-  abbrev on_to : Walk → List ℕ → Type 0
-  on_to v found = (b bits : List ℕ) → Goes kind code a b bits start items long w v found
+  abbrev k : ℕ
+  k = top_of w
 
-  facts : (m : Move) → here m → Said kind code items (owner_at w k) (place_at w k) (left_at w k) m
-  facts m e = move_said kind code items (owner_at w k) (place_at w k) (left_at w k) m e
+  top : w.depth ≡ suc k
+  top = omega arith
 
-  pub pop_turn : here Pop → on_to (popped w k) []
-  pop_turn e b bits = pop_goes kind code a b bits start items long w g k top (facts Pop e)
+  facts : (m : Move) → here m → Said t items (frame_at w k) m
+  facts m e = move_said t items (frame_at w k) m e
 
-  pub skip-turn : here Skip → on_to (passed w k) []
-  skip-turn e b bits = let f = facts Skip e in skip-goes kind code a b bits start items long w g k top f.0 f.1 f.2
+  pub pop_turn : here Pop → Goes t items long w (popped w k) []
+  pop_turn e = pop_goes t items long w g k top (facts Pop e)
 
-  pub found_turn : (x : ℕ) → here (Found x) → on_to (passed w k) (x ∷ [])
-  found_turn x e b bits =
-      let f = facts (Found x) e in
-      subst (λ (y : ℕ). Goes kind code a b bits start items long w (passed w k) (y ∷ [])) f.4
-      (found-goes kind code a b bits start items long w g k top f.0 f.1 f.2 f.3)
+  pub skip-turn : here Skip → Goes t items long w (passed w k) []
+  skip-turn e = let h = facts Skip e in skip-goes t items long w g k top h.some h.low h.stands
 
-  -- the walk into an operand's And, at once as the two stores leave it
-  deeper-is : (x : ℕ) → w.depth + x ≤ 1023 → entered a start (passed w k) x ≡ deeper w k x (get_or start x 0) (get_or a x 0)
-  unfolding entered passed
-  deeper-is x room = pushed-is (passed w k) (passed-good w g k top) x (get_or start x 0) (get_or a x 0) room
+  module _ (x : ℕ) where
+    pub found_turn : here (Found x) → Goes t items long w (passed w k) (x ∷ [])
+    found_turn e =
+        let h = facts (Found x) e in
+        subst (λ (y : ℕ). Goes t items long w (passed w k) (y ∷ [])) h.is (found-goes t items long w g k top h.has.some h.has.low h.has.stands h.opened)
 
-  pub enter_turn : (x at left : ℕ) → here (Enter x) → at ≡ get_or start x 0 → left ≡ get_or a x 0 → on_to (deeper w k x at left) []
-  enter_turn x at left e p q b bits =
-      let f = facts (Enter x) e in
-      let operand = get_or items (place_at w k) 0 in
-      let room : w.depth + operand ≤ 1023 = omega (
-        arith,
-        enter_room kind code a b bits start items long w g k top f.0 f.1 f.2,
-        passed-depth w g k
-            top,
-      ) in
-      rw (p, q)
-      (subst (λ (y : ℕ). Goes kind code a b bits start items long w (deeper w k y (get_or start y 0) (get_or a y 0)) []) f.4
-      (subst (λ (v : Walk). Goes kind code a b bits start items long w v []) (deeper-is operand room)
-      (enter_goes kind code a b bits start items long w g k top f.0 f.1 f.2 f.3)))
+    module _ (e : here (Enter x)) where
+      h : Named t items (frame_at w k) true x
+      h = facts (Enter x) e
 
-  -- there is a frame for it
-  pub enter_within : (x : ℕ) → here (Enter x) → w.depth < 1024
-  enter_within x e =
-      let f = facts (Enter x) e in omega (arith, g.low k (omega arith), ltb-true (get_or items (place_at w k) 0) (owner_at w k) f.2)
+      -- there is room for a frame for it
+      pub enter_within : (passed w k).depth + x ≤ 1023
+      enter_within = omega (arith, enter_room t items long w g k top h.has.some h.has.low h.has.stands, h.is)
+
+      pub enter_turn : Goes t items long w (entered t (passed w k) x) []
+      enter_turn =
+          subst (λ (y : ℕ). Goes t items long w (entered t (passed w k) y) []) h.is
+          (enter_goes t items long w g k top h.has.some h.has.low h.has.stands h.opened)

@@ -2,15 +2,22 @@
 // frame for each And that it is within.
 #![tactic(auto)]
 
-ghost use Rattle.std.specs.Prelude.{◌≡◌};
-ghost use Rattle.apply_walk.specs.Walks.{is_and, empty_walk, entered, turn_of};
+ghost use Rattle.std.specs.Prelude.{◌≡◌, ◌<◌, ◌≤◌};
+ghost use Rattle.apply_walk.specs.Walks.{and_in, frame_of, empty_walk, entered, frame_turn, top_turn, moved};
 
-// By frame: the And, the place of its next operand in the item table, and how many operands are left.
+use plan::{Expressions, Items};
+
+// An And, the place of its next operand in the item table, and how many operands are left.
+#[derive(Clone, Copy)]
+pub struct Frame {
+    pub owner: u16,
+    pub at: u16,
+    pub left: u16,
+}
+
 #[derive(Clone, Copy)]
 pub struct Walk {
-    pub owner: [u16; 1024],
-    pub at: [u16; 1024],
-    pub left: [u16; 1024],
+    pub frames: [Frame; 1024],
     pub depth: usize,
 }
 
@@ -23,66 +30,94 @@ pub enum Move {
     Found(u16),
 }
 
-impl Walk {
-    pub const FRAMES: usize = 1024;
+// Whether the expression e is an And.
+pub fn is_and(exprs: &Expressions, e: u16) -> bool
+    ensures { result ≡ and_in exprs.now e }
+{
+    let i = usize::from(e);
+    lists::at(&exprs.kind, i, 0) == 0x23 && lists::at(&exprs.code, i, 0) == 0
+}
 
-    pub fn empty() -> Walk
-        ensures { result ≡ empty_walk }
+impl Frame {
+    // All operands of the And e.
+    pub fn of(exprs: &Expressions, e: u16) -> Frame
+        ensures { result ≡ frame_of exprs.now e }
     {
-        Walk {
-            owner: [0; 1024],
-            at: [0; 1024],
-            left: [0; 1024],
-            depth: 0,
+        let i = usize::from(e);
+        Frame {
+            owner: e,
+            at: exprs.start(i),
+            left: lists::at(&exprs.a, i, 0),
+        }
+    }
+
+    #[tactic(auto, unfolding(crate::specs::Walks::turn_of))]
+    fn turn(self, exprs: &Expressions, items: &Items) -> Move
+        ensures { result ≡ frame_turn exprs.now items.now.a self }
+    {
+        if self.left == 0 || 2048 <= self.at {
+            return Move::Pop;
+        }
+        let e = lists::at(&items.a, usize::from(self.at), 0);
+        if self.owner <= e {
+            return Move::Skip;
+        }
+        if is_and(exprs, e) {
+            Move::Enter(e)
+        } else {
+            Move::Found(e)
         }
     }
 }
 
-// Whether the expression e is an And.
-pub fn is_and<'a>(kind: &'a [u8], code: &'a [u8], e: u16) -> bool
-    ensures { result ≡ is_and kind.now code.now e }
-{
-    let i = e as usize;
-    (lists::at8(kind, i) == 0x23) & (lists::at8(code, i) == 0)
-}
+impl Walk {
+    pub const FRAMES: usize = 1024;
 
-// All operands of the And e are to come. A walk that has no room for its frame stays as it was.
-pub fn enter<'a>(a: &'a [u16], start: &'a [u16], w: Walk, e: u16) -> Walk
-    ensures { result ≡ entered a.now start.now w e }
-{
-    let n = w.depth;
-    if Walk::FRAMES <= n {
-        return w;
+    #[tactic(auto, unfolding(crate::specs::Walks::empty_walk))]
+    pub fn empty() -> Walk
+        ensures { result ≡ empty_walk }
+    {
+        let none = Frame {
+            owner: 0,
+            at: 0,
+            left: 0,
+        };
+        Walk {
+            frames: [none; 1024],
+            depth: 0,
+        }
     }
-    let i = e as usize;
-    let mut v = w;
-    v.owner[n] = e;
-    v.at[n] = lists::at16(start, i);
-    v.left[n] = lists::at16(a, i);
-    v.depth = n + 1;
-    v
-}
 
-// What a frame does next, by its three numbers. The caller moves its walk in its place: a walk is too big to be handed on for each operand.
-pub fn turn<'a>(
-    kind: &'a [u8],
-    code: &'a [u8],
-    items: &'a [u16],
-    owner: u16,
-    at: u16,
-    left: u16,
-) -> Move
-    ensures { result ≡ turn_of kind.now code.now items.now owner at left }
-{
-    if (left == 0) | (2048 <= at) {
-        return Move::Pop;
+    // All operands of the And e are to come. A walk that has no room for its frame stays as it was.
+    #[tactic(auto, unfolding(crate::specs::Walks::pushed, crate::specs::Walks::entered))]
+    pub fn enter(&mut self, exprs: &Expressions, e: u16)
+        ensures { self.new ≡ entered exprs.now self.old e }
+    {
+        if self.depth < Walk::FRAMES {
+            self.frames[self.depth] = Frame::of(exprs, e);
+            self.depth += 1;
+        }
     }
-    let e = lists::at16(items, at as usize);
-    if owner <= e {
-        return Move::Skip;
+
+    // What the frame on top does next, which is then done, but for an And: whether it is entered is for the caller to say.
+    #[tactic(auto, using(crate::proofs::WalkTurns::has_operand), unfolding(crate::specs::Walks::passed))]
+    pub fn turn(&mut self, exprs: &Expressions, items: &Items) -> Move
+        requires some { 0 < self.old.depth }
+        requires few { self.old.depth ≤ 1024 }
+        ensures told { result ≡ top_turn exprs.now items.now.a self.old }
+        ensures done { self.new ≡ moved self.old result }
+    {
+        let k = self.depth - 1;
+        let frame = self.frames[k];
+        let turn = frame.turn(exprs, items);
+        match turn {
+            Move::Pop => self.depth = k,
+            _ => self.frames[k] = Frame {
+                at: frame.at + 1,
+                left: frame.left - 1,
+                ..frame
+            },
+        }
+        turn
     }
-    if is_and(kind, code, e) {
-        return Move::Enter(e);
-    }
-    Move::Found(e)
 }
