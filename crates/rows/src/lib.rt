@@ -1,21 +1,21 @@
 // Rows and truth: the value of an expression on a row, by SQL's three truth values.
 #![tactic(auto)]
 
-ghost use Rattle.std.specs.Prelude.{◌≡◌, false, ◌<◌, get_or, take, drop};
+ghost use Rattle.std.specs.Prelude.{◌≡◌, ◌<◌, get_or};
+ghost use Rattle.std.specs.List.{list_all};
 ghost use Rattle.lists.specs.Ranges.{all_from};
-ghost use Rattle.truth.specs.Truth.{every};
-ghost use Rattle.plan_data.specs.Nodes.{node_of, operands_of};
+ghost use Rattle.plan_data.specs.Nodes.{node_at, operands_of};
 ghost use Rattle.rows_spec.specs.Compare.{known, compared, compare_of, truth_of, of_truth};
 ghost use Rattle.rows_spec.specs.Values.{unary_of, none_of, join_of, nary_of, truths, value_in, values};
-ghost use Rattle.rows_spec.specs.Typing.{kind_of_node, boolean_at, unary_typed, flagged, wanted, node_typed, typed_at};
-ghost use Rattle.rows_spec.specs.Cells.{cell_of, cell_ok, cell_at_ok, row_ok};
+ghost use Rattle.rows_spec.specs.Typing.{kind_at, boolean_at, unary_typed, flagged, wanted, node_typed, typed_at};
+ghost use Rattle.rows_spec.specs.Cells.{cell_at, cell_ok, cell_at_ok, row_ok};
 ghost use Rattle.rows_spec.specs.Evaluate.{value_on, typed, evaluate_of};
 
 use comparison::BinaryOp;
-use plan::{Expr, Plan};
+use plan::{Expr, Items, Plan};
 use plan_data::{ExprData, NaryOp, Run, UnaryOp};
 use plan_kinds::Record;
-use rows_spec::{Evaluation, Row};
+use rows_spec::{EvaluationError, Row};
 use scalar::{Kind, ScalarValue};
 
 // TRUE and FALSE of a test.
@@ -30,36 +30,33 @@ fn compared(op: BinaryOp, v: ScalarValue, w: ScalarValue) -> bool
     ensures { result ≡ compared op v w }
 {
     match op {
-        BinaryOp::Eq => scalar::equal(v, w),
-        BinaryOp::NotEq => !scalar::equal(v, w),
-        BinaryOp::Lt => scalar::less(v, w),
-        BinaryOp::LtEq => scalar::less(v, w) | scalar::equal(v, w),
-        BinaryOp::Gt => scalar::less(w, v),
-        BinaryOp::GtEq => scalar::less(w, v) | scalar::equal(v, w),
-        BinaryOp::IsNotDistinctFrom => scalar::equal(v, w),
+        BinaryOp::Eq | BinaryOp::IsNotDistinctFrom => v == w,
+        BinaryOp::NotEq => v != w,
+        BinaryOp::Lt => v.is_below(w),
+        BinaryOp::LtEq => v.is_below(w) || v == w,
+        BinaryOp::Gt => w.is_below(v),
+        BinaryOp::GtEq => w.is_below(v) || v == w,
     }
 }
 
 // The truth of a comparison.
+#[tactic(auto, unfolding(rows_spec::specs::Compare::compare_of))]
 pub fn compare(op: BinaryOp, v: ScalarValue, w: ScalarValue) -> u8
     ensures { result ≡ compare_of op v w }
 {
-    let ordinary = comparison::is_ordinary(op);
-    let a = scalar::is_null(v);
-    let b = scalar::is_null(w);
-    if a | b {
-        if ordinary {
-            return truth::UNKNOWN;
+    if v.is_null() || w.is_null() {
+        if op.is_ordinary() {
+            truth::UNKNOWN
+        } else {
+            known(v.is_null() && w.is_null())
         }
-        return known(a & b);
+    } else if v.kind() == w.kind() {
+        known(compared(op, v, w))
+    } else if op.is_ordinary() {
+        truth::UNKNOWN
+    } else {
+        truth::FALSE
     }
-    if scalar::same_kind(scalar::kind_of(v), scalar::kind_of(w)) {
-        return known(compared(op, v, w));
-    }
-    if ordinary {
-        return truth::UNKNOWN;
-    }
-    truth::FALSE
 }
 
 // The truth of a value: what is no Boolean is UNKNOWN.
@@ -67,12 +64,8 @@ pub fn truth_of(v: ScalarValue) -> u8
     ensures { result ≡ truth_of v }
 {
     match v {
-        ScalarValue::Null(_) => truth::UNKNOWN,
         ScalarValue::Boolean(b) => known(b),
-        ScalarValue::Int32(_) => truth::UNKNOWN,
-        ScalarValue::Int64(_) => truth::UNKNOWN,
-        ScalarValue::Float64(_) => truth::UNKNOWN,
-        ScalarValue::Date32(_) => truth::UNKNOWN,
+        _ => truth::UNKNOWN,
     }
 }
 
@@ -80,13 +73,11 @@ pub fn truth_of(v: ScalarValue) -> u8
 pub fn of_truth(t: u8) -> ScalarValue
     ensures { result ≡ of_truth t }
 {
-    if t == truth::FALSE {
-        return ScalarValue::Boolean(false);
+    match t {
+        truth::FALSE => ScalarValue::Boolean(false),
+        truth::TRUE => ScalarValue::Boolean(true),
+        _ => ScalarValue::Null(Kind::Boolean),
     }
-    if t == truth::TRUE {
-        return ScalarValue::Boolean(true);
-    }
-    ScalarValue::Null(Kind::Boolean)
 }
 
 // A unary operation on the value of its operand.
@@ -95,8 +86,8 @@ fn unary(op: UnaryOp, v: ScalarValue) -> ScalarValue
 {
     match op {
         UnaryOp::Not => of_truth(truth::not3(truth_of(v))),
-        UnaryOp::IsNull => ScalarValue::Boolean(scalar::is_null(v)),
-        UnaryOp::IsNotNull => ScalarValue::Boolean(!scalar::is_null(v)),
+        UnaryOp::IsNull => ScalarValue::Boolean(v.is_null()),
+        UnaryOp::IsNotNull => ScalarValue::Boolean(!v.is_null()),
         UnaryOp::Negate => ScalarValue::Null(Kind::Boolean),
     }
 }
@@ -122,142 +113,76 @@ fn join(op: NaryOp, x: u8, y: u8) -> u8
 }
 
 // The row's value of a column.
-fn cell_at<'a>(case: &'a [u8], code: &'a [u8], bits: &'a [u64], c: usize) -> ScalarValue
-    ensures { result ≡ cell_of case.now code.now bits.now c }
+fn cell_at(row: &Row, c: usize) -> ScalarValue
+    ensures { result ≡ cell_at row.now c }
 {
     scalar::scalar_of(
-        lists::at8(case, c),
-        lists::at8(code, c),
-        lists::at64(bits, c),
+        lists::at(&row.case, c, 0),
+        lists::at(&row.code, c, 0),
+        lists::at(&row.bits, c, 0),
     )
 }
 
-// The value of the expression h, where it stands below `below`: the node whose operand it is. An operand that does not is NULL. The arrays of the row
-// are rk, rc and rb.
+// The operands of an And or an Or: what of its run lies in the item table.
+fn operands(items: &Items, r: Run) -> &[u16]
+    ensures { result.now ≡ operands_of items.now.a r }
+{
+    let rest = &items.a[r.start.min(items.a.len())..];
+    &rest[..r.count.min(rest.len())]
+}
+
+// The value of the expression h, where it stands below `below`: the node whose operand it is. An operand that does not is NULL.
 #[cycle(value_of_value_of_run)]
-fn value_of<'a>(
-    kind: &'a [u8],
-    code: &'a [u8],
-    a: &'a [u16],
-    b: &'a [u16],
-    bits: &'a [u64],
-    start: &'a [u16],
-    items: &'a [u16],
-    rk: &'a [u8],
-    rc: &'a [u8],
-    rb: &'a [u64],
-    below: usize,
-    h: usize,
-) -> ScalarValue
-    ensures { result ≡ value_in (values (cell_of rk.now rc.now rb.now)
-        (node_of kind.now code.now a.now b.now bits.now start.now) items.now
-        below) h }
+#[tactic(auto, using(rows_spec::proofs::ValueLaws::node_values))]
+fn value_of(p: &Plan, row: &Row, below: usize, h: usize) -> ScalarValue
+    ensures { result ≡ value_in (values (cell_at row.now) (node_at p.now) p.now.items.a below) h }
 {
     if below <= h {
         return ScalarValue::Null(Kind::Boolean);
     }
-    let node = plan_data::node_at(kind, code, a, b, bits, start, h);
-    match node {
+    match plan_data::node_at(&p.expressions, h) {
         ExprData::Literal(v) => v,
-        ExprData::ColumnRef(c) => cell_at(rk, rc, rb, c.0 as usize),
-        ExprData::Unary { op, expr } => {
-            let e = expr.0 as usize;
-            let v = value_of(kind, code, a, b, bits, start, items, rk, rc, rb, h, e);
-            unary(op, v)
-        }
+        ExprData::ColumnRef(c) => cell_at(row, usize::from(c.0)),
+        ExprData::Unary { op, expr } => unary(op, value_of(p, row, h, usize::from(expr.0))),
         ExprData::Binary { op, left, right } => {
-            let e = left.0 as usize;
-            let f = right.0 as usize;
-            let v = value_of(kind, code, a, b, bits, start, items, rk, rc, rb, h, e);
-            let w = value_of(kind, code, a, b, bits, start, items, rk, rc, rb, h, f);
+            let v = value_of(p, row, h, usize::from(left.0));
+            let w = value_of(p, row, h, usize::from(right.0));
             of_truth(compare(op, v, w))
         }
-        ExprData::Nary { op, exprs: r } => {
-            let t = value_of_run(kind, code, a, b, bits, start, items, rk, rc, rb, h, op, r);
-            of_truth(t)
-        }
+        ExprData::Nary { op, exprs } => of_truth(value_of_run(p, row, h, op, exprs)),
     }
 }
 
-// The truth of a run of operands, of a node at `below`. The handle falls at each node, then the number of operands left: a loop, so
-// that a long run takes no more stack than a short one.
+// The truth of a run of operands, of a node at `below`. A loop, so that a long run takes no more stack than a short one.
 #[cycle(value_of_value_of_run)]
-fn value_of_run<'a>(
-    kind: &'a [u8],
-    code: &'a [u8],
-    a: &'a [u16],
-    b: &'a [u16],
-    bits: &'a [u64],
-    start: &'a [u16],
-    items: &'a [u16],
-    rk: &'a [u8],
-    rc: &'a [u8],
-    rb: &'a [u64],
-    below: usize,
-    op: NaryOp,
-    r: Run,
-) -> u8
+#[tactic(auto, using(rows_spec::proofs::ValueLaws::nary_loop))]
+fn value_of_run(p: &Plan, row: &Row, below: usize, op: NaryOp, r: Run) -> u8
     ensures { result ≡ nary_of op
-        (truths (value_in (values (cell_of rk.now rc.now rb.now)
-        (node_of kind.now code.now a.now b.now bits.now start.now) items.now
-        below)) (operands_of items.now r)) }
+        (truths (value_in (values (cell_at row.now) (node_at p.now) p.now.items.a below)) (operands_of p.now.items.a r)) }
 {
     let mut t = none_of(op);
-    let mut j = r.start;
-    let mut left = r.count;
-    while 0 < left {
-        if items.len() <= j {
-            return t;
-        }
-        let e = lists::at16(items, j) as usize;
-        let v = value_of(kind, code, a, b, bits, start, items, rk, rc, rb, below, e);
-        t = join(op, t, truth_of(v));
-        j += 1;
-        left -= 1;
+    for e in operands(&p.items, r) {
+        t = join(op, t, truth_of(value_of(p, row, below, usize::from(*e))));
     }
     t
 }
 
-// The kind of a node: its literal's or its column's, else Boolean.
-fn kind_of_node(columns: &[u8], e: ExprData) -> Kind
-    ensures { result ≡ kind_of_node columns.now e }
+// The kind of an expression: its literal's or its column's, else Boolean.
+fn kind_at(p: &Plan, e: Expr) -> Kind
+    ensures { result ≡ kind_at p.now.columns.kind (node_at p.now) e.0 }
 {
-    match e {
-        ExprData::Literal(v) => scalar::kind_of(v),
-        ExprData::ColumnRef(c) => scalar::kind_of_code(lists::at8(columns, c.0 as usize)),
-        ExprData::Unary { op: _, expr: _ } => Kind::Boolean,
-        ExprData::Binary {
-            op: _,
-            left: _,
-            right: _,
-        } => Kind::Boolean,
-        ExprData::Nary { op: _, exprs: _ } => Kind::Boolean,
+    match plan_data::node_at(&p.expressions, usize::from(e.0)) {
+        ExprData::Literal(v) => v.kind(),
+        ExprData::ColumnRef(c) => Kind::from(lists::at(&p.columns.kind, usize::from(c.0), 0)),
+        _ => Kind::Boolean,
     }
 }
 
-// Whether the expression at i is of kind Boolean.
-fn boolean_at<'a>(
-    kind: &'a [u8],
-    code: &'a [u8],
-    a: &'a [u16],
-    b: &'a [u16],
-    bits: &'a [u64],
-    start: &'a [u16],
-    columns: &'a [u8],
-    i: usize,
-) -> bool
-    ensures { result ≡ boolean_at columns.now (node_of kind.now code.now a.now b.now bits.now
-        start.now) i }
+// Whether an expression is of kind Boolean.
+fn boolean_at(p: &Plan, e: Expr) -> bool
+    ensures { result ≡ boolean_at p.now.columns.kind (node_at p.now) e.0 }
 {
-    let node = plan_data::node_at(kind, code, a, b, bits, start, i);
-    scalar::same_kind(kind_of_node(columns, node), Kind::Boolean)
-}
-
-// A flag at any place: past the end stands false.
-fn at_flag(flags: &[bool], i: usize) -> bool
-    ensures { result ≡ get_or flags.now i false }
-{
-    if i < flags.len() { flags[i] } else { false }
+    kind_at(p, e) == Kind::Boolean
 }
 
 // Whether a unary operation takes an operand that is typed or not, and Boolean or not.
@@ -265,139 +190,62 @@ fn unary_typed(op: UnaryOp, typed: bool, boolean: bool) -> bool
     ensures { result ≡ unary_typed op typed boolean }
 {
     match op {
-        UnaryOp::Not => typed & boolean,
-        UnaryOp::IsNull => typed,
-        UnaryOp::IsNotNull => typed,
+        UnaryOp::Not => typed && boolean,
+        UnaryOp::IsNull | UnaryOp::IsNotNull => typed,
         UnaryOp::Negate => false,
     }
 }
 
-// Whether the expression e can be an operand of And or Or: typed, which its flag says, and Boolean.
-fn wanted<'a>(
-    kind: &'a [u8],
-    code: &'a [u8],
-    a: &'a [u16],
-    b: &'a [u16],
-    bits: &'a [u64],
-    start: &'a [u16],
-    columns: &'a [u8],
-    flags: &'a [bool],
-    e: usize,
-) -> bool
-    ensures { result ≡ wanted (flagged flags.now)
-        (boolean_at columns.now (node_of kind.now code.now a.now b.now bits.now
-        start.now)) e }
+// Whether an expression is typed, by the flags of those that a pass has come to; past their end none is.
+fn flagged(flags: &[bool], e: Expr) -> bool
+    ensures { result ≡ flagged flags.now e.0 }
 {
-    at_flag(flags, e) & boolean_at(kind, code, a, b, bits, start, columns, e)
+    lists::at(flags, usize::from(e.0), false)
 }
 
-// So can the n operands from the item `at` on.
-fn all_wanted<'a>(
-    kind: &'a [u8],
-    code: &'a [u8],
-    a: &'a [u16],
-    b: &'a [u16],
-    bits: &'a [u64],
-    start: &'a [u16],
-    items: &'a [u16],
-    columns: &'a [u8],
-    flags: &'a [bool],
-    at: usize,
-    n: usize,
-) -> bool
-    ensures { result ≡ every
-        (wanted (flagged flags.now)
-        (boolean_at columns.now (node_of kind.now code.now a.now b.now bits.now
-        start.now))) (take n (drop at items.now)) }
+// Whether an expression can be an operand of And or Or: typed, which its flag says, and Boolean.
+fn wanted(p: &Plan, flags: &[bool], e: Expr) -> bool
+    ensures { result ≡ wanted (flagged flags.now) (boolean_at p.now.columns.kind (node_at p.now)) e.0 }
 {
-    let mut j = at;
-    let mut left = n;
-    while 0 < left {
-        if items.len() <= j {
-            return true;
-        }
-        let e = lists::at16(items, j) as usize;
-        if !wanted(kind, code, a, b, bits, start, columns, flags, e) {
-            return false;
-        }
-        j += 1;
-        left -= 1;
-    }
-    true
+    flagged(flags, e) && boolean_at(p, e)
+}
+
+// Whether every operand of a list can.
+fn all_wanted(p: &Plan, flags: &[bool], r: Run) -> bool
+    ensures { result ≡ list_all (wanted (flagged flags.now) (boolean_at p.now.columns.kind (node_at p.now))) (operands_of p.now.items.a r) }
+{
+    operands(&p.items, r)
+        .iter()
+        .all(|e| wanted(p, flags, Expr(*e)))
 }
 
 // Whether the expression at h is typed, by the flags of those before it.
-fn node_typed<'a>(
-    kind: &'a [u8],
-    code: &'a [u8],
-    a: &'a [u16],
-    b: &'a [u16],
-    bits: &'a [u64],
-    start: &'a [u16],
-    items: &'a [u16],
-    columns: &'a [u8],
-    flags: &'a [bool],
-    h: usize,
-) -> bool
-    ensures { result ≡ node_typed (flagged flags.now)
-        (boolean_at columns.now (node_of kind.now code.now a.now b.now bits.now
-        start.now)) (operands_of items.now) (node_of kind.now code.now a.now b.now
-        bits.now start.now h) }
+#[tactic(auto, using(truth::proofs::TruthLaws::every_all))]
+fn node_typed(p: &Plan, flags: &[bool], h: usize) -> bool
+    ensures { result ≡ node_typed (flagged flags.now) (boolean_at p.now.columns.kind (node_at p.now)) (operands_of p.now.items.a) (node_at p.now h) }
 {
-    let node = plan_data::node_at(kind, code, a, b, bits, start, h);
-    match node {
-        ExprData::Literal(_) => true,
-        ExprData::ColumnRef(_) => true,
-        ExprData::Unary { op, expr } => {
-            let e = expr.0 as usize;
-            let boolean = boolean_at(kind, code, a, b, bits, start, columns, e);
-            unary_typed(op, at_flag(flags, e), boolean)
-        }
-        ExprData::Binary { op: _, left, right } => at_flag(flags, left.0 as usize)
-            & at_flag(flags, right.0 as usize),
-        ExprData::Nary { op: _, exprs } => all_wanted(
-            kind,
-            code,
-            a,
-            b,
-            bits,
-            start,
-            items,
-            columns,
-            flags,
-            exprs.start,
-            exprs.count,
-        ),
+    match plan_data::node_at(&p.expressions, h) {
+        ExprData::Literal(_) | ExprData::ColumnRef(_) => true,
+        ExprData::Unary { op, expr } => unary_typed(op, flagged(flags, expr), boolean_at(p, expr)),
+        ExprData::Binary { left, right, .. } => flagged(flags, left) && flagged(flags, right),
+        ExprData::Nary { exprs, .. } => all_wanted(p, flags, exprs),
     }
 }
 
-// Whether the expression at h is typed. One pass in handle order flags each expression up to it.
-fn typed_at<'a>(
-    kind: &'a [u8],
-    code: &'a [u8],
-    a: &'a [u16],
-    b: &'a [u16],
-    bits: &'a [u64],
-    start: &'a [u16],
-    items: &'a [u16],
-    columns: &'a [u8],
-    h: usize,
-) -> bool
+// Whether the expression at h is typed. One pass in handle order flags each expression before it.
+fn typed_at(p: &Plan, h: usize) -> bool
     requires { h < 1024 }
-    ensures { result ≡ typed_at columns.now (node_of kind.now code.now a.now b.now bits.now
-        start.now) items.now h }
+    ensures { result ≡ typed_at p.now.columns.kind (node_at p.now) p.now.items.a h }
 {
     let mut flags = [false; 1024];
-    let mut i: usize = 0;
-    while i <= h {
-        let t = node_typed(kind, code, a, b, bits, start, items, columns, &flags, i);
-        flags[i] = t;
-        i += 1;
+    for i in 0..h {
+        flags[i] = node_typed(p, &flags, i);
     }
-    flags[h]
+    node_typed(p, &flags, h)
 }
 
 // Whether three numbers are a literal that is listed, NULL or of the kind k.
+#[tactic(auto, unfolding(rows_spec::specs::Cells::cell_ok, rows_spec::specs::Cells::listed_literal))]
 fn cell_ok(k: u8, case: u8, code: u8, bits: u64) -> bool
     ensures { result ≡ cell_ok k case code bits }
 {
@@ -412,116 +260,67 @@ fn cell_ok(k: u8, case: u8, code: u8, bits: u64) -> bool
         bits,
     };
     let v = scalar::scalar_of(case, code, bits);
-    let fits = scalar::is_null(v) | scalar::same_kind(scalar::kind_of(v), scalar::kind_of_code(k));
-    let listed = (0x10 <= case)
-        & ((case <= 0x15) & (plan_kinds::code_ok(row, x) & plan_kinds::bits_ok(row, x)));
-    listed & fits
+    let fits = v.is_null() || v.kind() == Kind::from(k);
+    matches!(case, 0x10..=0x15)
+        && plan_kinds::code_ok(row, x)
+        && plan_kinds::bits_ok(row, x)
+        && fits
 }
 
 // The same of column i and its value.
-fn cell_at_ok<'a>(
-    columns: &'a [u8],
-    case: &'a [u8],
-    code: &'a [u8],
-    bits: &'a [u64],
-    i: usize,
-) -> bool
-    ensures { result ≡ cell_at_ok columns.now case.now code.now bits.now i }
+fn cell_at_ok(p: &Plan, row: &Row, i: usize) -> bool
+    ensures { result ≡ cell_at_ok p.now.columns.kind row.now.case row.now.code row.now.bits i }
 {
     cell_ok(
-        lists::at8(columns, i),
-        lists::at8(case, i),
-        lists::at8(code, i),
-        lists::at64(bits, i),
+        lists::at(&p.columns.kind, i, 0),
+        lists::at(&row.case, i, 0),
+        lists::at(&row.code, i, 0),
+        lists::at(&row.bits, i, 0),
     )
 }
 
-// So have the first n columns.
-fn cells_ok<'a>(
-    columns: &'a [u8],
-    case: &'a [u8],
-    code: &'a [u8],
-    bits: &'a [u64],
-    n: usize,
-) -> bool
-    ensures { result ≡ all_from (cell_at_ok columns.now case.now code.now bits.now) 0 n }
+// Whether a row has a value for every column of a plan, used or not.
+#[tactic(auto, using(lists::proofs::RangeLaws::all_loop))]
+pub fn row_ok(p: &Plan, row: &Row) -> bool
+    ensures { result ≡ row_ok p.now row.now }
 {
-    let mut i: usize = 0;
-    while i < n {
-        if !cell_at_ok(columns, case, code, bits, i) {
+    for i in 0..usize::from(p.columns.count) {
+        if !cell_at_ok(p, row, i) {
             return false;
         }
-        i += 1;
     }
     true
 }
 
 // Whether an expression of a plan is typed, and the whole Boolean.
-fn typed(p: Plan, e: Expr) -> bool
+fn typed(p: &Plan, e: Expr) -> bool
     requires { e.0 < 1024 }
-    ensures { result ≡ typed p e.0 }
+    ensures { result ≡ typed p.now e.0 }
 {
-    let c = p.columns;
-    let x = p.expressions;
-    let t = p.items;
-    let h = e.0 as usize;
-    if boolean_at(&x.kind, &x.code, &x.a, &x.b, &x.bits, &x.start, &c.kind, h) {
-        return typed_at(
-            &x.kind, &x.code, &x.a, &x.b, &x.bits, &x.start, &t.a, &c.kind, h,
-        );
-    }
-    false
-}
-
-// Whether a row has a value for every column of a plan, used or not.
-pub fn row_ok(p: Plan, row: Row) -> bool
-    ensures { result ≡ row_ok p row }
-{
-    let c = p.columns;
-    let n = c.count as usize;
-    cells_ok(&c.kind, &row.case, &row.code, &row.bits, n)
+    boolean_at(p, e) && typed_at(p, usize::from(e.0))
 }
 
 // The value of an expression of a plan on a row.
-fn value_on(p: Plan, row: Row, e: Expr) -> ScalarValue
-    ensures { result ≡ value_on p row e.0 }
+fn value_on(p: &Plan, e: Expr, row: &Row) -> ScalarValue
+    ensures { result ≡ value_on p.now row.now e.0 }
 {
-    let x = p.expressions;
-    let t = p.items;
-    let h = e.0 as usize;
-    value_of(
-        &x.kind,
-        &x.code,
-        &x.a,
-        &x.b,
-        &x.bits,
-        &x.start,
-        &t.a,
-        &row.case,
-        &row.code,
-        &row.bits,
-        h + 1,
-        h,
-    )
+    let h = usize::from(e.0);
+    value_of(p, row, h + 1, h)
 }
 
 // The value of an expression of a plan on a row; or NoSuch, Untyped or BadRow, tested in that order.
-pub fn evaluate(p: Plan, e: Expr, row: Row) -> Evaluation
-    ensures { result ≡ evaluate_of p e row }
+#[tactic(auto, using(rows_spec::proofs::AnswerLaws::few_exprs), unfolding(rows_spec::specs::Evaluate::evaluate_of))]
+pub fn evaluate(p: &Plan, e: Expr, row: &Row) -> Result<ScalarValue, EvaluationError>
+    ensures { result ≡ evaluate_of p.now e row.now }
 {
-    let x = p.expressions;
-    let n = x.count;
-    if !plan_rules::plan_ok(p) {
-        return Evaluation::NoSuch;
-    }
-    if n <= e.0 {
-        return Evaluation::NoSuch;
+    if !plan_rules::plan_ok(p) || p.expressions.count <= e.0 {
+        return Err(EvaluationError::NoSuch);
     }
     if !typed(p, e) {
-        return Evaluation::Untyped;
+        return Err(EvaluationError::Untyped);
     }
     if !row_ok(p, row) {
-        return Evaluation::BadRow;
+        return Err(EvaluationError::BadRow);
     }
-    Evaluation::Value(value_on(p, row, e))
+    Ok(value_on(p, e, row))
 }

@@ -1,4 +1,3 @@
-pub mod PartLaws
 pub mod InOrderLaws
 pub mod ValueLaws
 pub mod TypingLaws

@@ -34,17 +34,22 @@ module _ (columns : List ℕ) (node : ℕ → ExprData) (items : List ℕ) where
     pub size : length flags ≡ 1024
     pub each : (e : ℕ) → get_or flags e false ≡ flagged (typings columns node items i) e
 
-  pub flags-none : Flags (replicate 1024 false) 0
-  flags-none = record { size = refl; each = λ e. get_d_replicate-self 1024 e false ∙ sym (typing_past 0 e (omega arith)) }
+  pub flags_none : Flags (replicate 1024 false) 0
+  flags_none = record { size = refl; each = λ e. get_d_replicate-self 1024 e false ∙ sym (typing_past 0 e (omega arith)) }
 
-  pub flags-more : (flags : List Bool) (i : ℕ) → i < 1024 → Flags flags i
+  -- whether the next is typed, by them
+  pub flags_next : (flags : List Bool) (i : ℕ) → Flags flags i
+      → node_typed (flagged flags) (boolean_at columns node) (operands_of items) (node i) ≡ typed_at columns node items i
+  flags_next flags i f =
+      ap (λ (g : ℕ → Bool). node_typed g (boolean_at columns node) (operands_of items) (node i)) (fun_ext f.each)
+      ∙ sym (typing_step (suc i) i (omega arith))
+
+  pub flags_more : (flags : List Bool) (i : ℕ) → i < 1024 → Flags flags i
       → (t : Bool) → t ≡ node_typed (flagged flags) (boolean_at columns node) (operands_of items) (node i) → Flags (set flags i t) (i + 1)
-  flags-more flags i lt f t p = record { size = length-set flags i t ∙ f.size; each = λ e. go e (eqb e i) refl }
+  flags_more flags i lt f t p = record { size = length-set flags i t ∙ f.size; each = λ e. go e (eqb e i) refl }
     where
       now-typed : t ≡ flagged (typings columns node items (i + 1)) i
-      now-typed =
-          p ∙ ap (λ (g : ℕ → Bool). node_typed g (boolean_at columns node) (operands_of items) (node i)) (fun_ext f.each)
-          ∙ sym (typing_step (i + 1) i (omega arith))
+      now-typed = p ∙ flags_next flags i f ∙ sym (typing_in (i + 1) i (omega arith))
 
       older : (e : ℕ) → (e ≡ i → ⊥) → flagged (typings columns node items i) e ≡ flagged (typings columns node items (i + 1)) e
       older e ne = late (ltb e i) refl
@@ -56,6 +61,3 @@ module _ (columns : List ℕ) (node : ℕ → ExprData) (items : List ℕ) where
       go : (e : ℕ) (b : Bool) → eqb e i ≡ b → get_or (set flags i t) e false ≡ flagged (typings columns node items (i + 1)) e
       go e true q = let s : e ≡ i = eqb-true e i q in rw s (get_or-set_same flags i t false (omega (arith, f.size)) ∙ now-typed)
       go e false q = get_or-set_other flags i e t false (eqb-false e i q) ∙ f.each e ∙ older e (eqb-false e i q)
-
-  pub flags-at : (flags : List Bool) (i h : ℕ) → Flags flags i → h < i → get_or flags h false ≡ typed_at columns node items h
-  flags-at flags i h f lt = f.each h ∙ typing_in i h lt

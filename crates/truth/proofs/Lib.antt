@@ -1,2 +1,1 @@
 pub mod TruthLaws
-pub mod Tables

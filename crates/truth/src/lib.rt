@@ -1,4 +1,5 @@
 // TRUE, UNKNOWN and FALSE, and what And, Or and Not make of them. A code above 2 is read as UNKNOWN.
+// The codes are numbers and no enum, since tables are looked up by them and the replies of the C interface have them.
 #![tactic(auto)]
 
 ghost use Rattle.std.specs.Prelude.{◌≡◌, ◌<◌};
@@ -18,30 +19,26 @@ const NOT: [u8; 3] = [2, 1, 0];
 
 // The row or column of a code in the tables.
 fn place(x: u8) -> usize
-    ensures { (result ≡ code_read x) × (result < 3) }
+    ensures code { result ≡ code_read x }
+    ensures within { result < 3 }
 {
-    if x < 3 { x as usize } else { 1 }
+    if x < 3 { usize::from(x) } else { 1 }
 }
 
 pub fn and3(a: u8, b: u8) -> u8
     ensures { result ≡ and_t a b }
 {
-    let x = place(a);
-    let y = place(b);
-    AND[x][y]
+    AND[place(a)][place(b)]
 }
 
 pub fn or3(a: u8, b: u8) -> u8
     ensures { result ≡ or_t a b }
 {
-    let x = place(a);
-    let y = place(b);
-    OR[x][y]
+    OR[place(a)][place(b)]
 }
 
 pub fn not3(a: u8) -> u8
     ensures { result ≡ not_t a }
 {
-    let x = place(a);
-    NOT[x]
+    NOT[place(a)]
 }
