@@ -1,38 +1,75 @@
--- The ways of `simplify_expr` and `simplify_run`, one by one, over their definitions: the code's passage through the operands leaves what the
+-- The ways of `simplify_expr`, `simplify_nary` and `simplify_operands`, over their definitions: the code's passage through the operands leaves what the
 -- definition says. Assumes nothing.
-use mathlib.Core.Path.{◌≡◌, refl, sym, ap, ap₂, ◌∙◌}
+use Rattle.std.specs.Result.{IsErr}
+use Rattle.std.proofs.Common.{Ok, Err, Result}
+use mathlib.Core.Path.{◌≡◌, refl, sym, ap, ◌∙◌}
 use mathlib.Core.Bool.{Bool, true, false, not, cond, ◌&&◌, or_assoc, or-false}
+use mathlib.Core.Logic.{◌⊎◌, inl, inr}
 use mathlib.Core.List.{List, [], ◌∷◌}
-use Prim.Native.Nat.{ℕ, suc, ◌+◌, ◌-◌, ◌<◌, ◌≤◌}
+use Prim.Native.Nat.{ℕ, zero, suc, ◌+◌, ◌-◌, ◌<◌}
 use native.Mathlib.Omega.{arith}
 use lib.Dec.{eqb, ltb}
 use lib.ListN.{length, get_or}
-use borrow.Author.Tests.{ne_eqb, lt-ltb, le-ltb}
-use Rattle.laws.proofs.Bools.{cond_same}
+use borrow.Author.Tests.{eq-eqb, ne_eqb, lt-ltb}
 use Rattle.comparison.specs.declared.BinaryOp.{BinaryOp}
+use Rattle.plan.specs.declared.AppendError.{AppendError}
 use Rattle.plan.specs.declared.Items.{Items}
 use Rattle.plan.specs.declared.Expr.{Expr}
+use Rattle.plan_kinds.specs.declared.Record.{Record}
 use Rattle.plan_data.specs.Nodes.{run_of, record_of_expr}
-use Rattle.plan_data.specs.declared.ExprData.TheVariants.{Nary}
+use Rattle.plan_data.specs.declared.ExprData.TheVariants.{Binary, Nary}
 use Rattle.simplify_spec.specs.Shapes.{is_literal, nary_op_for}
-use Rattle.simplify_spec.specs.OneExpression.{shape_in, kept, failed, add_record, add_nary, not_of, compare_of, enter_of, Operands, no_operands, joined_by}
-use Rattle.simplify_spec.specs.OneExpression.{joined, operands_from, item_set, items_put, counted, with_items, room_for, rebuilt, nary_of, step_by}
-use Rattle.simplify_spec.specs.OneExpression.{simplify_at, with_node}
+use Rattle.simplify_spec.specs.OneExpression.{handle, shape_in, kept, failed, add_record, add_node, add_nary, not_of, compare_of, enter_of, Operands, no_operands, joined_by}
+use Rattle.simplify_spec.specs.OneExpression.{joined, operands_from, item_set, items_put, counted, with_items, room_for, rebuilt, nary_of}
+use Rattle.simplify_spec.specs.OneExpression.{simplify_at}
 use Rattle.simplify_spec.specs.declared.Tables.{Tables}
-use Rattle.simplify_spec.specs.Answers.{Simplified}
+use Rattle.simplify_spec.specs.Answers.{Simplified, simplified}
 use Rattle.simplify_spec.specs.declared.Shape.{Shape}
-use Rattle.simplify_spec.specs.declared.Shape.TheVariants.{Boolean, Not, Compare, And, Or, Other}
+use Rattle.simplify_spec.specs.declared.Shape.TheVariants.{Not, Compare}
 use Rattle.simplify_spec.proofs.StepLaws.{simplify_at_lem}
+use Rattle.simplify_expr.specs.declared.Became.{Became}
+use Rattle.simplify_expr.specs.declared.Became.TheVariants.{Same, Literal, One, Listed}
 use Rattle.simplify_expr.specs.declared.Tally.{Tally}
-use Rattle.simplify_expr.specs.Passage.{Out, plain_out, no_tally, next_tally, last_of, tallied, reserved, rebuilt_out, bottom_of, back_items, with_put}
-use Rattle.simplify_expr.specs.Passage.{written, placed}
+use Rattle.simplify_expr.specs.Passage.{Passed, passed, refused, no_tally, next_tally, last_of, tallied, reserved, settled, with_operand, with_list, written, placed, node_of, closed}
 
-written_none : (o : Out) (k : ℕ) → written o k [] ≡ o
-unfolding items_put
-written_none o k = ap (with_put o) (cond_same o.list o.res.st.items)
+-- ---- one expression e, before h
+module _ (h e : ℕ) (st : Tables) (lt : e < h) where
+  pub not_refused : (a : Expr) → Not a ≡ shape_in st e → (u : Tables) → failed u ≡ enter_of simplify_at e true st a.0
+      → failed u ≡ enter_of simplify_at h true st e
+  unfolding not_of
+  not_refused a ev u eu = ap (not_of e a.0) eu ∙ sym (simplify_at_lem e st (Not a) (sym ev)) ∙ sym (rw (lt-ltb e h lt))
 
-tally_one : (t : Tally) (e v : ℕ) (neutral deciding : Bool) (q : Operands) → tallied (next_tally t e v neutral deciding) q ≡ tallied t
-    (joined_by neutral deciding e v q)
+  pub compare_way : (op : BinaryOp) (l r : Expr) → Compare op l r ≡ shape_in st e
+      → (x y : Simplified) → x ≡ enter_of simplify_at e true st l.0 → y ≡ enter_of simplify_at e x.ok x.st r.0
+      → compare_of e op l.0 r.0 x.at y ≡ enter_of simplify_at h true st e
+  compare_way op l r ev x y ex ey =
+      ap (compare_of e op l.0 r.0 x.at) ey
+      ∙ ap (λ (z : Simplified). compare_of e op l.0 r.0 z.at (enter_of simplify_at e z.ok z.st r.0)) ex
+      ∙ sym (simplify_at_lem e st (Compare op l r) (sym ev))
+      ∙ sym (rw (lt-ltb e h lt))
+
+-- a comparison of i and j, where it was one of l and r
+module _ (h : ℕ) (op : BinaryOp) (l r : ℕ) (st : Tables) (i j : ℕ) where
+  pub compare-stays : i ≡ l → j ≡ r → kept st h ≡ compare_of h op l r i (kept st j)
+  unfolding compare_of
+  compare-stays p q = rw (eq-eqb i l p, eq-eqb j r q)
+
+  pub compare-new : (i ≡ l) × (j ≡ r → ⊥) ⊎ (i ≡ l → ⊥) → add_node st (Binary op (handle i) (handle j)) ≡ compare_of h op l r i (kept st j)
+  unfolding compare_of
+  compare-new (inl (p, q)) = rw (eq-eqb i l p, ne_eqb j r q)
+  compare-new (inr p) = rw (ne_eqb i l p)
+
+pub simplified_err : (u : Tables) (r : Result ℕ AppendError) → IsErr r → simplified u r ≡ failed u
+simplified_err u (Err e) p = refl
+simplified_err u (Ok x) p = cc
+
+pub passed_err : (u : Tables) (r : Result Became AppendError) → IsErr r → passed u r ≡ refused u
+passed_err u (Err e) p = refl
+passed_err u (Ok x) p = cc
+
+-- ---- the operands of an And or Or
+tally_one : (t : Tally) (e v : ℕ) (neutral deciding : Bool) (q : Operands)
+    → tallied (next_tally t e v neutral deciding) q ≡ tallied t (joined_by neutral deciding e v q)
 unfolding last_of
 tally_one t e v true deciding q =
     λ i. record {
@@ -50,149 +87,153 @@ tally_one t e v false deciding q =
       absorbed = or_assoc t.absorbed deciding q.absorbed i;
     }
 
--- one item on the way back
-abbrev with_back : Out → Bool → ℕ → ℕ → Out
-with_back y neutral k v = with_put y (back_items y.list neutral y.res.st.items (y.base + k) v)
-
-back-drop : (o : Out) (k v : ℕ) (l : List ℕ) → with_back (written o k l) true k v ≡ written o k l
-back-drop o k v l = ap (with_put o) (go o.list (items_put o.res.st.items (o.base + k) l) o.res.st.items)
-  where
-    go : (t : Bool) (x y : Items) → cond (t && false) (item_set (cond t x y) (o.base + k) v) (cond t x y) ≡ cond t x y
-    go true x y = refl
-    go false x y = refl
-
-back_keep : (o : Out) (k v : ℕ) (l : List ℕ) → with_back (written o (k + 1) l) false k v ≡ written o k (v ∷ l)
+written_none : (o : Passed) (k : ℕ) → written o k [] ≡ o
 unfolding items_put
-back_keep o k v l = ap (with_put o) (go o.list)
+written_none o k = go o.became
   where
-    e : o.base + (k + 1) ≡ o.base + k + 1
-    e = omega arith
+    go : (b : Became) → ◌≡◌ {A = Passed} (record { st = with_list b o.st k []; became = b; ok = o.ok }) (record { st = o.st; became = b; ok = o.ok })
+    go Same = refl
+    go (Literal v) = refl
+    go (One e) = refl
+    go (Listed start count) = refl
 
-    go : (t : Bool)
-        → cond (t && true) (item_set (cond t (items_put o.res.st.items (o.base + (k + 1)) l) o.res.st.items) (o.base + k) v)
-        (cond t (items_put o.res.st.items (o.base + (k + 1)) l) o.res.st.items)
-        ≡ cond t (items_put o.res.st.items (o.base + k) (v ∷ l)) o.res.st.items
-    go true = ap (λ (j : ℕ). item_set (items_put o.res.st.items j l) (o.base + k) v) e
-    go false = refl
+-- one operand on the way back, which is the k-th if it is kept
+abbrev pub with_back : Bool → ℕ → ℕ → Passed → Passed
+with_back neutral k v o = record { st = cond neutral o.st (with_operand o.became o.st k v); became = o.became; ok = o.ok }
 
-place-one : (all : Bool) (h : ℕ) (t : Tally) (e v : ℕ) (neutral deciding : Bool) (q : Operands)
-    → with_back (placed all h (next_tally t e v neutral deciding) q) neutral t.kept v ≡ placed all h t (joined_by neutral deciding e v q)
+pub back-refused : (neutral : Bool) (k v : ℕ) (u : Tables) → with_back neutral k v (refused u) ≡ refused u
+back-refused true k v u = refl
+back-refused false k v u = refl
+
+back_keep : (o : Passed) (k v : ℕ) (l : List ℕ) → with_back false k v (written o (k + 1) l) ≡ written o k (v ∷ l)
+unfolding items_put
+back_keep o k v l = go o.became
+  where
+    go : (b : Became) → ◌≡◌ {A = Passed} (record { st = with_operand b (with_list b o.st (k + 1) l) k v; became = b; ok = o.ok })
+        (record { st = with_list b o.st k (v ∷ l); became = b; ok = o.ok })
+    go Same = refl
+    go (Literal b) = refl
+    go (One e) = refl
+    go (Listed start count) =
+        let e : start + (k + 1) ≡ start + k + 1 = omega arith in
+        ap (λ (j : ℕ). record {
+          st = with_items o.st (item_set (items_put o.st.items j l) (start + k) v);
+          became = Listed start count;
+          ok = o.ok;
+        }) e
+
+place-one : (all : Bool) (t : Tally) (e v : ℕ) (neutral deciding : Bool) (q : Operands)
+    → with_back neutral t.kept v (placed all (next_tally t e v neutral deciding) q) ≡ placed all t (joined_by neutral deciding e v q)
 unfolding placed
-place-one all h t e v true deciding q =
-    back-drop (bottom_of all h q.ok q.st (tallied (next_tally t e v true deciding) q)) t.kept v q.kept
-    ∙ ap (λ (x : Tally). written (bottom_of all h q.ok q.st x) t.kept q.kept) (tally_one t e v true deciding q)
-place-one all h t e v false deciding q =
-    back_keep (bottom_of all h q.ok q.st (tallied (next_tally t e v false deciding) q)) t.kept v q.kept
-    ∙ ap (λ (x : Tally). written (bottom_of all h q.ok q.st x) t.kept (v ∷ q.kept)) (tally_one t e v false deciding q)
+place-one all t e v neutral deciding q = go neutral q.ok
+  where
+    to : Bool → Tally → Passed
+    to n x = settled all q.st x
 
--- the ways of `simplify_run`
-module _ (all : Bool) (h : ℕ) (ok : Bool) (st : Tables) (p m : ℕ) (t : Tally) where
-  pub run_none : m ≡ 0 → (o : Out) → o ≡ bottom_of all h ok st t → o ≡ placed all h t (operands_from simplify_at all h ok st p m)
+    go : (n ok : Bool)
+        → with_back n t.kept v (cond ok (written (settled all q.st (tallied (next_tally t e v n deciding) q)) (cond n t.kept (t.kept + 1)) q.kept) (refused q.st))
+        ≡ cond ok (written (settled all q.st (tallied t (joined_by n deciding e v q))) t.kept (cond n q.kept (v ∷ q.kept))) (refused q.st)
+    go true true = ap (λ (x : Tally). written (settled all q.st x) t.kept q.kept) (tally_one t e v true deciding q)
+    go false true =
+        back_keep (settled all q.st (tallied (next_tally t e v false deciding) q)) t.kept v q.kept
+        ∙ ap (λ (x : Tally). written (settled all q.st x) t.kept (v ∷ q.kept)) (tally_one t e v false deciding q)
+    go true false = refl
+    go false false = refl
+
+-- where there is no room, there is none after the other operands
+off-ok : (all : Bool) (h m : ℕ) (st : Tables) (p : ℕ) → (operands_from simplify_at all h false st p m).ok ≡ false
+unfolding operands_from
+off-ok all h zero st p = refl
+off-ok all h (suc m) st p = off-ok all h m st (p + 1)
+
+off-st : (all : Bool) (h m : ℕ) (st : Tables) (p : ℕ) → (operands_from simplify_at all h false st p m).st ≡ st
+unfolding operands_from
+off-st all h zero st p = refl
+off-st all h (suc m) st p = off-st all h m st (p + 1)
+
+placed-off : (all : Bool) (t : Tally) (q : Operands) → q.ok ≡ false → (u : Tables) → q.st ≡ u → placed all t q ≡ refused u
+unfolding placed
+placed-off all t q e u eu = rw e (ap refused eu)
+
+-- the ways of `simplify_operands`
+module _ (all : Bool) (h : ℕ) (st : Tables) (p m : ℕ) (t : Tally) where
+  pub run_none : m ≡ 0 → settled all st t ≡ placed all t (operands_from simplify_at all h true st p m)
   unfolding operands_from last_of placed
-  run_none e o eo =
+  run_none e =
       let n : t.kept + 0 ≡ t.kept = omega arith in
-      let same : tallied t (no_operands ok st) ≡ t =
+      let same : tallied t (no_operands true st) ≡ t =
       (λ i. record { kept = n i; last = t.last; dirty = or-false t.dirty i; absorbed = or-false t.absorbed i }) in
-      eo
-      ∙ sym (ap (λ (x : Tally). bottom_of all h ok st x) same)
-      ∙ sym (written_none (bottom_of all h ok st (tallied t (no_operands ok st))) t.kept)
-      ∙ ap (λ (j : ℕ). placed all h t (operands_from simplify_at all h ok st p j)) (sym e)
+      sym (ap (λ (x : Tally). settled all st x) same)
+      ∙ sym (written_none (settled all st (tallied t (no_operands true st))) t.kept)
+      ∙ ap (λ (j : ℕ). placed all t (operands_from simplify_at all h true st p j)) (sym e)
 
-  run-suc : (m ≡ 0 → ⊥) → operands_from simplify_at all h ok st p m
-      ≡ joined all (get_or st.items.a p 0) (enter_of simplify_at h ok st (get_or st.items.a p 0))
-      (operands_from simplify_at all h (enter_of simplify_at h ok st (get_or st.items.a p 0)).ok (enter_of simplify_at h ok st (get_or st.items.a p
-      0)).st
-      (p + 1) (m - 1))
+  run-suc : (m ≡ 0 → ⊥) → (e : ℕ) → e ≡ get_or st.items.a p 0 → (x : Simplified) → x ≡ enter_of simplify_at h true st e
+      → operands_from simplify_at all h true st p m ≡ joined all e x (operands_from simplify_at all h x.ok x.st (p + 1) (m - 1))
   unfolding operands_from
-  run-suc ne =
-      let e : m ≡ suc (m - 1) = omega arith in
-      ap (λ (j : ℕ). operands_from simplify_at all h ok st p j) e
+  run-suc ne e ee x ex =
+      let n : m ≡ suc (m - 1) = omega arith in
+      let rest : Simplified → Operands = λ z. operands_from simplify_at all h z.ok z.st (p + 1) (m - 1) in
+      ap (λ (j : ℕ). operands_from simplify_at all h true st p j) n
+      ∙ ap (λ (j : ℕ). joined all j (enter_of simplify_at h true st j) (rest (enter_of simplify_at h true st j))) (sym ee)
+      ∙ ap (λ (z : Simplified). joined all e z (rest z)) (sym ex)
 
-  abbrev rest : Simplified → Operands
-  rest z = operands_from simplify_at all h z.ok z.st (p + 1) (m - 1)
+  pub run_refused : (m ≡ 0 → ⊥) → (e : ℕ) → e ≡ get_or st.items.a p 0 → (u : Tables) → failed u ≡ enter_of simplify_at h true st e
+      → refused u ≡ placed all t (operands_from simplify_at all h true st p m)
+  run_refused ne e ee u eu =
+      sym (ap (placed all t) (run-suc ne e ee (failed u) eu)
+      ∙ placed-off all t (joined all e (failed u) (operands_from simplify_at all h false u (p + 1) (m - 1))) (off-ok all h (m - 1) u (p + 1)) u
+      (off-st all h (m - 1) u (p + 1)))
 
-  pub run-some : (m ≡ 0 → ⊥) → (e : ℕ) → e ≡ get_or st.items.a p 0 → (x : Simplified) → x ≡ enter_of simplify_at h ok st e
-      → (w : Shape) → w ≡ shape_in x.st x.at
-      → (neutral deciding : Bool) → neutral ≡ is_literal all w → deciding ≡ is_literal (not all) w
-      → (t2 : Tally) → t2 ≡ next_tally t e x.at neutral deciding
-      → (y : Out) → y ≡ placed all h t2 (operands_from simplify_at all h x.ok x.st (p + 1) (m - 1))
-      → (items : Items) → items ≡ back_items y.list neutral y.res.st.items (y.base + t.kept) x.at
-      → with_put y items ≡ placed all h t (operands_from simplify_at all h ok st p m)
-  run-some ne e ee x ex w ew neutral deciding eu ea t2 et y ey items ei =
-      ap (with_put y) ei
-      ∙ ap (λ (o : Out). with_back o neutral t.kept x.at) (ey ∙ ap (λ (u : Tally). placed all h u (rest x)) et)
-      ∙ place-one all h t e x.at neutral deciding (rest x)
-      ∙ ap₂ (λ (u a : Bool). placed all h t (joined_by u a e x.at (rest x))) (eu ∙ ap (is_literal all) ew) (ea ∙ ap (is_literal (not all)) ew)
-      ∙ ap (placed all h t)
-      (sym (run-suc ne ∙ ap (λ (j : ℕ). joined all j (enter_of simplify_at h ok st j) (rest (enter_of simplify_at h ok st j))) (sym ee)
-      ∙ ap (λ (z : Simplified). joined all e z (rest z)) (sym ex)))
+  pub run_some : (m ≡ 0 → ⊥) → (e : ℕ) → e ≡ get_or st.items.a p 0 → (u : Tables) (v : ℕ) → kept u v ≡ enter_of simplify_at h true st e
+      → (w : Shape) → w ≡ shape_in u v → (neutral deciding : Bool) → neutral ≡ is_literal all w → deciding ≡ is_literal (not all) w
+      → (t2 : Tally) → t2 ≡ next_tally t e v neutral deciding
+      → (y : Passed) → y ≡ placed all t2 (operands_from simplify_at all h true u (p + 1) (m - 1))
+      → with_back neutral t.kept v y ≡ placed all t (operands_from simplify_at all h true st p m)
+  run_some ne e ee u v eu w ew neutral deciding en ed t2 et y ey =
+      let q : Operands = operands_from simplify_at all h true u (p + 1) (m - 1) in
+      ap (with_back neutral t.kept v) (ey ∙ ap (λ (x : Tally). placed all x q) et)
+      ∙ place-one all t e v neutral deciding q
+      ∙ (λ i. placed all t (joined_by ((en ∙ ap (is_literal all) ew) i) ((ed ∙ ap (is_literal (not all)) ew) i) e v q))
+      ∙ ap (placed all t) (sym (run-suc ne e ee (kept u v) eu))
 
 -- the whole run
+put-counted : (j n : ℕ) (t : Items) (v : List ℕ) → items_put (counted t n) j v ≡ counted (items_put t j v) n
+unfolding items_put
+put-counted j n t [] = refl
+put-counted j n t (a ∷ v) = ap (λ (u : Items). item_set u j a) (put-counted (j + 1) n t v)
+
 module _ (all : Bool) (h : ℕ) (st : Tables) where
   abbrev T : Bool → Bool → List ℕ → Tally
   T absorbed dirty l = record { kept = 0 + length l; last = last_of 0 l; dirty = dirty; absorbed = absorbed }
 
-  abbrev listed : Items → ℕ → Tables
-  listed t n = with_items st (counted t n)
-
-  nary_more : (x y : ℕ) (l : List ℕ) → (written (reserved all st (length (x ∷ y ∷ l))) 0 (x ∷ y ∷ l)).res ≡ add_nary all st (x ∷ y ∷ l)
-  unfolding reserved items_put
-  nary_more x y l = go (room_for st (length (x ∷ y ∷ l)))
+  nary_more : (x y : ℕ) (l : List ℕ) → closed all h (written (reserved st (length (x ∷ y ∷ l))) 0 (x ∷ y ∷ l)) ≡ add_nary all st (x ∷ y ∷ l)
+  nary_more x y l = go (room_for st k)
     where
-      z : st.items.count + 0 ≡ st.items.count
-      z = omega arith
+      k : ℕ
+      k = length (x ∷ y ∷ l)
 
-      count : (j : ℕ) (k : ℕ) (t : Items) (v : List ℕ) → items_put (counted t k) j v ≡ counted (items_put t j v) k
-      count j k t [] = refl
-      count j k t (a ∷ v) = ap (λ (u : Items). item_set u j a) (count (j + 1) k t v)
+      own : Record
+      own = record_of_expr (Nary (nary_op_for all) (run_of st.items.count k))
 
-      items : items_put (counted st.items (st.items.count + length (x ∷ y ∷ l))) (st.items.count + 0) (x ∷ y ∷ l)
-          ≡ counted (items_put st.items st.items.count (x ∷ y ∷ l)) (st.items.count + length (x ∷ y ∷ l))
+      items : items_put (counted st.items (st.items.count + k)) (st.items.count + 0) (x ∷ y ∷ l)
+          ≡ counted (items_put st.items st.items.count (x ∷ y ∷ l)) (st.items.count + k)
       items =
-          ap (λ (j : ℕ). items_put (counted st.items (st.items.count + length (x ∷ y ∷ l))) j (x ∷ y ∷ l)) z
-          ∙ count st.items.count (st.items.count + length (x ∷ y ∷ l)) st.items (x ∷ y ∷ l)
-
-      two : (t : Bool)
-          → (written
-          (record {
-            res = cond t
-                (kept (with_node (listed st.items (st.items.count + length (x ∷ y ∷ l)))
-                (record_of_expr (Nary (nary_op_for all) (run_of st.items.count (length (x ∷ y ∷ l))))) st.items.count) st.exprs.count)
-                (failed (listed st.items (st.items.count + length (x ∷ y ∷ l))));
-            base = st.items.count;
-            list = true;
-          }) 0 (x ∷ y ∷ l)).res
-          ≡ cond t (kept (with_node (listed (items_put st.items st.items.count (x ∷ y ∷ l)) (st.items.count + length (x ∷ y ∷ l)))
-          (record_of_expr (Nary (nary_op_for all) (run_of st.items.count (length (x ∷ y ∷ l))))) st.items.count) st.exprs.count)
-          (failed (listed (items_put st.items st.items.count (x ∷ y ∷ l)) (st.items.count + length (x ∷ y ∷ l))))
-      two true = ap
-          (λ (u : Items). kept (with_node (with_items st u) (record_of_expr (Nary (nary_op_for all) (run_of st.items.count (length (x ∷ y ∷ l)))))
-          st.items.count) st.exprs.count) items
-      two false = ap (λ (u : Items). failed (with_items st u)) items
+          let z : st.items.count + 0 ≡ st.items.count = omega arith in
+          ap (λ (j : ℕ). items_put (counted st.items (st.items.count + k)) j (x ∷ y ∷ l)) z
+          ∙ put-counted st.items.count (st.items.count + k) st.items (x ∷ y ∷ l)
 
       go : (t : Bool)
-          → (written
-          (cond t (record {
-            res = add_record (listed st.items (st.items.count + length (x ∷ y ∷ l)))
-                (record_of_expr (Nary (nary_op_for all) (run_of st.items.count (length (x ∷ y ∷ l))))) st.items.count;
-            base = st.items.count;
-            list = true;
-          }) (plain_out (failed st))) 0 (x ∷ y ∷ l)).res
-          ≡ cond t (add_record (listed (items_put st.items st.items.count (x ∷ y ∷ l)) (st.items.count + length (x ∷ y ∷ l)))
-          (record_of_expr (Nary (nary_op_for all) (run_of st.items.count (length (x ∷ y ∷ l))))) st.items.count) (failed st)
-      go true = two (ltb st.exprs.count 1024)
+          → closed all h (written (cond t (passed (with_items st (counted st.items (st.items.count + k))) (Ok (Listed st.items.count k))) (refused st)) 0
+          (x ∷ y ∷ l))
+          ≡ cond t (add_record (with_items st (counted (items_put st.items st.items.count (x ∷ y ∷ l)) (st.items.count + k))) own st.items.count)
+          (failed st)
+      go true = ap (λ (u : Items). add_record (with_items st u) own st.items.count) items
       go false = refl
 
   nary_ways : (ok absorbed dirty : Bool) (l : List ℕ)
-      → (written (bottom_of all h ok st (T absorbed dirty l)) 0 l).res ≡ nary_of all h (record {
-        st = st;
-        ok = ok;
-        kept = l;
-        dirty = dirty;
-        absorbed =
-            absorbed;
-      })
-  unfolding last_of rebuilt bottom_of rebuilt_out nary_of
+      → closed all h (cond ok (written (settled all st (T absorbed dirty l)) 0 l) (refused st))
+      ≡ nary_of all h (record { st = st; ok = ok; kept = l; dirty = dirty; absorbed = absorbed })
+  unfolding last_of rebuilt settled nary_of
   nary_ways false absorbed dirty l = refl
   nary_ways true true dirty l = refl
   nary_ways true false false l = refl
@@ -202,66 +243,11 @@ module _ (all : Bool) (h : ℕ) (st : Tables) where
       let z : 0 + length (x ∷ y ∷ l) ≡ length (x ∷ y ∷ l) = omega arith in
       rw (z, ne_eqb (length (x ∷ y ∷ l)) 0 (omega arith), ne_eqb (length (x ∷ y ∷ l)) 1 (omega arith)) (nary_more x y l)
 
-nary_whole : (all : Bool) (h : ℕ) (q : Operands) → (placed all h no_tally q).res ≡ nary_of all h q
+pub nary_way : (all : Bool) (h : ℕ) (st : Tables) (p start m : ℕ) → p ≡ start → (t : Tally) → t ≡ no_tally
+    → (o : Passed) → o ≡ placed all t (operands_from simplify_at all h true st p m)
+    → closed all h o ≡ nary_of all h (operands_from simplify_at all h true st start m)
 unfolding placed
-nary_whole all h q = nary_ways all h q.st q.ok q.absorbed q.dirty q.kept
-
--- the ways of `simplify_expr`
-module _ (h : ℕ) (ok : Bool) (st : Tables) (e : ℕ) where
-  pub enter_off : ok ≡ false → failed st ≡ enter_of simplify_at h ok st e
-  enter_off q = rw q
-
-  module _ (o : ok ≡ true) where
-    pub enter_past : h ≤ e → kept st e ≡ enter_of simplify_at h ok st e
-    enter_past le = rw (o, le-ltb e h le)
-
-    module _ (lt : e < h) (w : Shape) (ew : w ≡ shape_in st e) where
-      is-step : (v : Shape) → w ≡ v → enter_of simplify_at h ok st e ≡ step_by simplify_at e st v
-      is-step v ev = rw (o, lt-ltb e h lt) (simplify_at_lem e st v (sym ew ∙ ev))
-
-      pub enter_boolean : (b : Bool) → w ≡ Boolean b → kept st e ≡ enter_of simplify_at h ok st e
-      enter_boolean b ev = sym (is-step (Boolean b) ev)
-
-      pub enter_other : w ≡ Other → kept st e ≡ enter_of simplify_at h ok st e
-      enter_other ev = sym (is-step Other ev)
-
-      pub enter_not : (a : Expr) → w ≡ Not a → (x : Simplified) → x ≡ enter_of simplify_at e ok st a.0 → not_of e a.0 x ≡ enter_of simplify_at h ok st
-          e
-      enter_not a ev x ex =
-          ap (not_of e a.0) (ex ∙ ap (λ (b : Bool). enter_of simplify_at e b st a.0) o) ∙ sym (is-step (Not a) ev)
-
-      pub enter_compare : (op : BinaryOp) (l r : Expr) → w ≡ Compare op l r
-          → (x y : Simplified) → x ≡ enter_of simplify_at e ok st l.0 → y ≡ enter_of simplify_at e x.ok x.st r.0
-          → compare_of e op l.0 r.0 x.at y ≡ enter_of simplify_at h ok st e
-      enter_compare op l r ev x y ex ey =
-          ap (compare_of e op l.0 r.0 x.at) ey
-          ∙ ap (λ (z : Simplified). compare_of e op l.0 r.0 z.at (enter_of simplify_at e z.ok z.st r.0))
-          (ex ∙ ap (λ (t : Bool). enter_of simplify_at e t st l.0) o)
-          ∙ sym (is-step (Compare op l r) ev)
-
-      nary_way : (all : Bool) (start count : ℕ) (y : Out) → y ≡ placed all e no_tally (operands_from simplify_at all e ok st start count)
-          → y.res ≡ nary_of all e (operands_from simplify_at all e true st start count)
-      nary_way all start count y ey =
-          ap (λ (z : Out). z.res) ey
-          ∙ ap (λ (t : Bool). (placed all e no_tally (operands_from simplify_at all e t st start count)).res) o
-          ∙ nary_whole all e (operands_from simplify_at all e true st start count)
-
-      pub enter_and : (start count : ℕ) → w ≡ And start count → (y : Out) → y ≡ placed true e no_tally (operands_from simplify_at true e ok st start
-          count)
-          → y.res ≡ enter_of simplify_at h ok st e
-      enter_and start count ev y ey = nary_way true start count y ey ∙ sym (is-step (And start count) ev)
-
-      pub enter_or : (start count : ℕ) → w ≡ Or start count → (y : Out) → y ≡ placed false e no_tally (operands_from simplify_at false e ok st start
-          count)
-          → y.res ≡ enter_of simplify_at h ok st e
-      enter_or start count ev y ey = nary_way false start count y ey ∙ sym (is-step (Or start count) ev)
-
-pub next_small : (t2 t : Tally) (e v : ℕ) (neutral deciding : Bool) (m : ℕ) → t2 ≡ next_tally t e v neutral deciding → (m ≡ 0 → ⊥) → t.kept + m <
-    65536
-    → t2.kept + (m - 1) < 65536
-next_small t2 t e v true deciding m et ne lt =
-    let k : t2.kept ≡ t.kept = ap (λ (x : Tally). x.kept) et in
-    omega arith
-next_small t2 t e v false deciding m et ne lt =
-    let k : t2.kept ≡ t.kept + 1 = ap (λ (x : Tally). x.kept) et in
-    omega arith
+nary_way all h st p start m ep t et o eo =
+    let q : Operands = operands_from simplify_at all h true st start m in
+    ap (closed all h) (eo ∙ (λ i. placed all (et i) (operands_from simplify_at all h true st (ep i) m)))
+    ∙ nary_ways all h q.st q.ok q.absorbed q.dirty q.kept

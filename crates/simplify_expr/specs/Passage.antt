@@ -1,57 +1,32 @@
--- How the code comes to what the definitions say: the tables as arrays lent one by one, and how it goes through the operands of an And or Or. It counts
--- on the way in, makes the node at the end, and writes each operand that is kept on the way back. Assumes nothing.
-use Rattle.std.specs.Prelude.{ℕ, ◌+◌, Bool, true, false, not, cond, ◌&&◌, ◌||◌, List, [], ◌∷◌, eqb, length, Ok, Err, Result}
-use Rattle.plan.specs.declared.Items.{Items}
+-- How the code goes through the operands of an And or Or: it counts on the way in, finds at the end what the node becomes, and writes each operand that
+-- is kept on the way back. Assumes nothing.
+use Rattle.std.specs.Prelude.{ℕ, ◌+◌, Bool, true, false, not, cond, ◌||◌, List, [], ◌∷◌, eqb, length, Ok, Err, Result}
 use Rattle.plan.specs.declared.AppendError.{AppendError}
-use Rattle.plan.specs.declared.AppendError.TheVariants.{Room}
-use Rattle.plan_append.specs.Appending.{exprs_of, items_of}
 use Rattle.plan_data.specs.Nodes.{run_of, record_of_expr}
 use Rattle.plan_data.specs.declared.ExprData.TheVariants.{Nary}
 use Rattle.simplify_spec.specs.Shapes.{nary_op_for}
 use Rattle.simplify_spec.specs.OneExpression.{kept, failed, took, add_record, add_literal, Operands, item_set, items_put, counted, with_items, room_for}
 use Rattle.simplify_spec.specs.declared.Tables.{Tables}
 use Rattle.simplify_spec.specs.Answers.{Simplified}
-use Rattle.simplify_expr.specs.declared.Done.{Done}
+use Rattle.simplify_expr.specs.declared.Became.{Became}
+use Rattle.simplify_expr.specs.declared.Became.TheVariants.{Same, Literal, One, Listed}
 use Rattle.simplify_expr.specs.declared.Tally.{Tally}
-use Rattle.simplify_expr.specs.declared.Walk.{Walk}
-use Rattle.simplify_expr.specs.declared.Ran.{Ran}
 
--- the tables, from their arrays and how far it came
-abbrev pub tables_of : List ℕ → List ℕ → List ℕ → List ℕ → List ℕ → List ℕ → List ℕ → List ℕ → Done → Tables
-tables_of kind code a b start bits ia ib s =
-    record {
-      exprs = exprs_of kind code a b start bits s.exprs;
-      items = items_of ia ib s.used;
-      changed = s.changed;
-    }
+-- the tables, what the node becomes, and whether there was room
+pub record Passed : Type 0 where
+  pub st : Tables
+  pub became : Became
+  pub ok : Bool
 
-abbrev pub result_of : List ℕ → List ℕ → List ℕ → List ℕ → List ℕ → List ℕ → List ℕ → List ℕ → Done → Simplified
-result_of kind code a b start bits ia ib r =
-    record { st = tables_of kind code a b start bits ia ib r; at = r.at; ok = r.ok }
+abbrev pub refused : Tables → Passed
+refused st = record { st = st; became = Same; ok = false }
 
--- an answer, with the place of the list whose items are still to be written
-pub record Out : Type 0 where
-  pub res : Simplified
-  pub base : ℕ
-  pub list : Bool
-
-abbrev pub out_of : List ℕ → List ℕ → List ℕ → List ℕ → List ℕ → List ℕ → List ℕ → List ℕ → Ran → Out
-out_of kind code a b start bits ia ib r =
-    record { res = result_of kind code a b start bits ia ib r.done; base = r.base; list = r.list }
-
-abbrev pub plain_out : Simplified → Out
-plain_out r = record { res = r; base = 0; list = false }
-
--- how far it came from s with one expression more, if there was room: there are k of them
-abbrev pub done_of : Done → ℕ → Result ℕ AppendError → Done
-done_of s k (Ok n) = record { at = n; exprs = k; used = s.used; changed = true; ok = true }
-done_of s k (Err Room) = record { at = 0; exprs = k; used = s.used; changed = s.changed; ok = false }
+abbrev pub passed : Tables → Result Became AppendError → Passed
+passed st (Ok b) = record { st = st; became = b; ok = true }
+passed st (Err e) = refused st
 
 abbrev pub no_tally : Tally
 no_tally = record { kept = 0; last = 0; dirty = false; absorbed = false }
-
-abbrev pub all_operands : Bool → ℕ → ℕ → Walk
-all_operands all start count = record { all = all; at = start; left = count; tally = no_tally }
 
 abbrev pub next_tally : Tally → ℕ → ℕ → Bool → Bool → Tally
 next_tally t e v neutral deciding =
@@ -76,42 +51,49 @@ tallied t q =
       absorbed = t.absorbed || q.absorbed;
     }
 
--- a new And or Or with room for k items
-unfoldable pub reserved : Bool → Tables → ℕ → Out
-reserved all st k =
+-- a list of k items after all items
+abbrev pub reserved : Tables → ℕ → Passed
+reserved st k =
     cond (room_for st k)
-    (record {
-      res = add_record (with_items st (counted st.items (st.items.count + k))) (record_of_expr (Nary (nary_op_for all) (run_of st.items.count k)))
-          st.items.count;
-      base = st.items.count;
-      list = true;
-    })
-    (plain_out (failed st))
-
--- an operand was dropped or changed
-unfoldable pub rebuilt_out : Bool → Tables → Tally → Out
-rebuilt_out all st t =
-    cond (eqb t.kept 0) (plain_out (add_literal st all))
-    (cond (eqb t.kept 1) (plain_out (took st t.last)) (reserved all st t.kept))
+    (passed (with_items st (counted st.items (st.items.count + k))) (Ok (Listed st.items.count k)))
+    (refused st)
 
 -- all operands are done
-unfoldable pub bottom_of : Bool → ℕ → Bool → Tables → Tally → Out
-bottom_of all h ok st t =
-    cond ok
-    (cond t.absorbed (plain_out (add_literal st (not all))) (cond t.dirty (rebuilt_out all st t) (plain_out (kept st h))))
-    (plain_out (failed st))
+unfoldable pub settled : Bool → Tables → Tally → Passed
+settled all st t =
+    cond t.absorbed (passed st (Ok (Literal (not all))))
+    (cond t.dirty
+    (cond (eqb t.kept 0) (passed st (Ok (Literal all))) (cond (eqb t.kept 1) (passed st (Ok (One t.last))) (reserved st t.kept)))
+    (passed st (Ok Same)))
 
--- one item, on the way back
-abbrev pub back_items : Bool → Bool → Items → ℕ → ℕ → Items
-back_items list neutral t i v = cond (list && not neutral) (item_set t i v) t
+-- one operand written into the list, at its k-th place, if there is a list
+abbrev pub with_operand : Became → Tables → ℕ → ℕ → Tables
+with_operand Same st k v = st
+with_operand (Literal b) st k v = st
+with_operand (One e) st k v = st
+with_operand (Listed start count) st k v = with_items st (item_set st.items (start + k) v)
 
-abbrev pub with_put : Out → Items → Out
-with_put o t = record { res = record { st = with_items o.res.st t; at = o.res.at; ok = o.res.ok }; base = o.base; list = o.list }
+-- operands written into the list from its k-th place on, if there is a list
+abbrev pub with_list : Became → Tables → ℕ → List ℕ → Tables
+with_list Same st k l = st
+with_list (Literal v) st k l = st
+with_list (One e) st k l = st
+with_list (Listed start count) st k l = with_items st (items_put st.items (start + k) l)
 
--- all of them
-abbrev pub written : Out → ℕ → List ℕ → Out
-written o k l = with_put o (cond o.list (items_put o.res.st.items (o.base + k) l) o.res.st.items)
+abbrev pub written : Passed → ℕ → List ℕ → Passed
+written o k l = record { st = with_list o.became o.st k l; became = o.became; ok = o.ok }
 
--- the operands of q after those that t counts, and the node
-unfoldable pub placed : Bool → ℕ → Tally → Operands → Out
-placed all h t q = written (bottom_of all h q.ok q.st (tallied t q)) t.kept q.kept
+-- the operands of q after those that t counts
+unfoldable pub placed : Bool → Tally → Operands → Passed
+placed all t q =
+    cond q.ok (written (settled all q.st (tallied t q)) t.kept q.kept) (refused q.st)
+
+-- the node
+abbrev pub node_of : Bool → ℕ → Tables → Became → Simplified
+node_of all h st Same = kept st h
+node_of all h st (Literal v) = add_literal st v
+node_of all h st (One e) = took st e
+node_of all h st (Listed start count) = add_record st (record_of_expr (Nary (nary_op_for all) (run_of start count))) start
+
+abbrev pub closed : Bool → ℕ → Passed → Simplified
+closed all h o = cond o.ok (node_of all h o.st o.became) (failed o.st)

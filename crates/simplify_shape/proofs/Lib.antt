@@ -1,1 +1,1 @@
-pub mod ShapeAnswers
+pub mod ShapeLaws

@@ -3,6 +3,7 @@
 #![tactic(auto)]
 
 ghost use Rattle.std.specs.Prelude.{◌≡◌};
+ghost use Rattle.simplify_spec.specs.declared.SimplifyError.TheVariants.{Room};
 
 use comparison::BinaryOp;
 use plan::{AppendError, Expr, Expressions, Items, Operator};
@@ -61,7 +62,7 @@ pub enum SimplifyError {
 }
 
 impl From<AppendError> for SimplifyError {
-    ghost from_gives = { λ e f. f ≡ SimplifyError.Room };
+    ghost from_gives = { λ e f. f ≡ Room };
 
     fn from(e: AppendError) -> SimplifyError {
         match e {

@@ -1,0 +1,12 @@
+-- handles fall on the way down, and the operands that are left fall in a run
+use Prim.Native.Nat.{◌+◌, ◌*◌}
+use Rattle.simplify_expr.proofs.+simplify_expr.Given as goal
+
+abbrev pub decreases-simplify_expr : goal.decreases-simplify_expr
+decreases-simplify_expr l = l.h * 1048576
+
+abbrev pub decreases-simplify_nary : goal.decreases-simplify_nary
+decreases-simplify_nary l = l.h * 1048576 + 65536
+
+abbrev pub decreases-simplify_operands : goal.decreases-simplify_operands
+decreases-simplify_operands l = l.h * 1048576 + l.left
