@@ -1,5 +1,5 @@
 -- A Selection or a join that the simplifier replaces passes the same rows. Assumes nothing.
-use Rattle.std.proofs.Common.{Ok, Err}
+use Rattle.std.proofs.Common.{Ok, Err, Result}
 use mathlib.Core.Path.{◌≡◌, refl, sym, ap, ap₂, subst, ◌∙◌}
 use mathlib.Core.Bool.{true, ◌&&◌}
 use mathlib.Core.Logic.{◌⊎◌, inl, inr}
@@ -35,7 +35,9 @@ use Rattle.simplify_spec.specs.declared.Tables.{Tables}
 use Rattle.simplify_spec.specs.Answers.{Simplified}
 use Rattle.simplify_spec.specs.declared.Held.{Held}
 use Rattle.simplify_spec.specs.declared.Held.TheVariants.{One}
+use Rattle.simplify_spec.specs.declared.Rewrite.{Rewrite}
 use Rattle.simplify_spec.specs.declared.Rewrite.TheVariants.{Keep, Replace}
+use Rattle.simplify_spec.specs.declared.SimplifyError.{SimplifyError}
 use Rattle.simplify_spec.specs.declared.SimplifyError.TheVariants.{Room}
 use Rattle.simplify_spec.specs.Answers.{Rewritten}
 use Rattle.simplify_spec.proofs.StepLaws.{enter_in}
@@ -145,13 +147,16 @@ module _ (p : Plan) (s : Sized p) (ok : plan_ok p ≡ true) (o : Operator) (lt :
             same = same_truth_of;
           }
 
-never : {A : Type 0} {r : Operator} → (Ok Keep) ≡ Ok (Replace r) → A
-never e = absurd (let z : ◌≡◌ {A = ℕ} 0 1 = cc in omega arith)
+abbrev Outcome : Type 0
+Outcome = Result Rewrite SimplifyError
 
-never-room : {A : Type 0} {r : Operator} → (Err Room) ≡ Ok (Replace r) → A
-never-room e = absurd (let z : ◌≡◌ {A = ℕ} 0 1 = cc in omega arith)
+never : {A : Type 0} {r : Operator} → ◌≡◌ {A = Outcome} (Ok Keep) (Ok (Replace r)) → A
+never e = cc
 
-same-handle : {a b : Operator} → Ok (Replace a) ≡ Ok (Replace b) → a ≡ b
+never-room : {A : Type 0} {r : Operator} → ◌≡◌ {A = Outcome} (Err Room) (Ok (Replace r)) → A
+never-room e = cc
+
+same-handle : {a b : Operator} → ◌≡◌ {A = Outcome} (Ok (Replace a)) (Ok (Replace b)) → a ≡ b
 same-handle e = cc
 
 module _ (p : Plan) (s : Sized p) (ok : plan_ok p ≡ true) (o : Operator) (lt : o.0 < p.operators.count) (e : Expr) (ty : typed p e.0 ≡ true) where
