@@ -3,12 +3,12 @@
 use Rattle.std.specs.Result.{IsErr}
 use Rattle.std.proofs.Common.{Ok, Err, Result}
 use mathlib.Core.Path.{◌≡◌, refl, sym, ap, ◌∙◌}
-use mathlib.Core.Bool.{Bool, true, false, not, cond, ◌&&◌, or_assoc, or-false}
+use mathlib.Core.Bool.{Bool, true, false, not, cond, or_assoc, or-false}
 use mathlib.Core.Logic.{◌⊎◌, inl, inr}
 use mathlib.Core.List.{List, [], ◌∷◌}
 use Prim.Native.Nat.{ℕ, zero, suc, ◌+◌, ◌-◌, ◌<◌}
 use native.Mathlib.Omega.{arith}
-use lib.Dec.{eqb, ltb}
+use lib.Dec.{eqb}
 use lib.ListN.{length, get_or}
 use borrow.Author.Tests.{eq-eqb, ne_eqb, lt-ltb}
 use Rattle.comparison.specs.declared.BinaryOp.{BinaryOp}
@@ -30,7 +30,7 @@ use Rattle.simplify_spec.proofs.StepLaws.{simplify_at_lem}
 use Rattle.simplify_expr.specs.declared.Became.{Became}
 use Rattle.simplify_expr.specs.declared.Became.TheVariants.{Same, Literal, One, Listed}
 use Rattle.simplify_expr.specs.declared.Tally.{Tally}
-use Rattle.simplify_expr.specs.Passage.{Passed, passed, refused, no_tally, next_tally, last_of, tallied, reserved, settled, with_operand, with_list, written, placed, node_of, closed}
+use Rattle.simplify_expr.specs.Passage.{Passed, passed, refused, no_tally, next_tally, last_of, tallied, reserved, settled, with_operand, with_list, written, placed, closed}
 
 -- ---- one expression e, before h
 module _ (h e : ℕ) (st : Tables) (lt : e < h) where

@@ -207,7 +207,13 @@ fn simplify_expr(t: &mut Tables, e: u16, h: u16) -> Result<u16, AppendError>
 
 // Simplifies an And (all is true) or Or, whose list is a run of items.
 #[cycle(simplify_expr)]
-fn simplify_nary(t: &mut Tables, h: u16, all: bool, start: u16, count: u16) -> Result<u16, AppendError>
+fn simplify_nary(
+    t: &mut Tables,
+    h: u16,
+    all: bool,
+    start: u16,
+    count: u16,
+) -> Result<u16, AppendError>
     ensures { simplified t.new result ≡ nary_of all h (operands_from simplify_at all h true t.old start count) }
 {
     let became = simplify_operands(t, h, all, usize::from(start), count, Tally::empty())?;

@@ -31,7 +31,8 @@ fn shape_of(x: Record, start: u16) -> Shape
         } => Shape::Not(expr),
         ExprData::Binary { op, left, right } => Shape::Compare { op, left, right },
         ExprData::Nary {
-            op: NaryOp::And, ..
+            op: NaryOp::And,
+            ..
         } => Shape::And { start, count: x.a },
         ExprData::Nary { op: NaryOp::Or, .. } => Shape::Or { start, count: x.a },
         _ => Shape::Other,

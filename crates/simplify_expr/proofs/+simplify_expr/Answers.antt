@@ -1,13 +1,9 @@
 use Rattle.simplify_expr.proofs.Runs.{simplified_err, passed_err, back-refused, compare-stays, compare-new, not_refused, compare_way, run_none, run_refused, run_some, nary_way}
-use Rattle.simplify_spec.specs.OneExpression.{kept, failed, handle, add_node, operands_from, simplify_at, compare_of}
-use Rattle.plan_data.specs.declared.ExprData.TheVariants.{Binary}
-use Rattle.plan.specs.declared.AppendError.{AppendError}
-use Rattle.std.proofs.Common.{Ok, Err, Result}
+use Rattle.simplify_spec.specs.OneExpression.{kept, failed, compare_of}
+use Rattle.std.proofs.Common.{Ok}
 use Rattle.simplify_expr.specs.Passage.{passed, refused, with_operand}
-use mathlib.Core.Path.{◌∙◌, ap, sym, refl}
+use mathlib.Core.Path.{◌∙◌, sym, refl}
 use mathlib.Core.Bool.{true, cond}
-use Prim.Native.Nat.{ℕ}
-use lib.Dec.{eqb}
 use Rattle.simplify_expr.proofs.+simplify_expr.Goals as goal
 
 pub simplify_expr-returns-in_err-i-in-Not : goal.simplify_expr-returns-in_err-i-in-Not
