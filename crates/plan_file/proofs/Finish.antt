@@ -2,11 +2,12 @@
 -- in the file, and the empty plan. Assumes nothing.
 use Rattle.std.proofs.Common.{Ok, Err, Result}
 use Prim.Native.Nat.{ℕ, zero, suc, ◌+◌, ◌-◌, ◌*◌, ◌≤◌, ◌<◌}
-use mathlib.Core.Path.{◌≡◌, refl, sym, ap, subst}
+use mathlib.Core.Path.{◌≡◌, ◌∙◌, refl, sym, ap, subst}
 use mathlib.Core.Bool.{Bool, true, false, ◌&&◌, ◌||◌, not}
 use mathlib.Core.List.{List}
 use mathlib.Core.Logic.{◌⊎◌, inl, inr, ⊎_elim}
 use native.Mathlib.Omega.{arith}
+use native.Mathlib.Decide.{dec_lt}
 use lib.Dec.{leb, eqb}
 use lib.ListN.{length, length-drop}
 use borrow.Author.Tests.{eqb-true, leb-true, lt-leb}
@@ -15,12 +16,15 @@ use Rattle.plan_kinds.specs.declared.Record.{Record}
 use Rattle.plan_kinds.specs.Rows.{row_of}
 use Rattle.plan_kinds.proofs.Table.{long-row}
 use Rattle.plan.specs.Plans.{empty_plan}
-use Rattle.plan_file.specs.declared.State.{State}
+use Rattle.plan_file.specs.Answer.{answer}
+use Rattle.plan_file.specs.declared.Reader.{Reader}
+use Rattle.plan_file.specs.State.{State, state}
 use Rattle.plan_file.specs.declared.ReadError.{ReadError}
 use Rattle.plan_file.specs.declared.ReadError.TheVariants.{Short, Unknown, Room, Handle, ScannedTwice}
 use Rattle.plan_file.specs.Answers.{is_whole, refusal_of, place_of}
-use Rattle.plan_file.specs.Steps.{kind_wanted, refused_by, is_done, steps_of, start_state, answer_of, read_of}
-use Rattle.plan_file.proofs.StepCases.{Way, a_column, an_expr, an_operator, an_item, Taking, step-cases, wants}
+use Rattle.plan_file.specs.Steps.{kind_wanted, refused_by, is_done, step_of, steps_of, start_state, answer_of, read_of}
+use Rattle.plan_file.proofs.StepsTaken.{refuses, steps-more, idle-on, read_early}
+use Rattle.plan_file.proofs.StepCases.{Way, a_column, an_expr, an_operator, an_item, Taking, Wants, step-cases, wants}
 
 -- after k steps: within the bytes, and done or two bytes further for each step
 pub record Going (n k : ℕ) (q : State) : Type 0 where
@@ -137,3 +141,47 @@ refusal_none (Err (ScannedTwice at)) = refl
 pub refusal_place : (s : List ℕ) → place_of (read_of s).reading ≤ length s
 unfolding read_of answer_of
 refusal_place s = (going s (length s)).place
+
+-- ---- what a reader that goes on until it is done answers
+-- Once reading is done, more steps change nothing, and it is done after as many as there are bytes. Assumes nothing.
+done_answer : (s : List ℕ) (k : ℕ) (t : State) → t ≡ steps_of s k → is_done (length s) t ≡ true → answer_of t ≡ read_of s
+unfolding read_of
+done_answer s k t e d =
+    elim (dec_lt (length s) k) [
+      | yes h ↦ (let n : (k - length s) + length s ≡ k = omega arith in
+          ap answer_of (e ∙ ap (steps_of s) (sym n) ∙ sym (idle-on s (length s) (k - length s) (steps_of s (length s)) refl (finished s))))
+      | no h ↦ read_early s k t (omega arith) e d
+    ]
+
+pub read_done :
+    (s : List ℕ) (k : ℕ) (q : Reader) → state q (Ok tt) ≡ steps_of s k → is_done (length s) (state q (Ok tt)) ≡ true
+    → answer (Ok q.plan) ≡ read_of s
+unfolding answer_of
+read_done s k q e d = done_answer s k (state q (Ok tt)) e d
+
+pub read_refused :
+    (s : List ℕ) (k : ℕ) (q t : Reader) (r : ReadError) → state q (Ok tt) ≡ steps_of s k → state t (Err r) ≡ step_of s (state q (Ok tt))
+    → answer (Err r) ≡ read_of s
+unfolding answer_of
+read_refused s k q t r e f =
+    let g : state t (Err r) ≡ steps_of s (k + 1) = steps-more s k (state q (Ok tt)) (state t (Err r)) e f in
+    rw (refuses r) at (done_answer s (k + 1) (state t (Err r)) g (rw (refuses r)))
+
+-- A step that reads a record goes further, within the file. Assumes nothing.
+pub record Further (s : List ℕ) (q t : State) : Type 0 where
+  pub here : q.at < length s
+  pub more : q.at < t.at
+
+pub further :
+    (s : List ℕ) (k : ℕ) (q t : Reader) → state q (Ok tt) ≡ steps_of s k → is_done (length s) (state q (Ok tt)) ≡ false
+    → state t (Ok tt) ≡ step_of s (state q (Ok tt)) → Further s (state q (Ok tt)) (state t (Ok tt))
+further s k q t e n f =
+    let u = state q (Ok tt) in
+    let w : Wants u.wanted = subst (λ (v : State). Wants v.wanted) (sym e) (wants s k) in
+    let at_step : is_whole (step_of s u).reading ≡ true → Further s u (step_of s u) =
+    step-cases (λ (v : State). is_whole v.reading ≡ true → Further s u v) s u w
+    (λ d. absurd (ne-false-of-true _ d n))
+    (λ r g z. absurd (ne-false-of-true _ z g.refuses))
+    (λ x v g z. let h = taken_at u x v g.way in let l : 2 ≤ (row_of x.kind).length = long-row x.kind h.2 in record { here = g.here; more = omega (arith, h.0) })
+    in
+    subst (λ (v : State). Further s u v) (sym f) (at_step (ap (λ (v : State). is_whole v.reading) (sym f)))

@@ -2,55 +2,34 @@
 use Rattle.std.proofs.Common.{Ok, Err, Result}
 use Prim.Native.Nat.{ℕ, ◌≤◌}
 use mathlib.Core.Path.{◌≡◌, refl, sym, ap}
-use mathlib.Core.Bool.{Bool, true, false, cond, ◌&&◌, not}
-use mathlib.Core.List.{List}
-use lib.Dec.{ltb, leb, eqb}
-use lib.ListN.{length, set}
-use lib.Seq.{set_out}
+use mathlib.Core.Bool.{Bool, true, false, cond, ◌&&◌}
+use lib.Dec.{ltb, leb}
 use native.Mathlib.Omega.{arith}
 use native.Mathlib.Decide.{dec_lt}
-use borrow.Author.Tests.{eq-eqb, le-ltb, leb-true, not-true, not-false}
+use borrow.Author.Tests.{eq-eqb, le-ltb, leb-true}
 use Rattle.plan_kinds.specs.declared.Row.{Row}
 use Rattle.plan_kinds.specs.declared.Record.{Record}
 use Rattle.plan_kinds.specs.Records.{code_ok, handles_ok}
 use Rattle.plan_file.specs.declared.Wanted.{Wanted}
-use Rattle.plan_file.specs.declared.State.{State}
+use Rattle.plan_file.specs.State.{State}
 use Rattle.plan_file.specs.declared.ReadError.{ReadError}
 use Rattle.plan_file.specs.declared.ReadError.TheVariants.{Short, Unknown, Handle, ScannedTwice}
 use Rattle.plan_file.specs.Answers.{is_whole}
-use Rattle.plan_file.specs.Steps.{kind_wanted, kind_ok, scanned_twice, scans_after, fault_of}
+use Rattle.plan_file.specs.Steps.{kind_wanted, kind_ok, scanned_twice, fault_of}
 
 -- Where an item is wanted, and none of the first kind, one of the second is. Assumes nothing.
-pub wanted-more : (w : Wanted) → w.left ≤ 0 → (kind_wanted w ≡ 0 → ⊥) → 1 ≤ w.more
+pub wanted_more : (w : Wanted) → w.left ≤ 0 → (kind_wanted w ≡ 0 → ⊥) → 1 ≤ w.more
 unfolding kind_wanted
-wanted-more w h n = elim (dec_lt 0 w.more) [ yes l ↦ l | no g ↦ absurd (n (rw (le-ltb _ _ h, le-ltb 0 w.more (omega arith)))) ]
+wanted_more w h n = elim (dec_lt 0 w.more) [ yes l ↦ l | no g ↦ absurd (n (rw (le-ltb _ _ h, le-ltb 0 w.more (omega arith)))) ]
 
 -- An item is taken only where one is wanted. Assumes nothing.
-pub wanted-item : (r : Row) (x : Record) (w : Wanted) → r.sort ≡ 4 → kind_ok r x w ≡ true → kind_wanted w ≡ 0 → ⊥
+pub wanted_item : (r : Row) (x : Record) (w : Wanted) → r.sort ≡ 4 → kind_ok r x w ≡ true → kind_wanted w ≡ 0 → ⊥
 unfolding kind_ok
-wanted-item r x w e k z =
+wanted_item r x w e k z =
     let h : (ltb 0 r.sort && ltb r.sort 4) ≡ true = rw (eq-eqb _ _ z) at k in
     let g : (ltb 0 4 && ltb 4 4) ≡ true = rw e at h in
     let b : ◌≡◌ {A = ℕ} 0 1 = ap (λ (t : Bool). cond t 0 1) (sym g) in
     omega arith
-
-module _ (r : Row) (x : Record) (w : Wanted) (scans : List ℕ) (np : ℕ) where
-  -- A column is marked exactly where the record is a Scan's item; a mark past the table changes nothing. Assumes nothing.
-  pub no_scan : not (eqb r.sort 4 && w.scan) ≡ true → scans ≡ scans_after r x w scans np
-  unfolding scans_after
-  no_scan e = rw (not-true (eqb r.sort 4 && w.scan) e)
-
-  pub one-scan : not (eqb r.sort 4 && w.scan) ≡ false → set scans x.a np ≡ scans_after r x w scans np
-  unfolding scans_after
-  one-scan e = rw (not-false (eqb r.sort 4 && w.scan) e)
-
-  pub past-scan : length scans ≡ 64 → 64 ≤ x.a → scans ≡ scans_after r x w scans np
-  unfolding scans_after
-  past-scan e h = go (eqb r.sort 4 && w.scan)
-    where
-      go : (b : Bool) → scans ≡ cond b (set scans x.a np) scans
-      go true = sym (set_out scans x.a np (omega arith))
-      go false = refl
 
 -- A record that passes the tests but the last. Assumes nothing.
 pub record Passed (r : Row) (x : Record) (n : ℕ) (q : State) : Type 0 where
@@ -62,7 +41,8 @@ pub record Passed (r : Row) (x : Record) (n : ℕ) (q : State) : Type 0 where
 
 -- the fault by what each test said
 abbrev pub fault_where : ℕ → Bool → Bool → Bool → Bool → Bool → Result (Unit {0}) ReadError
-fault_where at k l c h t = cond k (cond l (cond c (cond h (cond t (Err (ScannedTwice at)) (Ok tt)) (Err (Handle at))) (Err (Unknown at))) (Err (Short at))) (Err (Unknown at))
+fault_where at k l c h t =
+    cond k (cond l (cond c (cond h (cond t (Err (ScannedTwice at)) (Ok tt)) (Err (Handle at))) (Err (Unknown at))) (Err (Short at))) (Err (Unknown at))
 
 passed :
     (at : ℕ) (k l c h t : Bool) →

@@ -18,7 +18,7 @@ use Rattle.plan_kinds.proofs.Table.{item-kinds}
 use Rattle.plan.specs.declared.Plan.{Plan}
 use Rattle.plan.specs.Append.{no_room, added_at, with_column, with_expr, with_operator, with_item, append_column, append_expr, append_operator, append_item}
 use Rattle.plan_file.specs.declared.Wanted.{Wanted}
-use Rattle.plan_file.specs.declared.State.{State}
+use Rattle.plan_file.specs.State.{State}
 use Rattle.plan_file.specs.declared.ReadError.{ReadError}
 use Rattle.plan_file.specs.declared.ReadError.TheVariants.{Short, Room}
 use Rattle.plan_file.specs.Answers.{is_whole, is_added, place_of}
@@ -192,7 +192,8 @@ pub record Refusal (q : State) (k : Result (Unit {0}) ReadError) : Type 0 where
 -- What holds of a state that is done, of a state with any refusal, and of every state that taking a record gives, holds after a step.
 -- Assumes nothing.
 pub step-cases :
-    (P : State → Type 0) (s : List ℕ) (q : State) → Wants q.wanted → (is_done (length s) q ≡ true → P q) → ((k : Result (Unit {0}) ReadError) → Refusal q k → P (refused_by q k))
+    (P : State → Type 0) (s : List ℕ) (q : State) → Wants q.wanted → (is_done (length s) q ≡ true → P q)
+    → ((k : Result (Unit {0}) ReadError) → Refusal q k → P (refused_by q k))
     → ((x : Record) (t : State) → Taking s q x t → P t) → P (step_of s q)
 unfolding step_of record_step row_step judged_step appended_step record_from
 step-cases P s q f same refused taken =

@@ -1,5 +1,6 @@
 -- What a byte string means: the state of a reading, the step of one record, and the whole. Assumes nothing.
-use Rattle.std.specs.Prelude.{ℕ, zero, suc, ◌+◌, ◌-◌, Bool, false, cond, ◌&&◌, ◌||◌, not, List, ltb, leb, eqb, get_or, set, replicate, length, drop, Ok, Err, Result}
+use Rattle.std.specs.Prelude.{ℕ, zero, suc, ◌+◌, ◌-◌, Bool, false, cond, ◌&&◌, ◌||◌, not, List, ltb, leb, eqb, get_or, set, replicate, length, drop}
+use Rattle.std.specs.Prelude.{Ok, Err, Result}
 use Rattle.plan_kinds.specs.declared.Record.{Record}
 use Rattle.plan_kinds.specs.declared.Row.{Row}
 use Rattle.plan_kinds.specs.Rows.{row_of, columns, expressions, operators, items}
@@ -9,7 +10,7 @@ use Rattle.plan.specs.Append.{Appended}
 use Rattle.plan.specs.Plans.{empty_plan}
 use Rattle.plan.specs.Append.{append_column, append_expr, append_operator, append_item}
 use Rattle.plan_file.specs.declared.Wanted.{Wanted}
-use Rattle.plan_file.specs.declared.State.{State}
+use Rattle.plan_file.specs.State.{State}
 use Rattle.plan_file.specs.Answer.{Answer}
 use Rattle.plan_file.specs.declared.ReadError.{ReadError}
 use Rattle.plan_file.specs.declared.ReadError.TheVariants.{Short, Unknown, Room, Handle, ScannedTwice}

@@ -24,7 +24,7 @@ use Rattle.plan.specs.Extends.{Extends}
 use Rattle.plan.proofs.AppendLaws.{item-longer, new-item}
 use Rattle.plan_rules.specs.Rules.{record_ok, item_ok, lists_ok, expr_ok_of, expr_ok, operator_ok_of, operator_ok}
 use Rattle.plan_file.specs.declared.Wanted.{Wanted}
-use Rattle.plan_file.specs.declared.State.{State}
+use Rattle.plan_file.specs.State.{State}
 use Rattle.plan_file.specs.Steps.{kind_wanted, less_one, list_of, scanned_twice}
 use Rattle.plan_file.proofs.StepCases.{an_item, next_of, wants-list}
 use Rattle.plan_file_laws.specs.ListItems.{first_of, second_of, item_kind, ScanHas}

@@ -21,7 +21,7 @@ use Rattle.plan.specs.Append.{with_column, with_expr, with_operator}
 use Rattle.plan.specs.Records.{column_record, expr_record, expr_start, operator_record, operator_start, item_record}
 use Rattle.plan.specs.Extends.{Sized}
 use Rattle.plan.proofs.AppendLaws.{column-longer, expr-longer, operator-longer, new-column, new-expr, new-expr-start, new-operator, new-operator-start}
-use Rattle.plan_file.specs.declared.State.{State}
+use Rattle.plan_file.specs.State.{State}
 use Rattle.plan_file.specs.Steps.{kind_wanted, list_of, start_state}
 use Rattle.plan_file.proofs.StepCases.{a_column, an_expr, an_operator, next_of}
 use Rattle.plan_file_laws.specs.ListItems.{item_kind, ScanHas}

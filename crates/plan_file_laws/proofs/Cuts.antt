@@ -18,7 +18,7 @@ use Rattle.plan_kinds.specs.declared.Row.{Row}
 use Rattle.plan_kinds.specs.Rows.{row_of}
 use Rattle.plan.specs.Plans.{empty_plan}
 use Rattle.plan_file.specs.declared.Wanted.{Wanted}
-use Rattle.plan_file.specs.declared.State.{State}
+use Rattle.plan_file.specs.State.{State}
 use Rattle.plan_file.specs.Answer.{Answer}
 use Rattle.plan_file.specs.declared.ReadError.TheVariants.{Short}
 use Rattle.plan_file.specs.Answers.{is_whole, refusal_of}
@@ -50,7 +50,9 @@ not_last s i q h e d =
     (below_or_not i (length s))
 
 -- where the next step refuses by 1, that is the answer
-short_next : (s : List ℕ) (i : ℕ) (q : State) (n : ℕ) → i ≤ length s → steps_of s i ≡ q → is_done (length s) q ≡ false → step_of s q ≡ refused_by q (Err (Short n))
+short_next :
+    (s : List ℕ) (i : ℕ) (q : State) (n : ℕ) → i ≤ length s → steps_of s i ≡ q → is_done (length s) q ≡ false
+    → step_of s q ≡ refused_by q (Err (Short n))
     → read_of s ≡ cut_at n
 unfolding steps_of
 short_next s i q n h e d g =

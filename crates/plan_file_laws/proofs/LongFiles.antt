@@ -15,7 +15,7 @@ use Rattle.plan_kinds.specs.declared.Record.{Record}
 use Rattle.plan_kinds.specs.declared.Row.{Row}
 use Rattle.plan_kinds.specs.Rows.{row_of}
 use Rattle.plan_kinds.proofs.Table.{holds, every-row}
-use Rattle.plan_file.specs.declared.State.{State}
+use Rattle.plan_file.specs.State.{State}
 use Rattle.plan_file.specs.Answers.{is_whole}
 use Rattle.plan_file.specs.Bytes.{word2, word4, code_from, word_from, bits_from, record_from}
 use Rattle.plan_file.specs.Steps.{fault_of, judged_step, row_step, record_step, is_done, step_of, steps_of, answer_of, read_of}

@@ -18,7 +18,7 @@ use Rattle.plan_kinds.proofs.Table.{holds, every-row}
 use Rattle.plan.specs.declared.Plan.{Plan}
 use Rattle.plan.specs.Plans.{empty_plan}
 use Rattle.plan_file.specs.declared.Wanted.{Wanted}
-use Rattle.plan_file.specs.declared.State.{State}
+use Rattle.plan_file.specs.State.{State}
 use Rattle.plan_file.specs.declared.ReadError.{ReadError}
 use Rattle.plan_file.specs.Answers.{is_whole, refusal_of}
 use Rattle.plan_file.specs.Steps.{kind_wanted, less_one, refused_by, steps_of, start_state, read_of}

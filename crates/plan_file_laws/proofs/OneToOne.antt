@@ -16,7 +16,7 @@ use Rattle.plan.specs.Plans.{empty_plan}
 use Rattle.plan.specs.Records.{expr_record, operator_record}
 use Rattle.plan_rules.specs.Rules.{record_ok, lists_ok, expr_ok_of, operator_ok_of}
 use Rattle.plan_file.specs.declared.Wanted.{Wanted}
-use Rattle.plan_file.specs.declared.State.{State}
+use Rattle.plan_file.specs.State.{State}
 use Rattle.plan_file.specs.Answers.{is_whole}
 use Rattle.plan_file.specs.Steps.{kind_wanted, start_state, read_of}
 use Rattle.plan_file.proofs.StepCases.{Way, a_column, an_expr, an_operator, an_item}

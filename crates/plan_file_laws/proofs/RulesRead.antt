@@ -24,7 +24,7 @@ use Rattle.plan.proofs.AppendLaws.{column-longer, expr-longer}
 use Rattle.plan_rules.specs.Rules.{scans_of, scans, plan_ok}
 use Rattle.plan_rules.proofs.RuleLaws.{Rules, rules-of}
 use Rattle.plan_file.specs.declared.Wanted.{Wanted}
-use Rattle.plan_file.specs.declared.State.{State}
+use Rattle.plan_file.specs.State.{State}
 use Rattle.plan_file.specs.Answers.{is_whole}
 use Rattle.plan_file.specs.Bytes.{record_from}
 use Rattle.plan_file.specs.Steps.{kind_wanted, scanned_twice, steps_of, start_state, read_of}

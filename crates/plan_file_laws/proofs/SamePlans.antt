@@ -20,7 +20,7 @@ use Rattle.plan.specs.Records.{column_record, expr_record, expr_start, operator_
 use Rattle.plan.specs.Extends.{Extends, Sized}
 use Rattle.plan.proofs.AppendLaws.{column-longer, expr-longer, operator-longer, item-longer}
 use Rattle.plan_file.specs.declared.Wanted.{Wanted}
-use Rattle.plan_file.specs.declared.State.{State}
+use Rattle.plan_file.specs.State.{State}
 use Rattle.plan_file.specs.Steps.{kind_wanted, start_state}
 use Rattle.plan_file.proofs.StepCases.{Way, a_column, an_expr, an_operator, an_item}
 use Rattle.plan_file_laws.proofs.OpenLists.{Open, some_left}

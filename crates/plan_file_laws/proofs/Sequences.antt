@@ -16,7 +16,7 @@ use Rattle.plan_kinds.specs.declared.Row.{Row}
 use Rattle.plan_kinds.specs.Rows.{row_of}
 use Rattle.plan_kinds.specs.Records.{code_ok, handles_ok}
 use Rattle.plan.specs.Append.{append_column, append_expr, append_operator, append_item}
-use Rattle.plan_file.specs.declared.State.{State}
+use Rattle.plan_file.specs.State.{State}
 use Rattle.plan_file.specs.Answers.{is_whole, is_added}
 use Rattle.plan_file.specs.Bytes.{word_from, bits_from, record_from}
 use Rattle.plan_file.specs.Steps.{kind_wanted, kind_ok, scanned_twice, fault_of, append_of, wanted_after, scans_after, taken_by, appended_step, judged_step}

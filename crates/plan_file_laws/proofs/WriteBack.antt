@@ -16,7 +16,7 @@ use Rattle.plan.specs.Records.{column_record, expr_record, expr_start, operator_
 use Rattle.plan.specs.Extends.{Extends, Sized}
 use Rattle.plan.proofs.AppendLaws.{expr-longer, operator-longer, new-expr-start, new-operator-start}
 use Rattle.plan_file.specs.declared.Wanted.{Wanted}
-use Rattle.plan_file.specs.declared.State.{State}
+use Rattle.plan_file.specs.State.{State}
 use Rattle.plan_file.specs.Answer.{Answer}
 use Rattle.plan_file.specs.Answers.{is_whole}
 use Rattle.plan_file.specs.Steps.{kind_wanted, start_state, read_of}

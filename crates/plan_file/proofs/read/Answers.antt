@@ -1,17 +1,24 @@
-use mathlib.Core.Path.{◌∙◌, sym}
-use native.Mathlib.Omega.{arith}
-use Rattle.plan_file.proofs.StepsTaken.{steps-start, steps-more, read_early, read_whole}
+use Rattle.std.proofs.Common.{arith, ◌+◌, ◌∙◌, sym}
+use Rattle.std.proofs.lemmas.Result.{err_from_is_err_and}
+use Rattle.plan_file.proofs.StepsTaken.{steps-start, steps-more}
+use Rattle.plan_file.proofs.Finish.{read_done, read_refused, further}
 use Rattle.plan_file.proofs.read.Goals as goal
 
-pub loop-i-init : goal.loop-i-init
-loop-i-init c = (omega arith, c.start_state-q.ensures ∙ steps-start _)
+pub loop-q-init : goal.loop-q-init
+loop-q-init c = (0, c.new-q.ensures ∙ steps-start _)
 
-pub returns-then-is_done : goal.returns-then-is_done
-returns-then-is_done c =
-    c.answered.ensures ∙ read_early _ _ _ c.loop-i.invariant.0 c.loop-i.invariant.1 (sym c.is_done.ensures ∙ c.if-is_done.true)
+pub loop-q-smaller : goal.loop-q-smaller
+loop-q-smaller c =
+    let f = further _ _ _ _ c.loop-q.invariant.1 (sym c.is_done.ensures ∙ c.loop-q-test.true) c.in_ok-step.ensures in
+    omega (arith, f.here, f.more)
 
-pub loop-i-preserved : goal.loop-i-preserved
-loop-i-preserved c = (omega arith, steps-more _ _ _ _ c.loop-i.invariant.1 c.step-q.ensures)
+pub loop-q-preserved : goal.loop-q-preserved
+loop-q-preserved c = (c.loop-q.invariant.0 + 1, steps-more _ _ _ _ c.loop-q.invariant.1 c.in_ok-step.ensures)
+
+pub returns-in_err-step : goal.returns-in_err-step
+returns-in_err-step c =
+    let p = err_from_is_err_and c.from_residual.result c.from_residual.ensures.1 in
+    rw (p.1, p.2) (read_refused _ _ _ _ _ c.loop-q.invariant.1 c.in_err-step.ensures)
 
 pub returns : goal.returns
-returns c = c.answered-2.ensures ∙ read_whole _ _ _ (omega arith) c.loop-i.invariant.1
+returns c = read_done _ _ c.loop-q.q c.loop-q.invariant.1 (sym c.is_done.ensures ∙ c.loop-q-test.false)
