@@ -1,13 +1,13 @@
 -- A check of one place where the others were checked before. Assumes nothing.
 use mathlib.Core.Path.{◌≡◌, refl, sym, ap, subst, ◌∙◌}
-use mathlib.Core.Bool.{Bool, true, false, cond, not, ◌||◌}
+use mathlib.Core.Bool.{Bool, true, false, cond, ◌||◌}
 use mathlib.Core.Logic.{◌⊎◌, inl, inr, ⊎_elim}
-use Prim.Native.Nat.{ℕ, ◌<◌}
+use Prim.Native.Nat.{ℕ, ◌<◌, ◌≤◌}
 use native.Mathlib.Decide.{ℕ_discrete}
 use native.Mathlib.Omega.{arith}
 use lib.Dec.{T}
 use lib.Seq.{get_or-set_other}
-use borrow.Author.Tests.{lt-ltb}
+use borrow.Author.Tests.{lt-ltb, le-ltb}
 use lib.Ieee.Bits.{is_true}
 use Rattle.laws.proofs.Bools.{or_inr}
 use Rattle.lists.specs.Ranges.{any_from}
@@ -117,6 +117,15 @@ module _ (s : ConstraintSet) (c : Checked s) (r : ℕ) (low : r < 128) (l : Scal
 pub unchecked : (s : ConstraintSet) → false ≡ true → Checked s
 unchecked s e = absurd (subst T (sym e) tt)
 
-pub both_told : (a b : Bool) → (not a || b) ≡ false → (a ≡ true) × (b ≡ false)
-both_told true b e = (refl, e)
-both_told false b e = absurd (subst T e tt)
+-- ---- a literal past the identities, a NULL, and any other
+pub past_literal : (s : ConstraintSet) (i : ℕ) (l : ScalarValue) → 128 ≤ i → s ≡ add_literal s i l
+unfolding add_literal
+past_literal s i l h = rw (le-ltb _ _ h)
+
+pub null_literal : (s : ConstraintSet) (i : ℕ) (l : ScalarValue) → i < 128 → is_null l ≡ true → with_flag s true ≡ add_literal s i l
+unfolding add_literal
+null_literal s i l h e = rw (lt-ltb _ _ h, e)
+
+pub ruleset literal_laid = (null_literal, literal-checked, literal-added)
+
+pub ruleset checked_loop = (unchecked, added-checked)

@@ -6,4 +6,3 @@ pub mod Checking
 pub mod Passes
 pub mod Contents
 pub mod Settling
-pub mod Uniting

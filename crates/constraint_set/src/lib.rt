@@ -1,29 +1,21 @@
-// What is done with a constraint set, after the methods of the Rust's ConstraintSet: a set goes in by value and comes back.
+// What is done with a constraint set, after the methods of the Rust's ConstraintSet: a set is lent and changed in place.
 // Nothing is asked of a set or of a number that comes in: what happens to one that breaks the rules is defined too.
 #![tactic(auto)]
 
-ghost use Rattle.std.specs.Prelude.{◌≡◌, true, cond, ◌<◌};
+ghost use Rattle.std.specs.Prelude.{◌≡◌, true, cond, ◌<◌, Some};
+ghost use Rattle.lists.specs.Ranges.{any_from};
 ghost use Rattle.value_classes.specs.Classes.{same_class};
+ghost use Rattle.constraint_spec.specs.Answers.{applied};
 ghost use Rattle.constraint_spec.specs.Sets.{held, set_ok, canonical_at, entry_of, clashes, range_in, lower_by, upper_by, tighten_by, outside, crossed};
-ghost use Rattle.constraint_spec.specs.Sets.{cross_check, non_nulls_moved, literals_moved, ranges_moved, normalized, put_non_null, put_literal, union_values};
-ghost use Rattle.constraint_spec.specs.Sets.{add_literal, bounds_by, merge_literals};
+ghost use Rattle.constraint_spec.specs.Sets.{crossed_at, cross_check, non_nulls_moved, literals_moved, ranges_moved, normalized, put_literal, lay_range, put_range};
+ghost use Rattle.constraint_spec.specs.Sets.{union_values, add_literal, bounds_by, merge_literals, add_residual};
 ghost use Rattle.constraint_set.specs.Checked.{Checked};
-ghost use Rattle.constraint_set.specs.Kept.{has_in, kept_by};
-ghost use Rattle.constraint_set.specs.Settled.{literal_on, literal_bad, range_on, range_bad, place_of};
+ghost use Rattle.constraint_set.specs.Settled.{null_on, literal_on, literal_bad, range_on, range_bad, place_of, united_roots};
 
 use comparison::BinaryOp;
-use constraint_spec::{ConstraintSet, Entry, Holder};
-use scalar::{Number, ScalarValue};
-use value_classes::ValueEquivalenceClasses;
+use constraint_spec::{ConstraintError, ConstraintSet, Entry, Holder};
+use scalar::ScalarValue;
 use value_range::{Bound, ValueRange};
-
-// The residual handles with one more, or as they were, with or without room for it.
-#[derive(Clone, Copy)]
-pub struct Kept {
-    pub list: [u16; 64],
-    pub count: usize,
-    pub refused: bool,
-}
 
 // The literal and the range of two representatives that become one, and whether they contradict.
 #[derive(Clone, Copy)]
@@ -33,35 +25,24 @@ pub struct Place {
     pub bad: bool,
 }
 
-// Two representatives, the lower first, and the classes with the lower as the parent of the other: what the crates above join in place.
-#[derive(Clone, Copy)]
-pub struct RootPair {
-    pub classes: ValueEquivalenceClasses,
-    pub low: usize,
-    pub high: usize,
+#[tactic(auto, unfolding(constraint_spec::specs::Sets::set_ok))]
+pub fn set_ok(s: &ConstraintSet) -> bool
+    ensures { result ≡ set_ok s.now }
+{
+    s.equivalence_classes.parents_ok() && s.residuals <= ConstraintSet::RESIDUALS
 }
 
-pub fn set_ok(s: ConstraintSet) -> bool
-    ensures { result ≡ set_ok s }
+pub fn canonical(s: &ConstraintSet, value: usize) -> usize
+    ensures value { result ≡ canonical_at s.now value }
+    ensures small { value < 128 → result < 128 }
 {
-    let classes = s.equivalence_classes;
-    let n = s.residuals;
-    let ok = classes.parents_ok();
-    ok & (n <= 64)
+    s.equivalence_classes.canonical(value)
 }
 
-pub fn canonical(s: ConstraintSet, value: usize) -> usize
-    ensures { result ≡ canonical_at s value }
+pub fn equivalent(s: &ConstraintSet, left: usize, right: usize) -> bool
+    ensures { result ≡ same_class s.now.equivalence_classes left right }
 {
-    let classes = s.equivalence_classes;
-    classes.canonical(value)
-}
-
-pub fn equivalent(s: ConstraintSet, left: usize, right: usize) -> bool
-    ensures { result ≡ same_class s.equivalence_classes left right }
-{
-    let classes = s.equivalence_classes;
-    classes.equivalent(left, right)
+    s.equivalence_classes.equivalent(left, right)
 }
 
 // ---- one literal, one range
@@ -69,12 +50,7 @@ pub fn equivalent(s: ConstraintSet, left: usize, right: usize) -> bool
 pub fn literal_clashes(old: Holder, l: ScalarValue) -> bool
     ensures { result ≡ clashes old l }
 {
-    if old.present {
-        let a = old.value;
-        !scalar::equal(a, l)
-    } else {
-        false
-    }
+    old.present && old.value != l
 }
 
 // A literal that differs from the one that is there is left out.
@@ -105,9 +81,7 @@ fn lower_by(t: ValueRange, b: Bound) -> ValueRange
     ensures { result ≡ lower_by t b }
 {
     if b.present {
-        let value = b.value;
-        let inclusive = b.inclusive;
-        t.tighten_lower(value, inclusive)
+        t.tighten_lower(b.value, b.inclusive)
     } else {
         t
     }
@@ -117,9 +91,7 @@ fn upper_by(t: ValueRange, b: Bound) -> ValueRange
     ensures { result ≡ upper_by t b }
 {
     if b.present {
-        let value = b.value;
-        let inclusive = b.inclusive;
-        t.tighten_upper(value, inclusive)
+        t.tighten_upper(b.value, b.inclusive)
     } else {
         t
     }
@@ -129,11 +101,7 @@ fn upper_by(t: ValueRange, b: Bound) -> ValueRange
 pub fn tightened(e: Entry, new: ValueRange) -> ValueRange
     ensures { result ≡ tighten_by (range_in e) new }
 {
-    let t = range_in(e);
-    let lower = new.lower;
-    let upper = new.upper;
-    let first = lower_by(t, lower);
-    upper_by(first, upper)
+    upper_by(lower_by(range_in(e), new.lower), new.upper)
 }
 
 pub fn entry_of(range: ValueRange) -> Entry
@@ -145,343 +113,282 @@ pub fn entry_of(range: ValueRange) -> Entry
     }
 }
 
+pub fn bounds_by(op: BinaryOp, x: f64) -> ValueRange
+    ensures { result ≡ bounds_by op x }
+{
+    let unbounded = ValueRange::unbounded();
+    match op {
+        BinaryOp::Lt => unbounded.tighten_upper(x, false),
+        BinaryOp::LtEq => unbounded.tighten_upper(x, true),
+        BinaryOp::Gt => unbounded.tighten_lower(x, false),
+        BinaryOp::GtEq => unbounded.tighten_lower(x, true),
+        BinaryOp::Eq | BinaryOp::NotEq | BinaryOp::IsNotDistinctFrom => unbounded,
+    }
+}
+
 // ---- literals against ranges
 
-fn is_outside(n: Number, r: ValueRange) -> bool
-    ensures { result ≡ outside n r }
+fn is_outside(x: f64, r: ValueRange) -> bool
+    ensures { result ≡ outside (Some x) r }
 {
-    match n {
-        Number::Of(x) => {
-            let l = r.lower;
-            let u = r.upper;
-            let below = l.present & ((x < l.value) | ((x == l.value) & !l.inclusive));
-            let above = u.present & ((x > u.value) | ((x == u.value) & !u.inclusive));
-            below | above
-        }
-        Number::Nothing => false,
-    }
+    let ValueRange { lower, upper } = r;
+    let below = lower.present && (x < lower.value || (x == lower.value && !lower.inclusive));
+    let above = upper.present && (x > upper.value || (x == upper.value && !upper.inclusive));
+    below || above
 }
 
 pub fn is_crossed(h: Holder, e: Entry) -> bool
     ensures { result ≡ crossed h e }
 {
-    if !h.present {
-        return false;
-    }
-    if !e.present {
-        return false;
-    }
-    let v = h.value;
-    let r = e.range;
-    let n = scalar::scalar_to_f64(v);
-    is_outside(n, r)
+    h.present && e.present && scalar::scalar_to_f64(h.value).is_some_and(|x| is_outside(x, e.range))
 }
 
-pub fn cross_check_literals_and_ranges(s: ConstraintSet) -> ConstraintSet
-    ensures { result ≡ cross_check s }
+#[tactic(auto, using(lists::proofs::RangeLaws::any_loop))]
+fn any_crossed(s: &ConstraintSet) -> bool
+    ensures { result ≡ any_from (crossed_at s.now) 0 128 }
 {
-    let mut bad = false;
-    let mut i: usize = 0;
-    while i < 128 {
-        let h = s.literal_equalities[i];
-        let e = s.ranges[i];
-        let c = is_crossed(h, e);
-        bad = bad | c;
-        i += 1;
+    for i in 0..128 {
+        if is_crossed(s.literal_equalities[i], s.ranges[i]) {
+            return true;
+        }
     }
-    let mut t = s;
-    let was = t.contradictory;
-    t.contradictory = was | bad;
-    t
+    false
+}
+
+#[tactic(auto, unfolding(constraint_spec::specs::Sets::cross_check))]
+pub fn cross_check_literals_and_ranges(s: &mut ConstraintSet)
+    ensures { s.new ≡ cross_check s.old }
+{
+    s.contradictory = s.contradictory || any_crossed(s);
+}
+
+// ---- one thing more at a representative
+
+// A literal that differs from the one that is there sets the flag and is left out.
+#[tactic(auto, unfolding(constraint_spec::specs::Sets::put_literal))]
+fn put_literal(s: &mut ConstraintSet, root: usize, literal: ScalarValue)
+    requires { root < 128 }
+    ensures { s.new ≡ put_literal s.old root literal }
+{
+    let old = s.literal_equalities[root];
+    let clash = literal_clashes(old, literal);
+    s.literal_equalities[root] = literal_kept(clash, old, literal);
+    s.contradictory |= clash;
+}
+
+#[tactic(auto, unfolding(constraint_spec::specs::Sets::lay_range))]
+pub fn lay_range(s: &mut ConstraintSet, root: usize, range: ValueRange)
+    requires { root < 128 }
+    ensures { s.new ≡ lay_range s.old root range }
+{
+    s.ranges[root] = entry_of(tightened(s.ranges[root], range));
+}
+
+// The same with a test whether no number is left.
+#[tactic(auto, unfolding(constraint_spec::specs::Sets::lay_range, constraint_spec::specs::Sets::put_range))]
+fn put_range(s: &mut ConstraintSet, root: usize, range: ValueRange)
+    requires { root < 128 }
+    ensures { s.new ≡ put_range s.old root range }
+{
+    lay_range(s, root, range);
+    s.contradictory |= s.ranges[root].range.is_empty();
 }
 
 // ---- everything to the representatives, in three passes
 
-fn move_non_nulls(s: ConstraintSet) -> ConstraintSet
-    ensures { result ≡ non_nulls_moved s }
+#[tactic(auto, using(crate::proofs::Loops::null_loop))]
+fn move_non_nulls(s: &mut ConstraintSet)
+    ensures { s.new ≡ non_nulls_moved s.old }
 {
     let old = s.non_null_values;
-    let mut t = s;
-    let classes = t.equivalence_classes;
-    let none = [false; 128];
-    t.non_null_values = none;
-    let mut i: usize = 0;
-    while i < 128 {
+    s.non_null_values = [false; 128];
+    for i in 0..128 {
         if old[i] {
-            let r = classes.canonical(i);
-            t.non_null_values[r] = true;
+            let root = canonical(s, i);
+            s.non_null_values[root] = true;
         }
-        i += 1;
     }
-    t
 }
 
-fn move_literals(s: ConstraintSet) -> ConstraintSet
-    ensures { result ≡ literals_moved s }
+#[tactic(auto, using(crate::proofs::Loops::literal_loop))]
+fn move_literals(s: &mut ConstraintSet)
+    ensures { s.new ≡ literals_moved s.old }
 {
     let old = s.literal_equalities;
-    let mut t = s;
-    let classes = t.equivalence_classes;
-    let none = Holder::empty();
-    let nothing = [none; 128];
-    t.literal_equalities = nothing;
-    let mut i: usize = 0;
-    while i < 128 {
-        let h = old[i];
-        if h.present {
-            let l = h.value;
-            let r = classes.canonical(i);
-            let was = t.literal_equalities[r];
-            let clash = literal_clashes(was, l);
-            let now = literal_kept(clash, was, l);
-            let flag = t.contradictory;
-            t.literal_equalities[r] = now;
-            t.contradictory = flag | clash;
+    s.literal_equalities = [Holder::empty(); 128];
+    for i in 0..128 {
+        if old[i].present {
+            let root = canonical(s, i);
+            put_literal(s, root, old[i].value);
         }
-        i += 1;
     }
-    t
 }
 
-fn move_ranges(s: ConstraintSet) -> ConstraintSet
-    ensures { result ≡ ranges_moved s }
+#[tactic(auto, using(crate::proofs::Loops::range_loop))]
+fn move_ranges(s: &mut ConstraintSet)
+    ensures { s.new ≡ ranges_moved s.old }
 {
     let old = s.ranges;
-    let mut t = s;
-    let classes = t.equivalence_classes;
-    let none = Entry::empty();
-    let nothing = [none; 128];
-    t.ranges = nothing;
-    let mut i: usize = 0;
-    while i < 128 {
-        let e = old[i];
-        if e.present {
-            let new = e.range;
-            let r = classes.canonical(i);
-            let was = t.ranges[r];
-            let range = tightened(was, new);
-            let empty = range.is_empty();
-            let now = entry_of(range);
-            let flag = t.contradictory;
-            t.ranges[r] = now;
-            t.contradictory = flag | empty;
+    s.ranges = [Entry::empty(); 128];
+    for i in 0..128 {
+        if old[i].present {
+            let root = canonical(s, i);
+            put_range(s, root, old[i].range);
         }
-        i += 1;
     }
-    t
 }
 
-pub fn normalize(s: ConstraintSet) -> ConstraintSet
-    ensures { result ≡ normalized s }
+#[tactic(auto, unfolding(constraint_spec::specs::Sets::normalized))]
+pub fn normalize(s: &mut ConstraintSet)
+    ensures { s.new ≡ normalized s.old }
 {
-    let a = move_non_nulls(s);
-    let b = move_literals(a);
-    let c = move_ranges(b);
-    cross_check_literals_and_ranges(c)
+    move_non_nulls(s);
+    move_literals(s);
+    move_ranges(s);
+    cross_check_literals_and_ranges(s);
 }
 
 // ---- the operations
 
-pub fn union_values(s: ConstraintSet, left: usize, right: usize) -> ConstraintSet
-    ensures { result ≡ union_values s left right }
+pub fn union_values(s: &mut ConstraintSet, left: usize, right: usize)
+    ensures { s.new ≡ union_values s.old left right }
 {
-    let classes = s.equivalence_classes;
-    let u = classes.union(left, right);
-    if u.joined {
-        let k = u.classes;
-        let mut t = s;
-        t.equivalence_classes = k;
-        return normalize(t);
+    if s.equivalence_classes.union(left, right) {
+        normalize(s);
     }
-    s
 }
 
-// A literal at the representative r, which is then not NULL.
-fn put_literal(s: ConstraintSet, r: usize, literal: ScalarValue) -> ConstraintSet
-    requires { r < 128 }
-    ensures { result ≡ put_literal (put_non_null s r) r literal }
-{
-    let mut t = s;
-    let old = t.literal_equalities[r];
-    let clash = literal_clashes(old, literal);
-    let h = literal_kept(clash, old, literal);
-    let was = t.contradictory;
-    t.non_null_values[r] = true;
-    t.literal_equalities[r] = h;
-    t.contradictory = was | clash;
-    t
-}
-
-pub fn add_literal(s: ConstraintSet, value: usize, literal: ScalarValue) -> ConstraintSet
-    ensures { result ≡ add_literal s value literal }
-{
-    if 128 <= value {
-        return s;
-    }
-    if scalar::is_null(literal) {
-        let mut t = s;
-        t.contradictory = true;
-        return t;
-    }
-    let classes = s.equivalence_classes;
-    let r = classes.canonical(value);
-    let u = put_literal(s, r, literal);
-    cross_check_literals_and_ranges(u)
-}
-
-// The same where the set was checked before, if `checked` says so: only one place can have come to be crossed.
-fn lay_literal(s: ConstraintSet, value: usize, literal: ScalarValue, checked: bool) -> ConstraintSet
+// A literal of an identity. Where the set is known to be checked, only one place can have come to be crossed.
+#[tactic(auto, unfolding(constraint_spec::specs::Sets::put_non_null), using(crate::proofs::Checking::literal_laid))]
+fn lay_literal(s: &mut ConstraintSet, value: usize, literal: ScalarValue, checked: bool)
     requires value_bound { value < 128 }
-    requires checked { checked ≡ true → Checked s }
-    ensures { result ≡ add_literal s value literal }
+    requires checked { checked ≡ true → Checked s.old }
+    ensures { s.new ≡ add_literal s.old value literal }
 {
-    if !checked | scalar::is_null(literal) {
-        return add_literal(s, value, literal);
+    if literal.is_null() {
+        s.contradictory = true;
+        return;
     }
-    let classes = s.equivalence_classes;
-    let r = classes.canonical(value);
-    let mut u = put_literal(s, r, literal);
-    let h = u.literal_equalities[r];
-    let e = u.ranges[r];
-    let c = is_crossed(h, e);
-    let was = u.contradictory;
-    u.contradictory = was | c;
-    u
+    let root = canonical(s, value);
+    s.non_null_values[root] = true;
+    put_literal(s, root, literal);
+    if checked {
+        s.contradictory |= is_crossed(s.literal_equalities[root], s.ranges[root]);
+    } else {
+        cross_check_literals_and_ranges(s);
+    }
+}
+
+#[tactic(auto, using(crate::proofs::Checking::past_literal))]
+pub fn add_literal(s: &mut ConstraintSet, value: usize, literal: ScalarValue)
+    ensures { s.new ≡ add_literal s.old value literal }
+{
+    if value < ConstraintSet::IDENTITIES {
+        lay_literal(s, value, literal, false);
+    }
 }
 
 // The literals of another set, one after the other: the first checks all places, each later one its own.
-pub fn merge_literals(t: ConstraintSet, others: [Holder; 128]) -> ConstraintSet
-    ensures { result ≡ merge_literals t others }
+#[tactic(auto, using(crate::proofs::Loops::laid_loop, crate::proofs::Checking::checked_loop))]
+pub fn merge_literals(s: &mut ConstraintSet, others: &[Holder; 128])
+    ensures { s.new ≡ merge_literals s.old others.now }
 {
-    let mut q = t;
     let mut checked = false;
-    let mut i: usize = 0;
-    while i < 128 {
-        let h = others[i];
-        if h.present {
-            let l = h.value;
-            q = lay_literal(q, i, l, checked);
+    for i in 0..128 {
+        if others[i].present {
+            lay_literal(s, i, others[i].value, checked);
             checked = true;
         }
-        i += 1;
-    }
-    q
-}
-
-pub fn bounds_by(op: BinaryOp, x: f64) -> ValueRange
-    ensures { result ≡ bounds_by op x }
-{
-    let t = ValueRange::unbounded();
-    match op {
-        BinaryOp::Eq => t,
-        BinaryOp::NotEq => t,
-        BinaryOp::Lt => t.tighten_upper(x, false),
-        BinaryOp::LtEq => t.tighten_upper(x, true),
-        BinaryOp::Gt => t.tighten_lower(x, false),
-        BinaryOp::GtEq => t.tighten_lower(x, true),
-        BinaryOp::IsNotDistinctFrom => t,
     }
 }
 
-// ---- residuals
-
-fn has_handle(list: [u16; 64], count: usize, h: u16) -> bool
-    ensures { result ≡ has_in list count h }
+// A residual at the end, once for each handle.
+#[tactic(auto, using(crate::proofs::Residuals::residual_cases))]
+pub fn add_residual(s: &mut ConstraintSet, h: u16) -> Result<(), ConstraintError>
+    ensures { applied s.new result ≡ add_residual s.old h }
 {
-    let n = if count < 64 { count } else { 64 };
-    let mut i: usize = 0;
-    while i < n {
-        if list[i] == h {
-            return true;
-        }
-        i += 1;
+    let count = s.residuals.min(ConstraintSet::RESIDUALS);
+    if s.residual_predicates[..count].contains(&h) {
+        return Ok(());
     }
-    false
-}
-
-#[tactic(auto, unfolding(crate::specs::Kept::kept_by))]
-pub fn push_handle(list: [u16; 64], count: usize, h: u16) -> Kept
-    ensures { result ≡ kept_by list count h }
-{
-    if has_handle(list, count, h) {
-        return Kept {
-            list,
-            count,
-            refused: false,
-        };
+    if ConstraintSet::RESIDUALS <= s.residuals {
+        return Err(ConstraintError::Residuals);
     }
-    if 64 <= count {
-        return Kept {
-            list,
-            count,
-            refused: true,
-        };
-    }
-    let mut longer = list;
-    longer[count] = h;
-    Kept {
-        list: longer,
-        count: count + 1,
-        refused: false,
-    }
+    s.residual_predicates[s.residuals] = h;
+    s.residuals += 1;
+    Ok(())
 }
 
 // ---- two classes of a set in which everything stands at the representatives: only one place changes
 
+#[tactic(auto, unfolding(crate::specs::Settled::literal_on))]
 fn literal_on(old: Holder, new: Holder) -> Holder
     ensures { result ≡ literal_on old new }
 {
     if new.present {
-        let l = new.value;
-        let clash = literal_clashes(old, l);
-        return literal_kept(clash, old, l);
+        literal_kept(literal_clashes(old, new.value), old, new.value)
+    } else {
+        old
     }
-    old
 }
 
+#[tactic(auto, unfolding(crate::specs::Settled::literal_bad))]
 fn literal_bad(old: Holder, new: Holder) -> bool
     ensures { result ≡ literal_bad old new }
 {
-    if new.present {
-        let l = new.value;
-        return literal_clashes(old, l);
-    }
-    false
+    new.present && literal_clashes(old, new.value)
 }
 
+#[tactic(auto, unfolding(crate::specs::Settled::range_on))]
 fn range_on(old: Entry, new: Entry) -> Entry
     ensures { result ≡ range_on old new }
 {
     if new.present {
-        let r = new.range;
-        let range = tightened(old, r);
-        return entry_of(range);
+        entry_of(tightened(old, new.range))
+    } else {
+        old
     }
-    old
 }
 
+#[tactic(auto, unfolding(crate::specs::Settled::range_bad))]
 fn range_bad(old: Entry, new: Entry) -> bool
     ensures { result ≡ range_bad old new }
 {
-    if new.present {
-        let r = new.range;
-        let range = tightened(old, r);
-        return range.is_empty();
-    }
-    false
+    new.present && tightened(old, new.range).is_empty()
 }
 
+#[tactic(auto, unfolding(crate::specs::Settled::place_of))]
 pub fn place_of(h1: Holder, h2: Holder, e1: Entry, e2: Entry) -> Place
     ensures { result ≡ place_of h1 h2 e1 e2 }
 {
     let literal = literal_on(h1, h2);
     let entry = range_on(e1, e2);
-    let clash = literal_bad(h1, h2);
-    let empty = range_bad(e1, e2);
-    let crossed = is_crossed(literal, entry);
     Place {
         literal,
         entry,
-        bad: clash | empty | crossed,
+        bad: literal_bad(h1, h2) || range_bad(e1, e2) || is_crossed(literal, entry),
     }
+}
+
+// Two representatives made one: what stands at the higher comes to the lower.
+#[tactic(auto, unfolding(crate::specs::Settled::united_roots, crate::specs::Settled::null_on))]
+pub fn unite_roots(s: &mut ConstraintSet, low: usize, high: usize)
+    requires order { low < high }
+    requires high_bound { high < 128 }
+    ensures { s.new ≡ united_roots s.old low high }
+{
+    let place = place_of(
+        s.literal_equalities[low],
+        s.literal_equalities[high],
+        s.ranges[low],
+        s.ranges[high],
+    );
+    s.equivalence_classes.join_roots(low, high);
+    s.non_null_values[low] |= s.non_null_values[high];
+    s.non_null_values[high] = false;
+    s.literal_equalities[low] = place.literal;
+    s.literal_equalities[high] = Holder::empty();
+    s.ranges[low] = place.entry;
+    s.ranges[high] = Entry::empty();
+    s.contradictory |= place.bad;
 }

@@ -14,7 +14,7 @@ use Rattle.comparison.specs.Operators.{bounding}
 use Rattle.comparison.specs.declared.BinaryOp.{BinaryOp}
 use Rattle.constraint_spec.specs.Sets.{none, no_entry, classes_of, literal_at, non_null_at, entry_at, canonical_at, with_flag, with_non_nulls}
 use Rattle.constraint_spec.specs.Sets.{with_literals, with_ranges, put_non_null, put_literal, put_range, lay_range, cross_check, move_non_null}
-use Rattle.constraint_spec.specs.Sets.{move_literal, move_range, non_nulls_moved, literals_moved, ranges_moved, normalized, add_non_null, add_literal}
+use Rattle.constraint_spec.specs.Sets.{move_literal, move_range, steps_to, non_nulls_moved, literals_moved, ranges_moved, normalized, add_non_null, add_literal}
 use Rattle.constraint_spec.specs.Sets.{bounds_by, add_bound}
 use Rattle.constraint_spec.specs.declared.ConstraintSet.{ConstraintSet}
 use Rattle.constraint_spec.proofs.Steps.{steps-good}
@@ -51,30 +51,39 @@ module _ (s t : ConstraintSet) (b : Beside s t) where
   unfolding cross_check
   beside_check = record { classes = b.classes; handles = b.handles; count = b.count }
 
--- ---- the passes of normalize
+-- ---- the passes of normalize, after k identities and after all
 module _ (s t : ConstraintSet) (b : Beside s t) where
+  pub beside_nulls_to : (k : ℕ) → Beside s (steps_to (move_non_null t) k (with_non_nulls t (replicate 128 false)))
+  beside_nulls_to k =
+      steps-good (Beside s) (move_non_null t) k
+      (λ i h u e. cond_T_elim (Beside s) (non_null_at t i) (put_non_null u (canonical_at t i)) u (λ c. beside_null s u e (canonical_at t i)) e)
+      k (omega arith) (with_non_nulls t (replicate 128 false)) (record { classes = b.classes; handles = b.handles; count = b.count })
+
+  pub beside_literals_to : (k : ℕ) → Beside s (steps_to (move_literal t) k (with_literals t (replicate 128 none)))
+  beside_literals_to k =
+      steps-good (Beside s) (move_literal t) k
+      (λ i h u e. cond_T_elim (Beside s) (literal_at t i).present (put_literal u (canonical_at t i) (literal_at t i).value) u
+      (λ c. beside_literal s u e (canonical_at t i) (literal_at t i).value) e)
+      k (omega arith) (with_literals t (replicate 128 none)) (record { classes = b.classes; handles = b.handles; count = b.count })
+
+  pub beside_ranges_to : (k : ℕ) → Beside s (steps_to (move_range t) k (with_ranges t (replicate 128 no_entry)))
+  beside_ranges_to k =
+      steps-good (Beside s) (move_range t) k
+      (λ i h u e. cond_T_elim (Beside s) (entry_at t i).present (put_range u (canonical_at t i) (entry_at t i).range) u
+      (λ c. beside_range s u e (canonical_at t i) (entry_at t i).range) e)
+      k (omega arith) (with_ranges t (replicate 128 no_entry)) (record { classes = b.classes; handles = b.handles; count = b.count })
+
   pub beside_nulls : Beside s (non_nulls_moved t)
   unfolding non_nulls_moved
-  beside_nulls =
-      steps-good (Beside s) (move_non_null t) 128
-      (λ i h u e. cond_T_elim (Beside s) (non_null_at t i) (put_non_null u (canonical_at t i)) u (λ c. beside_null s u e (canonical_at t i)) e)
-      128 (omega arith) (with_non_nulls t (replicate 128 false)) (record { classes = b.classes; handles = b.handles; count = b.count })
+  beside_nulls = beside_nulls_to 128
 
   pub beside_literals : Beside s (literals_moved t)
   unfolding literals_moved
-  beside_literals =
-      steps-good (Beside s) (move_literal t) 128
-      (λ i h u e. cond_T_elim (Beside s) (literal_at t i).present (put_literal u (canonical_at t i) (literal_at t i).value) u
-      (λ c. beside_literal s u e (canonical_at t i) (literal_at t i).value) e)
-      128 (omega arith) (with_literals t (replicate 128 none)) (record { classes = b.classes; handles = b.handles; count = b.count })
+  beside_literals = beside_literals_to 128
 
   pub beside_ranges : Beside s (ranges_moved t)
   unfolding ranges_moved
-  beside_ranges =
-      steps-good (Beside s) (move_range t) 128
-      (λ i h u e. cond_T_elim (Beside s) (entry_at t i).present (put_range u (canonical_at t i) (entry_at t i).range) u
-      (λ c. beside_range s u e (canonical_at t i) (entry_at t i).range) e)
-      128 (omega arith) (with_ranges t (replicate 128 no_entry)) (record { classes = b.classes; handles = b.handles; count = b.count })
+  beside_ranges = beside_ranges_to 128
 
 pub beside_normalized : (s t : ConstraintSet) → Beside s t → Beside s (normalized t)
 unfolding normalized

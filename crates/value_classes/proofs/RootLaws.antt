@@ -44,6 +44,9 @@ parent_out p i g = elim (dec_lt i (length p)) [ yes h ↦ rw (lt-ltb _ _ h, le-l
 parent_small : (p : List ℕ) (i : ℕ) → i < length p → parent_in p i < length p
 parent_small p i h = elim (dec_lt (get_or p i 0) (length p)) [ yes g ↦ rw (parent_in_lem p i h g) g | no g ↦ rw (parent_out p i (omega arith)) h ]
 
+pub parent_below : (p : List ℕ) (n i x : ℕ) → length p ≡ n → x ≡ parent_in p i → i < n → x < n
+parent_below p n i x l e h = omega (arith, parent_small p i (omega arith))
+
 climb-small : (p : List ℕ) (k i : ℕ) → i < length p → climb p k i < length p
 unfolding climb
 climb-small p zero i h = h
@@ -73,7 +76,7 @@ unfolding climb
 climb-none p n k i h = let e : n - k ≡ 0 = omega arith in rw e
 
 -- what a walk up to a representative needs, one parent at a time
-pub ruleset climb_loop = (climb-own, climb-step, climb-none)
+pub ruleset climb_loop = (parent_below, climb-own, climb-step, climb-none)
 
 pub root-of-own : (p : List ℕ) (i : ℕ) → parent_in p i ≡ i → root_of p i ≡ i
 unfolding root_of

@@ -1,7 +1,7 @@
 // Which values are known to be the same, after the Rust's map of parents: an array over the identities, each its own parent at first.
 #![tactic(auto)]
 
-ghost use Rattle.std.specs.Prelude.{◌≡◌, cond, ◌&&◌, ltb};
+ghost use Rattle.std.specs.Prelude.{◌≡◌, ◌<◌, cond, ◌&&◌, ltb};
 ghost use Rattle.value_classes.specs.Parents.{parent_in};
 ghost use Rattle.value_classes.specs.Classes.{classes_ok, empty_classes, canonical_of, same_class, roots_joined, union_of};
 ghost use Rattle.value_classes.specs.Answers.{united};
@@ -68,7 +68,8 @@ impl ValueEquivalenceClasses {
     // The walk is bounded, so that a chain in a circle ends too.
     #[tactic(auto, unfolding(crate::specs::Parents::root_of), using(crate::proofs::RootLaws::climb_loop))]
     pub fn canonical(&self, value: usize) -> usize
-        ensures { result ≡ canonical_of self.now value }
+        ensures value { result ≡ canonical_of self.now value }
+        ensures small { value < 128 → result < 128 }
     {
         let mut current = value;
         for _ in 0..Self::IDENTITIES {

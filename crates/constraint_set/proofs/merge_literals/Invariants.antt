@@ -1,12 +1,7 @@
+use Rattle.std.proofs.Common.{◌≡◌, true}
 use Rattle.constraint_set.specs.Checked.{Checked}
-use Rattle.constraint_spec.specs.Sets.{steps_to, merge_literal}
-use mathlib.Core.Bool.{true}
-use Prim.Native.Nat.{◌≤◌, ◌-◌}
-use mathlib.Core.Path.{◌≡◌}
+use Rattle.constraint_set.proofs.Loops.{literals_laid}
 use Rattle.constraint_set.proofs.merge_literals.Given as goal
 
 abbrev pub invariant-loop-i : goal.invariant-loop-i
-invariant-loop-i l = (l.i ≤ 128) × (l.q ≡ steps_to (merge_literal l.others) l.i l.initial.q) × (l.checked ≡ true → Checked l.q)
-
-abbrev pub decreases-loop-i : goal.decreases-loop-i
-decreases-loop-i l = 128 - l.i
+invariant-loop-i l = (l.s ≡ literals_laid l.others l.fn.s l.i) × (l.checked ≡ true → Checked l.s)

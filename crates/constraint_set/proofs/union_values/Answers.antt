@@ -1,10 +1,8 @@
-use Rattle.constraint_spec.specs.Sets.{union_values}
+use Rattle.constraint_set.proofs.Loops.{union_idle, union_made}
 use Rattle.constraint_set.proofs.union_values.Goals as goal
 
-pub returns-then-u : goal.returns-then-u
-unfolding union_values
-returns-then-u c = rw (← c.union-u.ensures, c.if-u.true) c.normalize.ensures
+pub returns-then-union : goal.returns-then-union
+returns-then-union c = union_made c.args.s.now _ _ _ _ c.union.ensures _ c.if-union.true c.normalize.ensures
 
-pub returns : goal.returns
-unfolding union_values
-returns c = rw (← c.union-u.ensures, c.if-u.false)
+pub returns-else-union : goal.returns-else-union
+returns-else-union c = union_idle c.args.s.now _ _ _ _ c.union.ensures c.if-union.false

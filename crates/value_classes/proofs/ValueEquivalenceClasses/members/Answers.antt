@@ -9,7 +9,7 @@ use Rattle.value_classes.proofs.ValueEquivalenceClasses.members.Goals as goal
 pub loop-i-preserved : goal.loop-i-preserved
 loop-i-preserved c =
     let v = c.loop-i.invariant in
-    let e = c.canonical-root.ensures in
+    let e = c.canonical-root.ensures.value in
     let h : c.canonical-root.result < 128 = root_below _ 128 _ _ (search rules) e (omega arith) in (
       simp length-set v.0,
       simp length-set v.1,

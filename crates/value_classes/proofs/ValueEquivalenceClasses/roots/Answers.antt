@@ -21,5 +21,5 @@ loop-i-preserved c =
       | then-in_order+then-parent-i w ↦ (
           let ok = sym c.parents_ok-in_order.ensures ∙ w.if-in_order.true in
           rw w.of-is (more _ (root-known p l 128 i _ (search rules) ok c.from-parent.ensures w.if-parent-i.true (omega arith) v.1)))
-      | else-in_order w ↦ rw w.of-is (more _ w.canonical.ensures)
+      | else-in_order w ↦ rw w.of-is (more _ w.canonical.ensures.value)
     ]
