@@ -196,7 +196,7 @@ no_fault_back :
 unfolding fault_of
 no_fault_back r x n q a b c d e = rw (a, le-leb _ _ b, c, d, e)
 
-judged-step : (q : State) (x : Record) (t : State) → Judged q x t → judged_step q (row_of x.kind) x Ok tt ≡ t
+judged-step : (q : State) (x : Record) (t : State) → Judged q x t → judged_step q (row_of x.kind) x (Ok tt) ≡ t
 unfolding judged_step appended_step
 judged-step q x t j = rw j.added j.after
 
