@@ -8,14 +8,15 @@ ghost use Rattle.plan_data.specs.Nodes.{node_at, operands_of};
 ghost use Rattle.rows_spec.specs.Compare.{known, compared, compare_of, truth_of, of_truth};
 ghost use Rattle.rows_spec.specs.Values.{unary_of, none_of, join_of, nary_of, truths, value_in, values};
 ghost use Rattle.rows_spec.specs.Typing.{kind_at, boolean_at, unary_typed, flagged, wanted, node_typed, typed_at};
-ghost use Rattle.rows_spec.specs.Cells.{cell_at, cell_ok, cell_at_ok, row_ok};
+ghost use Rattle.rows_spec.specs.Cells as Cells;
+ghost use Rattle.rows_spec.specs.Cells.{cell_in, cell_at, cell_ok, row_ok};
 ghost use Rattle.rows_spec.specs.Evaluate.{value_on, typed, evaluate_of};
 
 use comparison::BinaryOp;
 use plan::{Expr, Items, Plan};
 use plan_data::{ExprData, NaryOp, Run, UnaryOp};
 use plan_kinds::Record;
-use rows_spec::{EvaluationError, Row};
+use rows_spec::{Cell, EvaluationError, Row};
 use scalar::{Kind, ScalarValue};
 
 // TRUE and FALSE of a test.
@@ -112,15 +113,23 @@ fn join(op: NaryOp, x: u8, y: u8) -> u8
     }
 }
 
-// The row's value of a column.
-fn cell_at(row: &Row, c: usize) -> ScalarValue
-    ensures { result ≡ cell_at row.now c }
+// The value of three numbers.
+fn value(cell: Cell) -> ScalarValue
+    ensures { result ≡ Cells.value_of cell }
 {
-    scalar::scalar_of(
-        lists::at(&row.case, c, 0),
-        lists::at(&row.code, c, 0),
-        lists::at(&row.bits, c, 0),
-    )
+    scalar::scalar_of(cell.case, cell.code, cell.bits)
+}
+
+// The cell of a column: past the last one stand zeros.
+fn cell_in(row: &Row, c: usize) -> Cell
+    ensures { result ≡ cell_in row.now c }
+{
+    let zeros = Cell {
+        case: 0,
+        code: 0,
+        bits: 0,
+    };
+    lists::at(&row.cells, c, zeros)
 }
 
 // The operands of an And or an Or: what of its run lies in the item table.
@@ -142,7 +151,7 @@ fn value_of(p: &Plan, row: &Row, below: usize, h: usize) -> ScalarValue
     }
     match plan_data::node_at(&p.expressions, h) {
         ExprData::Literal(v) => v,
-        ExprData::ColumnRef(c) => cell_at(row, usize::from(c.0)),
+        ExprData::ColumnRef(c) => value(cell_in(row, usize::from(c.0))),
         ExprData::Unary { op, expr } => unary(op, value_of(p, row, h, usize::from(expr.0))),
         ExprData::Binary { op, left, right } => {
             let v = value_of(p, row, h, usize::from(left.0));
@@ -246,37 +255,24 @@ fn typed_at(p: &Plan, h: usize) -> bool
 
 // Whether three numbers are a literal that is listed, NULL or of the kind k.
 #[tactic(auto, unfolding(rows_spec::specs::Cells::cell_ok, rows_spec::specs::Cells::listed_literal))]
-fn cell_ok(k: u8, case: u8, code: u8, bits: u64) -> bool
-    ensures { result ≡ cell_ok k case code bits }
+fn cell_ok(k: u8, cell: Cell) -> bool
+    ensures { result ≡ cell_ok k cell }
 {
-    let row = plan_kinds::row_of(case);
+    let row = plan_kinds::row_of(cell.case);
     let x = Record {
-        kind: case,
-        code,
+        kind: cell.case,
+        code: cell.code,
         a: 0,
         b: 0,
         c: 0,
         d: 0,
-        bits,
+        bits: cell.bits,
     };
-    let v = scalar::scalar_of(case, code, bits);
-    let fits = v.is_null() || v.kind() == Kind::from(k);
-    matches!(case, 0x10..=0x15)
+    let v = value(cell);
+    matches!(cell.case, 0x10..=0x15)
         && plan_kinds::code_ok(row, x)
         && plan_kinds::bits_ok(row, x)
-        && fits
-}
-
-// The same of column i and its value.
-fn cell_at_ok(p: &Plan, row: &Row, i: usize) -> bool
-    ensures { result ≡ cell_at_ok p.now.columns.kind row.now.case row.now.code row.now.bits i }
-{
-    cell_ok(
-        lists::at(&p.columns.kind, i, 0),
-        lists::at(&row.case, i, 0),
-        lists::at(&row.code, i, 0),
-        lists::at(&row.bits, i, 0),
-    )
+        && (v.is_null() || v.kind() == Kind::from(k))
 }
 
 // Whether a row has a value for every column of a plan, used or not.
@@ -285,7 +281,7 @@ pub fn row_ok(p: &Plan, row: &Row) -> bool
     ensures { result ≡ row_ok p.now row.now }
 {
     for i in 0..usize::from(p.columns.count) {
-        if !cell_at_ok(p, row, i) {
+        if !cell_ok(lists::at(&p.columns.kind, i, 0), cell_in(row, i)) {
             return false;
         }
     }

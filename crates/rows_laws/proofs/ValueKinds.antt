@@ -29,7 +29,7 @@ use Rattle.plan_data.specs.declared.ExprData.TheVariants.{Literal, ColumnRef, Un
 use Rattle.rows_spec.specs.Compare.{compare_of, truth_of, of_truth}
 use Rattle.rows_spec.specs.Values.{nary_of, truths, node_value, value_in, values}
 use Rattle.rows_spec.specs.Typing.{kind_of_node, kind_at, boolean_at, typed_at}
-use Rattle.rows_spec.specs.Cells.{cell_at, listed_literal, fits_kind, cell_ok, cell_at_ok, row_ok}
+use Rattle.rows_spec.specs.Cells.{cell_in, cell_at, listed_literal, fits_kind, cell_ok, cell_at_ok, row_ok}
 use Rattle.rows_spec.specs.Evaluate.{value_on, typed, evaluate_of}
 use Rattle.rows_spec.specs.declared.Row.{Row}
 use Rattle.rows_spec.specs.declared.EvaluationError.TheVariants.{NoSuch, Untyped, BadRow}
@@ -66,8 +66,8 @@ pub row_fits : (p : Plan) (row : Row) → row_ok p row ≡ true → (c : ℕ) �
     true
 unfolding cell_ok
 row_fits p row ok c lt =
-    and_right (listed_literal (get_or row.case c 0) (get_or row.code c 0) (get_or row.bits c 0)) _
-    (all-at (cell_at_ok p.columns.kind row.case row.code row.bits) p.columns.count 0 ok c (omega arith) (omega arith))
+    and_right (listed_literal (cell_in row c)) _
+    (all-at (cell_at_ok p.columns.kind row) p.columns.count 0 ok c (omega arith) (omega arith))
 
 -- the value of every expression is NULL or of its kind
 pub value-kind : (p : Plan) (row : Row) → plan_ok p ≡ true → row_ok p row ≡ true → (h : ℕ) → h < p.expressions.count

@@ -138,27 +138,27 @@ unfolding truths any_of
 or_nothing = refl
 
 -- a value of a row: NULL of any kind, or of the column's kind with its code and payload listed
-pub null_anywhere : cell_ok 2 0x10 5 0 ≡ true
+pub null_anywhere : cell_ok 2 (record { case = 0x10; code = 5; bits = 0 }) ≡ true
 unfolding cell_ok listed_literal row_of line_of bits_ok
 null_anywhere = refl
 
-pub int32_in_int32 : cell_ok 2 0x12 0 4294967295 ≡ true
+pub int32_in_int32 : cell_ok 2 (record { case = 0x12; code = 0; bits = 4294967295 }) ≡ true
 unfolding cell_ok listed_literal row_of line_of bits_ok
 int32_in_int32 = refl
 
-pub int64_in_int32 : cell_ok 2 0x13 0 7 ≡ false
+pub int64_in_int32 : cell_ok 2 (record { case = 0x13; code = 0; bits = 7 }) ≡ false
 unfolding cell_ok listed_literal row_of line_of bits_ok
 int64_in_int32 = refl
 
-pub payload_too_long : cell_ok 2 0x12 0 4294967296 ≡ false
+pub payload_too_long : cell_ok 2 (record { case = 0x12; code = 0; bits = 4294967296 }) ≡ false
 unfolding cell_ok listed_literal row_of line_of bits_ok
 payload_too_long = refl
 
-pub no_boolean : cell_ok 1 0x11 2 0 ≡ false
+pub no_boolean : cell_ok 1 (record { case = 0x11; code = 2; bits = 0 }) ≡ false
 unfolding cell_ok listed_literal row_of line_of bits_ok
 no_boolean = refl
 
-pub no_literal : cell_ok 1 0x20 0 0 ≡ false
+pub no_literal : cell_ok 1 (record { case = 0x20; code = 0; bits = 0 }) ≡ false
 unfolding cell_ok listed_literal row_of line_of bits_ok
 no_literal = refl
 

@@ -2,12 +2,18 @@
 // specs/, and what holds of it is proved in proofs/.
 #![tactic(auto)]
 
-// A value for every column, as the three numbers of a literal's record.
+// A value, as the three numbers of a literal's record.
+#[derive(Clone, Copy)]
+pub struct Cell {
+    pub case: u8,
+    pub code: u8,
+    pub bits: u64,
+}
+
+// A value for every column.
 #[derive(Clone, Copy)]
 pub struct Row {
-    pub case: [u8; 64],
-    pub code: [u8; 64],
-    pub bits: [u64; 64],
+    pub cells: [Cell; 64],
 }
 
 // Why an expression has no value on a row.
