@@ -1,13 +1,14 @@
 -- A union of two identities in a settled set joins their representatives, the higher to the lower. Assumes nothing.
-use Prim.Native.Nat.{ℕ, ◌<◌}
-use mathlib.Core.Path.{◌≡◌, refl, sym, ap, ◌∙◌}
+use Prim.Native.Nat.{ℕ, ◌<◌, min, max}
+use native.Mathlib.Decide.{dec_lt}
+use mathlib.Core.Path.{◌≡◌, refl, sym, ap, ap₂, ◌∙◌}
 use native.Mathlib.Omega.{arith}
 use Rattle.value_classes.specs.Classes.{joined_classes, roots_joined}
 use Rattle.value_classes.specs.declared.ValueEquivalenceClasses.{ValueEquivalenceClasses}
 use Rattle.value_classes.proofs.ClassLaws.{falling, canonical_small, canonical_idempotent, joined-to-left, joined-to-right}
 use Rattle.constraint_spec.specs.Sets.{classes_of, canonical_at, with_classes, normalized, union_values}
 use Rattle.constraint_spec.specs.declared.ConstraintSet.{ConstraintSet}
-use Rattle.constraint_spec.proofs.Operations.{union_two}
+use Rattle.constraint_spec.proofs.Operations.{union_one, union_two}
 use Rattle.constraint_set.specs.Settled.{Settled, united_roots}
 use Rattle.constraint_set.proofs.Settling.{joined-normalized}
 
@@ -37,3 +38,22 @@ module _ (s : ConstraintSet) (g : Settled s) where
     pub united-right : y < x → united_roots s y x ≡ union_values s i j
     united-right h =
         united-is y x h (canonical_low i hi) (canonical_own j) (joined-to-right (classes_of s) i j x y refl refl (omega arith)) (λ z. omega arith)
+
+-- as the code of `union_settled` says it
+module _ (s : ConstraintSet) (g : Settled s) (i j : ℕ) (hi : i < 128) (hj : j < 128) (a b : ℕ) (ea : a ≡ canonical_at s i) (eb : b ≡ canonical_at s j) where
+  pub union-apart : (u : ConstraintSet) (low high : ℕ) → (a ≡ b → ⊥) → low ≡ min a b → high ≡ max a b → u ≡ united_roots s low high → u ≡ union_values s i j
+  union-apart u low high n el eh e = elim (dec_lt a b) [
+    | yes h ↦ (
+        let l : low ≡ canonical_at s i = omega arith in
+        let k : high ≡ canonical_at s j = omega arith in
+        e ∙ ap₂ (united_roots s) l k ∙ united-left s g i j hi hj (omega arith))
+    | no h ↦ (
+        let l : low ≡ canonical_at s j = omega arith in
+        let k : high ≡ canonical_at s i = omega arith in
+        e ∙ ap₂ (united_roots s) l k ∙ united-right s g i j hi hj (omega arith))
+  ]
+
+  pub union-same : a ≡ b → s ≡ union_values s i j
+  union-same e = sym (union_one s i j hi hj (sym ea ∙ e ∙ eb))
+
+pub ruleset settled_union = (union-apart, union-same)

@@ -10,7 +10,7 @@ ghost use Rattle.constraint_spec.specs.Sets.{held, set_ok, canonical_at, entry_o
 ghost use Rattle.constraint_spec.specs.Sets.{crossed_at, cross_check, non_nulls_moved, literals_moved, ranges_moved, normalized, put_literal, lay_range, put_range};
 ghost use Rattle.constraint_spec.specs.Sets.{union_values, add_literal, bounds_by, merge_literals, add_residual};
 ghost use Rattle.constraint_set.specs.Checked.{Checked};
-ghost use Rattle.constraint_set.specs.Settled.{null_on, literal_on, literal_bad, range_on, range_bad, place_of, united_roots};
+ghost use Rattle.constraint_set.specs.Settled.{null_on, literal_on, literal_bad, range_on, range_bad, place_of, Settled, united_roots};
 
 use comparison::BinaryOp;
 use constraint_spec::{ConstraintError, ConstraintSet, Entry, Holder};
@@ -391,4 +391,19 @@ pub fn unite_roots(s: &mut ConstraintSet, low: usize, high: usize)
     s.ranges[low] = place.entry;
     s.ranges[high] = Entry::empty();
     s.contradictory |= place.bad;
+}
+
+// A union where everything is known to stand at the representatives.
+#[tactic(auto, using(crate::proofs::RootJoins::settled_union))]
+pub fn union_settled(s: &mut ConstraintSet, left: usize, right: usize)
+    requires settled { Settled s.old }
+    requires left_bound { left < 128 }
+    requires right_bound { right < 128 }
+    ensures { s.new ≡ union_values s.old left right }
+{
+    let left_root = canonical(s, left);
+    let right_root = canonical(s, right);
+    if left_root != right_root {
+        unite_roots(s, left_root.min(right_root), left_root.max(right_root));
+    }
 }
