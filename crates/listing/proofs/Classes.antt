@@ -1,12 +1,14 @@
--- The lines of classes: a line is written where there are two members, and the representatives may be read from a table. Assumes nothing.
-use Prim.Native.Nat.{ℕ, zero, suc, ◌≤◌, ◌<◌}
-use mathlib.Core.Bool.{cond}
+-- The lines of classes, with the representatives read from a table. Assumes nothing.
+use Prim.Native.Nat.{ℕ, zero, suc, ◌+◌, ◌<◌}
+use mathlib.Core.Bool.{Bool, true, false, cond}
 use mathlib.Core.List.{List, [], ◌∷◌, ◌++◌}
-use mathlib.Core.Path.{◌≡◌, refl, ap, subst, ◌∙◌}
+use mathlib.Core.Path.{◌≡◌, refl, sym, ap, ◌∙◌}
 use native.Mathlib.Omega.{arith}
-use borrow.Author.Tests.{le-leb, lt-leb}
+use Rattle.std.specs.Prelude.{count_by}
+use Rattle.std.proofs.lemmas.List.Recursion.{is_count_by}
 use lib.Dec.{eqb, leb}
-use lib.ListN.{get_or}
+use lib.ListN.{get_or, length}
+use Rattle.lists.specs.Ranges.{count_from}
 use Rattle.lists.proofs.RangeLaws.{count_same}
 use Rattle.plan_identities.specs.declared.Identities.{Identities}
 use Rattle.value_classes.specs.Classes.{canonical_of}
@@ -14,19 +16,9 @@ use Rattle.value_classes.specs.Listed.{roots_of}
 use Rattle.value_classes.specs.declared.ValueEquivalenceClasses.{ValueEquivalenceClasses}
 use Rattle.value_classes.specs.declared.Roots.{Roots}
 use Rattle.value_classes.proofs.MemberLaws.{roots_at}
-use Rattle.writing.specs.Text.{Wrote, lines}
-use Rattle.writing.proofs.Wrotes.{wrote_none}
+use Rattle.writing.specs.Text.{lines}
 use Rattle.listing_lines.specs.Lines.{member_text}
 use Rattle.listing.specs.Listing.{class_word, members_in, members_text, class_line, class_lines}
-
-pub class_none : (ids : Identities) (root : ℕ → ℕ) (r n : ℕ) (o : List ℕ) (a : ℕ) → n ≡ members_in root r → n < 2 → Wrote o a o a (class_line ids root r)
-unfolding class_line
-class_none ids root r n o a e l = rw (← e, lt-leb 2 n l) (wrote_none o a)
-
-pub class_wrote : (ids : Identities) (root : ℕ → ℕ) (r n : ℕ) (o : List ℕ) (a : ℕ) (q : List ℕ) (c : ℕ) → n ≡ members_in root r → 2 ≤ n
-    → Wrote o a q c (class_word ++ (members_text ids root r ++ (10 ∷ []))) → Wrote o a q c (class_line ids root r)
-unfolding class_line
-class_wrote ids root r n o a q c e l w = rw (← e, le-leb 2 n l) w
 
 pub lines_same : (n : ℕ) (f g : ℕ → List ℕ) → ((k : ℕ) → k < n → f k ≡ g k) → lines n f ≡ lines n g
 unfolding lines
@@ -55,6 +47,23 @@ pub table_same : (ids : Identities) (k : ValueEquivalenceClasses) (t : Roots) �
     → class_lines ids (λ (i : ℕ). get_or t.of i 0) ≡ class_lines ids (canonical_of k)
 table_same ids k t e = all_same ids (λ (i : ℕ). get_or t.of i 0) (canonical_of k) (λ i l. ap (λ (r : Roots). get_or r.of i 0) e ∙ roots_at k i l)
 
-pub table_wrote : (ids : Identities) (k : ValueEquivalenceClasses) (t : Roots) (o : List ℕ) (a : ℕ) (q : List ℕ) (c : ℕ) → t ≡ roots_of k
-    → Wrote o a q c (class_lines ids (λ (i : ℕ). get_or t.of i 0)) → Wrote o a q c (class_lines ids (canonical_of k))
-table_wrote ids k t o a q c e w = subst (λ (x : List ℕ). Wrote o a q c x) (table_same ids k t e) w
+-- a chain that counts in a list counts its places
+count_shift : (f : ℕ → Bool) (n i : ℕ) → count_from f (suc i) n ≡ count_from (λ (j : ℕ). f (suc j)) i n
+unfolding count_from
+count_shift f zero i = refl
+count_shift f (suc n) i = ap (λ (m : ℕ). cond (f (suc i)) 1 0 + m) (count_shift f n (suc i))
+
+pub counted : (p : ℕ → Bool) (xs : List ℕ) → count_by p xs ≡ count_from (λ (i : ℕ). p (get_or xs i 0)) 0 (length xs)
+unfolding count_from
+counted p xs = sym (is_count_by (λ (l : List ℕ). count_from (λ (i : ℕ). p (get_or l i 0)) 0 (length l)) p none more xs)
+  where
+    none : count_from (λ (i : ℕ). p (get_or [] i 0)) 0 0 ≡ 0
+    none = refl
+
+    one : (b : Bool) (m n : ℕ) → m ≡ n → cond b 1 0 + m ≡ cond b (1 + n) n
+    one true m n e = omega arith
+    one false m n e = omega arith
+
+    more : (x : ℕ) (l : List ℕ) → count_from (λ (i : ℕ). p (get_or (x ∷ l) i 0)) 0 (suc (length l))
+        ≡ cond (p x) (1 + count_from (λ (i : ℕ). p (get_or l i 0)) 0 (length l)) (count_from (λ (i : ℕ). p (get_or l i 0)) 0 (length l))
+    more x l = one (p x) _ _ (count_shift (λ (i : ℕ). p (get_or (x ∷ l) i 0)) (length l) 0)

@@ -1,4 +1,3 @@
 pub mod Loops
 pub mod Classes
-pub mod FactsTyped
 pub mod Lengths

@@ -1,18 +1,21 @@
--- A loop that writes line after line: one more line, and the end. Assumes nothing.
+-- A loop that writes line after line: no line, one more, and the end. Assumes nothing.
 use Prim.Native.Nat.{ℕ, ◌+◌}
 use mathlib.Core.List.{List}
-use mathlib.Core.Path.{◌≡◌, subst}
-use lib.ListN.{length}
-use Rattle.writing.specs.Text.{Wrote, lines}
-use Rattle.writing.proofs.Wrotes.{wrote_none, wrote_then, lines_more}
+use mathlib.Core.Path.{◌≡◌, sym}
+use Rattle.std.proofs.lemmas.List.{get_or-take}
+use Rattle.writing.specs.Text.{lines}
+use Rattle.writing.specs.Writers.{written}
+use Rattle.writing.specs.declared.Writer.{Writer}
+use Rattle.writing.proofs.Wrotes.{lines_more}
+use Rattle.writing.proofs.Writings.{written_none, written_then}
 
-pub line-none : (o : List ℕ) (a : ℕ) (f : ℕ → List ℕ) → Wrote o a o a (lines 0 f)
+pub line-none : (w : Writer) (f : ℕ → List ℕ) → written w (lines 0 f) ≡ w
 unfolding lines
-line-none o a f = wrote_none o a
+line-none w f = written_none w
 
-pub line-more : (o : List ℕ) (a : ℕ) (p : List ℕ) (b : ℕ) (q : List ℕ) (c : ℕ) (f : ℕ → List ℕ) (n : ℕ)
-    → Wrote o a p b (lines n f) → length p ≡ length o → Wrote p b q c (f n) → Wrote o a q c (lines (n + 1) f)
-line-more o a p b q c f n u e v = rw (lines_more n f) (wrote_then o a p b q c (lines n f) (f n) u e v)
+pub line-more : (w : Writer) (n : ℕ) (f : ℕ → List ℕ) → written w (lines (n + 1) f) ≡ written (written w (lines n f)) (f n)
+line-more w n f = rw (lines_more n f) (sym (written_then w (lines n f) (f n)))
 
-pub line-end : (o : List ℕ) (a : ℕ) (q : List ℕ) (r : ℕ) (f : ℕ → List ℕ) (n m : ℕ) → n ≡ m → Wrote o a q r (lines n f) → Wrote o a q r (lines m f)
-line-end o a q r f n m e w = subst (λ (k : ℕ). Wrote o a q r (lines k f)) e w
+pub ruleset line_loop = (line-none, line-more)
+
+pub ruleset part_loop = (line-none, line-more, get_or-take)

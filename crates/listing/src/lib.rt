@@ -1,181 +1,149 @@
-// The listing of facts, written into a buffer that the caller lends. What does not fit is left out; 16,384 bytes hold every listing.
-#![tactic(auto)]
+// The listing of facts, written by the caller's writer; 16,384 bytes hold every listing.
+#![tactic(auto, using(crate::proofs::Loops::line_loop))]
 
-ghost use Rattle.std.specs.Prelude.{◌≡◌, ℕ, ◌≤◌, eqb, get_or, length};
+ghost use Rattle.std.specs.Prelude.{◌≡◌, ℕ, ◌≤◌, ◌<◌, eqb, get_or, length};
 ghost use Rattle.lists.specs.Ranges.{count_from};
-ghost use Rattle.writing.specs.Text.{Wrote};
+ghost use Rattle.writing.specs.Writers.{written};
+ghost use Rattle.scalar.specs.Scalars.{Typed};
+ghost use Rattle.value_classes.specs.Classes.{canonical_of};
+ghost use Rattle.constraint_spec.specs.Sets.{none, handle_at, literal_at};
 ghost use Rattle.listing.specs.Listing.{column_lines, define_lines, members_in, members_text, class_line, class_lines, nonnull_lines, literal_lines};
 ghost use Rattle.listing.specs.Listing.{range_lines, residual_lines, set_text, listing_text, refused_line};
 
 use apply_spec::LogicalFacts;
 use constraint_spec::{ConstraintSet, Entry, Holder};
 use plan_identities::Identities;
+use value_classes::ValueEquivalenceClasses;
+use writing::Writer;
 
-fn column_lines(out: &mut [u8], at: usize, ids: Identities, lineage: [u8; 64]) -> usize
-    ensures { Wrote out.old at out.new result (column_lines ids lineage) }
+#[tactic(auto, using(crate::proofs::Loops::line_loop), unfolding(crate::specs::Listing::column_lines))]
+fn column_lines(w: &mut Writer, ids: &Identities, lineage: &[u8; 64])
+    ensures wrote { w.new ≡ written w.old (column_lines ids.now lineage.now) }
+    ensures fit { (c : ℕ) → get_or lineage.now c 0 < 256 }
 {
-    let mut p = at;
-    let mut c: usize = 0;
-    while c < 64 {
-        p = listing_lines::column_line(out, p, ids, c, lineage[c]);
-        c += 1;
+    for (c, v) in lineage.iter().enumerate() {
+        listing_lines::column_line(w, ids, c, *v);
     }
-    p
 }
 
-fn define_lines(out: &mut [u8], at: usize, definitions: [u16; 64]) -> usize
-    ensures { Wrote out.old at out.new result (define_lines definitions) }
+#[tactic(auto, using(crate::proofs::Loops::line_loop), unfolding(crate::specs::Listing::define_lines))]
+fn define_lines(w: &mut Writer, definitions: &[u16; 64])
+    ensures wrote { w.new ≡ written w.old (define_lines definitions.now) }
+    ensures fit { (c : ℕ) → get_or definitions.now c 0 < 65536 }
 {
-    let mut p = at;
-    let mut c: usize = 0;
-    while c < 64 {
-        p = listing_lines::define_line(out, p, c, definitions[c]);
-        c += 1;
+    for (c, d) in definitions.iter().enumerate() {
+        listing_lines::define_line(w, c, *d);
     }
-    p
 }
 
-fn members_in(roots: [u8; 128], r: u8) -> usize
-    ensures { result ≡ members_in (λ (i : ℕ). get_or roots i 0) r }
+#[tactic(auto, using(crate::proofs::Classes::counted), unfolding(crate::specs::Listing::members_in))]
+fn members_in(roots: &[u8; 128], r: u8) -> usize
+    ensures { result ≡ members_in (λ (i : ℕ). get_or roots.now i 0) r }
 {
-    let mut found: usize = 0;
-    let mut i: usize = 0;
-    while i < 128 {
-        if roots[i] == r {
-            found += 1;
-        }
-        i += 1;
+    roots.iter().filter(|root| **root == r).count()
+}
+
+#[tactic(auto, using(crate::proofs::Loops::line_loop), unfolding(crate::specs::Listing::members_text))]
+fn members(w: &mut Writer, ids: &Identities, roots: &[u8; 128], r: u8)
+    ensures { w.new ≡ written w.old (members_text ids.now (λ (i : ℕ). get_or roots.now i 0) r) }
+{
+    for (i, root) in roots.iter().enumerate() {
+        listing_lines::member(w, ids, *root, r, i as u8);
     }
-    found
 }
 
-fn members_text(out: &mut [u8], at: usize, ids: Identities, roots: [u8; 128], r: u8) -> usize
-    ensures { Wrote out.old at out.new result (members_text ids (λ (i : ℕ). get_or roots i 0) r) }
+#[tactic(auto, using(writing::proofs::Writings::line_steps), unfolding(crate::specs::Listing::class_line))]
+fn class_line(w: &mut Writer, ids: &Identities, roots: &[u8; 128], r: u8)
+    ensures { w.new ≡ written w.old (class_line ids.now (λ (i : ℕ). get_or roots.now i 0) r) }
 {
-    let mut p = at;
-    let mut i: u8 = 0;
-    while i < 128 {
-        p = listing_lines::member(out, p, ids, roots[i as usize], r, i);
-        i += 1;
+    if 2 <= members_in(roots, r) {
+        w.text(b"class");
+        members(w, ids, roots, r);
+        w.byte(b'\n');
     }
-    p
 }
 
-fn class_line(out: &mut [u8], at: usize, ids: Identities, roots: [u8; 128], r: u8) -> usize
-    ensures { Wrote out.old at out.new result (class_line ids (λ (i : ℕ). get_or roots i 0) r) }
+#[tactic(auto, using(crate::proofs::Loops::line_loop), unfolding(crate::specs::Listing::class_lines))]
+fn class_lines(w: &mut Writer, ids: &Identities, classes: &ValueEquivalenceClasses)
+    ensures { w.new ≡ written w.old (class_lines ids.now (canonical_of classes.now)) }
 {
-    let n = members_in(roots, r);
-    if n < 2 {
-        return at;
+    let roots = classes.roots();
+    for r in 0..128 {
+        class_line(w, ids, &roots.of, r);
     }
-    let p = writing::text(out, at, b"class");
-    let s = members_text(out, p, ids, roots, r);
-    writing::byte(out, s, 10)
 }
 
-fn class_lines(out: &mut [u8], at: usize, ids: Identities, roots: [u8; 128]) -> usize
-    ensures { Wrote out.old at out.new result (class_lines ids (λ (i : ℕ). get_or roots i 0)) }
+#[tactic(auto, using(crate::proofs::Loops::line_loop), unfolding(crate::specs::Listing::nonnull_lines))]
+fn nonnull_lines(w: &mut Writer, ids: &Identities, flags: &[bool; 128])
+    ensures { w.new ≡ written w.old (nonnull_lines ids.now flags.now) }
 {
-    let mut p = at;
-    let mut r: u8 = 0;
-    while r < 128 {
-        p = class_line(out, p, ids, roots, r);
-        r += 1;
+    for (i, flag) in flags.iter().enumerate() {
+        listing_lines::nonnull_line(w, ids, i as u8, *flag);
     }
-    p
 }
 
-fn nonnull_lines(out: &mut [u8], at: usize, ids: Identities, flags: [bool; 128]) -> usize
-    ensures { Wrote out.old at out.new result (nonnull_lines ids flags) }
+#[tactic(auto, using(crate::proofs::Loops::line_loop), unfolding(crate::specs::Listing::literal_lines))]
+fn literal_lines(w: &mut Writer, ids: &Identities, held: &[Holder; 128])
+    ensures wrote { w.new ≡ written w.old (literal_lines ids.now held.now) }
+    ensures typed { (i : ℕ) → Typed (get_or held.now i none).value }
 {
-    let mut p = at;
-    let mut i: u8 = 0;
-    while i < 128 {
-        p = listing_lines::nonnull_line(out, p, ids, i, flags[i as usize]);
-        i += 1;
+    for (i, h) in held.iter().enumerate() {
+        listing_lines::literal_line(w, ids, i as u8, *h);
     }
-    p
 }
 
-fn literal_lines(out: &mut [u8], at: usize, ids: Identities, held: [Holder; 128]) -> usize
-    ensures { Wrote out.old at out.new result (literal_lines ids held) }
+#[tactic(auto, using(crate::proofs::Loops::line_loop), unfolding(crate::specs::Listing::range_lines))]
+fn range_lines(w: &mut Writer, ids: &Identities, ranges: &[Entry; 128])
+    ensures { w.new ≡ written w.old (range_lines ids.now ranges.now) }
 {
-    let mut p = at;
-    let mut i: u8 = 0;
-    while i < 128 {
-        let h = held[i as usize];
-        p = listing_lines::literal_line(out, p, ids, i, h);
-        i += 1;
+    for (i, e) in ranges.iter().enumerate() {
+        listing_lines::range_line(w, ids, i as u8, *e);
     }
-    p
 }
 
-fn range_lines(out: &mut [u8], at: usize, ids: Identities, ranges: [Entry; 128]) -> usize
-    ensures { Wrote out.old at out.new result (range_lines ids ranges) }
+#[tactic(auto, using(crate::proofs::Loops::part_loop), unfolding(crate::specs::Listing::residual_lines))]
+fn residual_lines(w: &mut Writer, list: &[u16; 64], n: usize)
+    ensures wrote { w.new ≡ written w.old (residual_lines list.now n) }
+    ensures fit { (k : ℕ) → get_or list.now k 0 < 65536 }
 {
-    let mut p = at;
-    let mut i: u8 = 0;
-    while i < 128 {
-        let e = ranges[i as usize];
-        p = listing_lines::range_line(out, p, ids, i, e);
-        i += 1;
+    for e in &list[..n.min(64)] {
+        listing_lines::residual_line(w, *e);
     }
-    p
 }
 
-fn residual_lines(out: &mut [u8], at: usize, list: [u16; 64], n: usize) -> usize
-    ensures { Wrote out.old at out.new result (residual_lines list n) }
+#[tactic(auto, using(writing::proofs::Writings::steps), unfolding(crate::specs::Listing::set_text))]
+fn set(w: &mut Writer, ids: &Identities, s: &ConstraintSet)
+    ensures wrote { w.new ≡ written w.old (set_text ids.now s.now) }
+    ensures handles { (k : ℕ) → handle_at s.now k < 65536 }
+    ensures literals { (i : ℕ) → Typed (literal_at s.now i).value }
 {
-    let end: usize = if n < 64 { n } else { 64 };
-    let mut p = at;
-    let mut k: usize = 0;
-    while k < end {
-        p = listing_lines::residual_line(out, p, list[k]);
-        k += 1;
-    }
-    p
+    class_lines(w, ids, &s.equivalence_classes);
+    nonnull_lines(w, ids, &s.non_null_values);
+    literal_lines(w, ids, &s.literal_equalities);
+    range_lines(w, ids, &s.ranges);
+    residual_lines(w, &s.residual_predicates, s.residuals);
 }
 
-fn set_text(out: &mut [u8], at: usize, ids: Identities, s: ConstraintSet) -> usize
-    ensures { Wrote out.old at out.new result (set_text ids s) }
+// The listing of the facts f of operator h. No listing is longer than 16,157 bytes, and none of facts over a plan than 15,948 (proofs/Lengths).
+#[tactic(auto, using(writing::proofs::Writings::steps), unfolding(crate::specs::Listing::listing_text))]
+pub fn listing(w: &mut Writer, h: usize, ids: &Identities, f: &LogicalFacts)
+    ensures wrote { w.new ≡ written w.old (listing_text h ids.now f.now) }
+    ensures short { length (listing_text h ids.now f.now) ≤ 16157 }
 {
-    let classes = s.equivalence_classes;
-    let flags = s.non_null_values;
-    let held = s.literal_equalities;
-    let ranges = s.ranges;
-    let list = s.residual_predicates;
-    let n = s.residuals;
-    let table = classes.roots();
-    let roots = table.of;
-    let p1 = class_lines(out, at, ids, roots);
-    let p2 = nonnull_lines(out, p1, ids, flags);
-    let p3 = literal_lines(out, p2, ids, held);
-    let p4 = range_lines(out, p3, ids, ranges);
-    residual_lines(out, p4, list, n)
-}
-
-// The listing of the facts f of operator h, from the place `at` on; the answer is where it ends. No listing is longer than 16,157 bytes,
-// and none of facts over a plan than 15,948 (proofs/Lengths).
-pub fn listing(out: &mut [u8], at: usize, h: usize, ids: Identities, f: LogicalFacts) -> usize
-    ensures wrote { Wrote out.old at out.new result (listing_text h ids f) }
-    ensures short { length (listing_text h ids f) ≤ 16157 }
-{
-    let lineage = f.lineage;
-    let definitions = f.definitions;
-    let s = f.constraints;
-    let p1 = listing_lines::header(out, at, h, s.contradictory);
-    let p2 = column_lines(out, p1, ids, lineage);
-    let p3 = define_lines(out, p2, definitions);
-    set_text(out, p3, ids, s)
+    listing_lines::header(w, h, f.constraints.contradictory);
+    column_lines(w, ids, &f.lineage);
+    define_lines(w, &f.definitions);
+    set(w, ids, &f.constraints);
 }
 
 // The line of a refusal with its number and place.
-pub fn refused(out: &mut [u8], n: usize, p: usize) -> usize
-    ensures { Wrote out.old 0 out.new result (refused_line n p) }
+#[tactic(auto, using(writing::proofs::Writings::steps), unfolding(crate::specs::Listing::refused_line))]
+pub fn refused(w: &mut Writer, n: usize, p: usize)
+    ensures { w.new ≡ written w.old (refused_line n p) }
 {
-    let a = writing::text(out, 0, b"refused ");
-    let b = writing::decimal(out, a, n as u64);
-    let c = writing::byte(out, b, 32);
-    let d = writing::decimal(out, c, p as u64);
-    writing::byte(out, d, 10)
+    w.text(b"refused ");
+    w.decimal(n as u64);
+    w.byte(b' ');
+    w.decimal(p as u64);
+    w.byte(b'\n');
 }

@@ -1,8 +1,9 @@
-// The lines of a listing, each written into a buffer that the caller lends. What does not fit is left out.
-#![tactic(auto)]
+// The lines of a listing.
+#![tactic(auto, using(writing::proofs::Writings::steps))]
 
 ghost use Rattle.std.specs.Prelude.{◌≡◌, ℕ, ◌-◌};
-ghost use Rattle.writing.specs.Text.{Wrote};
+ghost use Rattle.scalar.specs.Scalars.{Typed};
+ghost use Rattle.writing.specs.Writers.{written};
 ghost use Rattle.listing_lines.specs.Lines.{flag_text, id_text, name_text, header_line, column_line, define_line, member_text, nonnull_line, kind_word};
 ghost use Rattle.listing_lines.specs.Lines.{value_text, literal_line, form_text, bound_text, range_line, residual_line};
 
@@ -10,185 +11,172 @@ use constraint_spec::{Entry, Holder};
 use plan_identities::{Identities, ValueId};
 use scalar::{Kind, ScalarValue};
 use value_range::Bound;
+use writing::Writer;
 
-// 1 or 0.
-fn flag(out: &mut [u8], at: usize, b: bool) -> usize
-    ensures { Wrote out.old at out.new result (flag_text b) }
+fn flag(w: &mut Writer, b: bool)
+    ensures { w.new ≡ written w.old (flag_text b) }
 {
-    if b {
-        return writing::byte(out, at, 49);
-    }
-    writing::byte(out, at, 48)
+    w.byte(if b { b'1' } else { b'0' });
 }
 
 // b or d, and the column.
-fn id_text(out: &mut [u8], at: usize, v: ValueId) -> usize
-    ensures { Wrote out.old at out.new result (id_text v) }
+fn id(w: &mut Writer, v: ValueId)
+    ensures { w.new ≡ written w.old (id_text v) }
 {
     match v {
         ValueId::Base(c) => {
-            let p = writing::byte(out, at, 98);
-            writing::decimal(out, p, c.0 as u64)
+            w.byte(b'b');
+            w.decimal(u64::from(c.0));
         }
         ValueId::Derived(c) => {
-            let p = writing::byte(out, at, 100);
-            writing::decimal(out, p, c.0 as u64)
+            w.byte(b'd');
+            w.decimal(u64::from(c.0));
         }
     }
 }
 
 // The name of the identity with a number.
-pub fn name(out: &mut [u8], at: usize, ids: Identities, i: u8) -> usize
-    ensures { Wrote out.old at out.new result (name_text ids i) }
+#[tactic(auto, unfolding(crate::specs::Lines::name_text))]
+pub fn name(w: &mut Writer, ids: &Identities, i: u8)
+    ensures { w.new ≡ written w.old (name_text ids.now i) }
 {
-    let v = plan_identities::value_id(ids, i);
-    id_text(out, at, v)
+    id(w, plan_identities::value_id(ids, i));
 }
 
-pub fn header(out: &mut [u8], at: usize, h: usize, contradictory: bool) -> usize
-    ensures { Wrote out.old at out.new result (header_line h contradictory) }
+#[tactic(auto, using(writing::proofs::Writings::steps), unfolding(crate::specs::Lines::header_line))]
+pub fn header(w: &mut Writer, h: usize, contradictory: bool)
+    ensures { w.new ≡ written w.old (header_line h contradictory) }
 {
-    let p = writing::text(out, at, b"facts ");
-    let q = writing::decimal(out, p, h as u64);
-    let s = writing::byte(out, q, 32);
-    let t = flag(out, s, contradictory);
-    writing::byte(out, t, 10)
+    w.text(b"facts ");
+    w.decimal(h as u64);
+    w.byte(b' ');
+    flag(w, contradictory);
+    w.byte(b'\n');
 }
 
 // A column's identity, from its entry in the lineage.
-pub fn column_line(out: &mut [u8], at: usize, ids: Identities, c: usize, v: u8) -> usize
-    ensures { Wrote out.old at out.new result (column_line ids c v) }
+#[tactic(auto, using(writing::proofs::Writings::line_steps), unfolding(crate::specs::Lines::column_line))]
+pub fn column_line(w: &mut Writer, ids: &Identities, c: usize, v: u8)
+    ensures { w.new ≡ written w.old (column_line ids.now c v) }
 {
-    if v == 0 {
-        return at;
+    if v != 0 {
+        w.text(b"column ");
+        w.decimal(c as u64);
+        w.byte(b' ');
+        name(w, ids, v - 1);
+        w.byte(b'\n');
     }
-    let p = writing::text(out, at, b"column ");
-    let q = writing::decimal(out, p, c as u64);
-    let s = writing::byte(out, q, 32);
-    let t = name(out, s, ids, v - 1);
-    writing::byte(out, t, 10)
 }
 
-pub fn define_line(out: &mut [u8], at: usize, c: usize, d: u16) -> usize
-    ensures { Wrote out.old at out.new result (define_line c d) }
+#[tactic(auto, using(writing::proofs::Writings::line_steps), unfolding(crate::specs::Lines::define_line))]
+pub fn define_line(w: &mut Writer, c: usize, d: u16)
+    ensures { w.new ≡ written w.old (define_line c d) }
 {
-    if d == 0 {
-        return at;
+    if d != 0 {
+        w.text(b"define ");
+        w.decimal(c as u64);
+        w.text(b" e");
+        w.decimal(u64::from(d - 1));
+        w.byte(b'\n');
     }
-    let p = writing::text(out, at, b"define ");
-    let q = writing::decimal(out, p, c as u64);
-    let s = writing::text(out, q, b" e");
-    let t = writing::decimal(out, s, (d - 1) as u64);
-    writing::byte(out, t, 10)
 }
 
-pub fn nonnull_line(out: &mut [u8], at: usize, ids: Identities, i: u8, b: bool) -> usize
-    ensures { Wrote out.old at out.new result (nonnull_line ids i b) }
+#[tactic(auto, using(writing::proofs::Writings::line_steps), unfolding(crate::specs::Lines::nonnull_line))]
+pub fn nonnull_line(w: &mut Writer, ids: &Identities, i: u8, b: bool)
+    ensures { w.new ≡ written w.old (nonnull_line ids.now i b) }
 {
-    if !b {
-        return at;
+    if b {
+        w.text(b"nonnull ");
+        name(w, ids, i);
+        w.byte(b'\n');
     }
-    let p = writing::text(out, at, b"nonnull ");
-    let q = name(out, p, ids, i);
-    writing::byte(out, q, 10)
 }
 
-pub fn residual_line(out: &mut [u8], at: usize, e: u16) -> usize
-    ensures { Wrote out.old at out.new result (residual_line e) }
+#[tactic(auto, using(writing::proofs::Writings::steps), unfolding(crate::specs::Lines::residual_line))]
+pub fn residual_line(w: &mut Writer, e: u16)
+    ensures { w.new ≡ written w.old (residual_line e) }
 {
-    let p = writing::text(out, at, b"residual e");
-    let q = writing::decimal(out, p, e as u64);
-    writing::byte(out, q, 10)
+    w.text(b"residual e");
+    w.decimal(u64::from(e));
+    w.byte(b'\n');
 }
 
 // A member of a class, where root, the representative of i, is that of the class.
-pub fn member(out: &mut [u8], at: usize, ids: Identities, root: u8, r: u8, i: u8) -> usize
-    ensures { Wrote out.old at out.new result (member_text ids root r i) }
+#[tactic(auto, using(writing::proofs::Writings::line_steps), unfolding(crate::specs::Lines::member_text))]
+pub fn member(w: &mut Writer, ids: &Identities, root: u8, r: u8, i: u8)
+    ensures { w.new ≡ written w.old (member_text ids.now root r i) }
 {
     if root == r {
-        let p = writing::byte(out, at, 32);
-        return name(out, p, ids, i);
+        w.byte(b' ');
+        name(w, ids, i);
     }
-    at
 }
 
-fn kind_word(out: &mut [u8], at: usize, k: Kind) -> usize
-    ensures { Wrote out.old at out.new result (kind_word k) }
+fn kind_word(w: &mut Writer, k: Kind)
+    ensures { w.new ≡ written w.old (kind_word k) }
 {
-    match k {
-        Kind::Boolean => writing::text(out, at, b" bool "),
-        Kind::Int32 => writing::text(out, at, b" i32 "),
-        Kind::Int64 => writing::text(out, at, b" i64 "),
-        Kind::Float64 => writing::text(out, at, b" f64 "),
-        Kind::Date32 => writing::text(out, at, b" date "),
-    }
+    w.text(match k {
+        Kind::Boolean => b" bool ",
+        Kind::Int32 => b" i32 ",
+        Kind::Int64 => b" i64 ",
+        Kind::Float64 => b" f64 ",
+        Kind::Date32 => b" date ",
+    });
 }
 
 // Kind and value.
-fn value_text(out: &mut [u8], at: usize, v: ScalarValue) -> usize
-    ensures { Wrote out.old at out.new result (value_text v) }
+#[tactic(auto, using(writing::proofs::Writings::line_steps), unfolding(crate::specs::Lines::value_text))]
+fn value(w: &mut Writer, v: ScalarValue)
+    ensures { w.new ≡ written w.old (value_text v) }
 {
-    let p = kind_word(out, at, scalar::kind_of(v));
+    kind_word(w, v.kind());
     match v {
-        ScalarValue::Null(_) => p,
-        ScalarValue::Boolean(b) => flag(out, p, b),
-        ScalarValue::Int32(n) => writing::signed(out, p, n as i64),
-        ScalarValue::Int64(n) => writing::signed(out, p, n),
-        ScalarValue::Float64(x) => writing::hex(out, p, scalar::bits_of_float(x), 16),
-        ScalarValue::Date32(n) => writing::signed(out, p, n as i64),
+        ScalarValue::Null(_) => {}
+        ScalarValue::Boolean(b) => flag(w, b),
+        ScalarValue::Int32(n) => w.signed(i64::from(n)),
+        ScalarValue::Int64(n) => w.signed(n),
+        ScalarValue::Float64(x) => w.hex(scalar::bits_of_float(x), 16),
+        ScalarValue::Date32(n) => w.signed(i64::from(n)),
     }
 }
 
-pub fn literal_line(out: &mut [u8], at: usize, ids: Identities, i: u8, h: Holder) -> usize
-    ensures { Wrote out.old at out.new result (literal_line ids i h) }
+#[tactic(auto, using(writing::proofs::Writings::line_steps), unfolding(crate::specs::Lines::literal_line))]
+pub fn literal_line(w: &mut Writer, ids: &Identities, i: u8, h: Holder)
+    ensures wrote { w.new ≡ written w.old (literal_line ids.now i h) }
+    ensures typed { Typed h.value }
 {
-    if !h.present {
-        return at;
+    if h.present {
+        w.text(b"literal ");
+        name(w, ids, i);
+        value(w, h.value);
+        w.byte(b'\n');
     }
-    let v = h.value;
-    let p = writing::text(out, at, b"literal ");
-    let q = name(out, p, ids, i);
-    let s = value_text(out, q, v);
-    writing::byte(out, s, 10)
 }
 
-// i for an inclusive end, x for an exclusive one.
-fn form(out: &mut [u8], at: usize, inclusive: bool) -> usize
-    ensures { Wrote out.old at out.new result (form_text inclusive) }
+// An end of a range: its value, and i for an inclusive one, x for an exclusive one.
+#[tactic(auto, using(writing::proofs::Writings::line_steps), unfolding(crate::specs::Lines::bound_text))]
+fn bound(w: &mut Writer, b: Bound)
+    ensures { w.new ≡ written w.old (bound_text b) }
 {
-    if inclusive {
-        return writing::byte(out, at, 105);
-    }
-    writing::byte(out, at, 120)
-}
-
-// An end of a range.
-fn bound(out: &mut [u8], at: usize, b: Bound) -> usize
-    ensures { Wrote out.old at out.new result (bound_text b) }
-{
-    let inclusive = b.inclusive;
-    let bits = scalar::bits_of_float(b.value);
     if b.present {
-        let p = writing::hex(out, at, bits, 16);
-        return form(out, p, inclusive);
+        w.hex(scalar::bits_of_float(b.value), 16);
+        w.byte(if b.inclusive { b'i' } else { b'x' });
+    } else {
+        w.byte(b'-');
     }
-    writing::byte(out, at, 45)
 }
 
-pub fn range_line(out: &mut [u8], at: usize, ids: Identities, i: u8, e: Entry) -> usize
-    ensures { Wrote out.old at out.new result (range_line ids i e) }
+#[tactic(auto, using(writing::proofs::Writings::line_steps), unfolding(crate::specs::Lines::range_line))]
+pub fn range_line(w: &mut Writer, ids: &Identities, i: u8, e: Entry)
+    ensures { w.new ≡ written w.old (range_line ids.now i e) }
 {
-    if !e.present {
-        return at;
+    if e.present {
+        w.text(b"range ");
+        name(w, ids, i);
+        w.byte(b' ');
+        bound(w, e.range.lower);
+        w.byte(b' ');
+        bound(w, e.range.upper);
+        w.byte(b'\n');
     }
-    let range = e.range;
-    let lower = range.lower;
-    let upper = range.upper;
-    let p = writing::text(out, at, b"range ");
-    let q = name(out, p, ids, i);
-    let s = writing::byte(out, q, 32);
-    let t = bound(out, s, lower);
-    let u = writing::byte(out, t, 32);
-    let v = bound(out, u, upper);
-    writing::byte(out, v, 10)
 }

@@ -50,8 +50,10 @@ written_out o w v b q h k e f = (
   ap (λ (x : Writer). x.at) e ∙ (λ i. after (length (h i)) (k i) (length b)),
 )
 
--- what the texts of several parts need
+-- what the texts of several parts need; and those that are nothing at some values
 pub ruleset steps = (written_then, append_assoc)
+
+pub ruleset line_steps = (written_then, written_none, append_assoc)
 
 pub ruleset decimal_steps = (written_then, decimal_low, decimal_high)
 

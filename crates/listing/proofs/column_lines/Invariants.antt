@@ -1,17 +1,10 @@
-use Prim.Native.Nat.{ℕ, ◌≤◌, ◌-◌}
-use mathlib.Core.List.{List}
+use Prim.Native.Nat.{ℕ}
 use mathlib.Core.Path.{◌≡◌}
-use lib.ListN.{length, get_or}
-use Rattle.writing.specs.Text.{Wrote, lines}
-use Rattle.plan_identities.specs.declared.Identities.{Identities}
+use lib.ListN.{get_or}
+use Rattle.writing.specs.Text.{lines}
+use Rattle.writing.specs.Writers.{written}
 use Rattle.listing_lines.specs.Lines.{column_line}
 use Rattle.listing.proofs.column_lines.Given as goal
 
-abbrev pub line : Identities → List ℕ → ℕ → List ℕ
-line ids lineage j = column_line ids j (get_or lineage j 0)
-
 abbrev pub invariant-loop-c : goal.invariant-loop-c
-invariant-loop-c l = (l.c ≤ 64) × (length l.out ≡ length l.initial.out) × Wrote l.initial.out l.at l.out l.p (lines l.c (line l.ids l.lineage))
-
-abbrev pub decreases-loop-c : goal.decreases-loop-c
-decreases-loop-c l = 64 - l.c
+invariant-loop-c l = l.w ≡ written l.initial.w (lines l.c (λ (c : ℕ). column_line l.ids c (get_or l.lineage c 0)))

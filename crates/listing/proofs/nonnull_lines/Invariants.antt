@@ -1,18 +1,11 @@
-use Prim.Native.Nat.{ℕ, ◌≤◌, ◌-◌}
-use mathlib.Core.List.{List}
+use Prim.Native.Nat.{ℕ}
 use mathlib.Core.Path.{◌≡◌}
-use lib.ListN.{length, get_or}
-use Rattle.writing.specs.Text.{Wrote, lines}
-use Rattle.plan_identities.specs.declared.Identities.{Identities}
+use lib.ListN.{get_or}
+use Rattle.writing.specs.Text.{lines}
+use Rattle.writing.specs.Writers.{written}
 use Rattle.listing_lines.specs.Lines.{nonnull_line}
-use mathlib.Core.Bool.{Bool, false}
+use mathlib.Core.Bool.{false}
 use Rattle.listing.proofs.nonnull_lines.Given as goal
 
-abbrev pub line : Identities → List Bool → ℕ → List ℕ
-line ids flags j = nonnull_line ids j (get_or flags j false)
-
 abbrev pub invariant-loop-i : goal.invariant-loop-i
-invariant-loop-i l = (l.i ≤ 128) × (length l.out ≡ length l.initial.out) × Wrote l.initial.out l.at l.out l.p (lines l.i (line l.ids l.flags))
-
-abbrev pub decreases-loop-i : goal.decreases-loop-i
-decreases-loop-i l = 128 - l.i
+invariant-loop-i l = l.w ≡ written l.initial.w (lines l.i (λ (i : ℕ). nonnull_line l.ids i (get_or l.flags i false)))

@@ -1,16 +1,10 @@
-use Prim.Native.Nat.{ℕ, ◌≤◌, ◌-◌, min}
-use mathlib.Core.List.{List}
+use Prim.Native.Nat.{ℕ}
 use mathlib.Core.Path.{◌≡◌}
-use lib.ListN.{length, get_or}
-use Rattle.writing.specs.Text.{Wrote, lines}
+use lib.ListN.{get_or}
+use Rattle.writing.specs.Text.{lines}
+use Rattle.writing.specs.Writers.{written}
 use Rattle.listing_lines.specs.Lines.{residual_line}
 use Rattle.listing.proofs.residual_lines.Given as goal
 
-abbrev pub line : List ℕ → ℕ → List ℕ
-line list j = residual_line (get_or list j 0)
-
-abbrev pub invariant-loop-k : goal.invariant-loop-k
-invariant-loop-k l = (l.k ≤ l.end) × (l.end ≡ min l.n 64) × (length l.out ≡ length l.initial.out) × Wrote l.initial.out l.at l.out l.p (lines l.k (line l.list))
-
-abbrev pub decreases-loop-k : goal.decreases-loop-k
-decreases-loop-k l = l.end - l.k
+abbrev pub invariant-loop-e : goal.invariant-loop-e
+invariant-loop-e l = l.w ≡ written l.initial.w (lines l.e-index (λ (k : ℕ). residual_line (get_or l.list k 0)))
