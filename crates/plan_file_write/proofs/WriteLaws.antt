@@ -1,18 +1,20 @@
 -- Parts of a record written one after the other are the record. Assumes nothing.
-use Prim.Native.Nat.{ℕ, ◌%◌, ◌<◌, ◌≤◌}
-use mathlib.Core.Path.{◌≡◌, refl, sym, ap, ◌∙◌, subst}
+use Prim.Native.Nat.{ℕ, ◌/◌, ◌%◌, ◌<◌}
+use Rattle.std.specs.Int.{to_be_bytes, w16, w32, w64}
+use mathlib.Core.Path.{◌≡◌, refl, sym, ap, ◌∙◌}
 use mathlib.Core.Bool.{Bool, true, false, cond}
-use mathlib.Core.List.{List, [], ◌++◌}
+use mathlib.Core.List.{List, [], ◌∷◌, ◌++◌}
 use lib.Dec.{eqb}
 use native.Mathlib.Omega.{arith}
-use borrow.Author.Tests.{lt-ltb, le-ltb, eqb-true}
+use borrow.Author.Tests.{eqb-true}
 use Rattle.plan_kinds.specs.Rows.{row_of}
-use Rattle.plan_kinds.specs.Records.{count_of}
-use Rattle.plan_file_laws.specs.ListItems.{first_of, item_kind}
-use Rattle.plan_file_write.specs.Written.{clipped_bits, record_bytes}
+use Rattle.plan_file_write.specs.Written.{clipped_bits, clipped, record_bytes}
 use Rattle.plan_kinds.specs.declared.Record.{Record}
 use Rattle.plan_kinds.specs.declared.Row.{Row}
-use Rattle.plan_file_laws.specs.Writing.{Fits, put2, put_word, put_code, put_bits, put_body, put_record}
+use Rattle.writing.specs.Text.{lines}
+use Rattle.writing.proofs.Wrotes.{lines_more}
+use Rattle.writing.proofs.Writings.{written_none, written_then}
+use Rattle.plan_file_laws.specs.Writing.{Fits, put2, put4, put8, put_word, put_code, put_bits, put_body, put_record}
 
 pub word_rest : (sort v : ℕ) (u : List ℕ) → put_word sort v u ≡ put_word sort v [] ++ u
 unfolding put_word
@@ -28,7 +30,7 @@ code-rest true v u = refl
 code-rest false v u = refl
 
 -- a record's body, part by part
-pub body_parts : (r : Row) (x : Record) → put_code (eqb r.code 1) x.code []
+body_parts : (r : Row) (x : Record) → put_code (eqb r.code 1) x.code []
     ++ (put_word r.a x.a []
     ++ (put_word r.b x.b []
     ++ (put_word r.c x.c [] ++ (put_word r.d x.d [] ++ (put_code (eqb r.code 3) x.code [] ++ put_bits r.bits x.bits []))))) ≡ put_body r x []
@@ -45,15 +47,51 @@ body_parts r x =
     ∙ ap (λ (l : List ℕ). put_word r.c x.c [] ++ l)
     (word_rest r.d x.d _ ∙ ap (λ (l : List ℕ). put_word r.d x.d [] ++ l) (code-rest (eqb r.code 3) x.code _))))))
 
--- ---- the kind of an item, from the row and the count that were looked up
-pub kind-first : (x : Record) (k n : ℕ) (r : Row) → r ≡ row_of x.kind → n ≡ count_of r x → k < n → r.item ≡ item_kind x k
-kind-first x k n r e f l =
-    ap (λ (q : Row). q.item) e
-    ∙ sym (ap (λ (b : Bool). cond b (row_of x.kind).item 0x40) (lt-ltb k (first_of x) (subst (λ (m : ℕ). k < m) (f ∙ ap (λ (q : Row). count_of q x) e) l)))
+-- a record part by part, its row looked up
+pub record_parts : (x : Record) (r : Row) → r ≡ row_of x.kind
+    → (x.kind ∷ [])
+    ++ (put_code (eqb r.code 1) x.code []
+    ++ (put_word r.a x.a []
+    ++ (put_word r.b x.b []
+    ++ (put_word r.c x.c []
+    ++ (put_word r.d x.d []
+    ++ (put_code (eqb r.code 3) x.code [] ++ put_bits r.bits (clipped_bits r.bits x.bits) []))))))
+    ≡ record_bytes x
+unfolding record_bytes
+record_parts x r e = rw e (ap (λ (l : List ℕ). x.kind ∷ l) (body_parts (row_of x.kind) (clipped (row_of x.kind) x)))
 
-pub kind-second : (x : Record) (k n : ℕ) (r : Row) → r ≡ row_of x.kind → n ≡ count_of r x → n ≤ k → 0x40 ≡ item_kind x k
-kind-second x k n r e f l =
-    sym (ap (λ (b : Bool). cond b (row_of x.kind).item 0x40) (le-ltb k (first_of x) (subst (λ (m : ℕ). m ≤ k) (f ∙ ap (λ (q : Row). count_of q x) e) l)))
+-- ---- numbers, high byte first
+pub bytes_2 : (v : ℕ) → v < 65536 → to_be_bytes w16 v ≡ put2 v []
+bytes_2 v h =
+    let e : v / 256 % 256 ≡ v / 256 = omega arith in
+    λ i. e i ∷ v % 256 ∷ []
+
+pub bytes_4 : (v : ℕ) → v < 4294967296 → to_be_bytes w32 v ≡ put4 v []
+bytes_4 v h =
+    let e : v / 16777216 % 256 ≡ v / 65536 / 256 = omega arith in
+    let f : v / 256 % 256 ≡ v % 65536 / 256 = omega arith in
+    let g : v % 256 ≡ v % 65536 % 256 = omega arith in
+    λ i. e i ∷ v / 65536 % 256 ∷ f i ∷ g i ∷ []
+
+pub bytes_8 : (v : ℕ) → v < 18446744073709551616 → to_be_bytes w64 v ≡ put8 v []
+bytes_8 v h =
+    let e = bytes_4 (v / 4294967296) (omega arith) in
+    let f = bytes_4 (v % 4294967296) (omega arith) in
+    let a : v / 72057594037927936 % 256 ≡ v / 4294967296 / 16777216 % 256 = omega arith in
+    let b : v / 281474976710656 % 256 ≡ v / 4294967296 / 65536 % 256 = omega arith in
+    let d : v / 1099511627776 % 256 ≡ v / 4294967296 / 256 % 256 = omega arith in
+    let k : v / 16777216 % 256 ≡ v % 4294967296 / 16777216 % 256 = omega arith in
+    let l : v / 65536 % 256 ≡ v % 4294967296 / 65536 % 256 = omega arith in
+    let m : v / 256 % 256 ≡ v % 4294967296 / 256 % 256 = omega arith in
+    let n : v % 256 ≡ v % 4294967296 % 256 = omega arith in
+    (λ i. a i ∷ b i ∷ d i ∷ v / 4294967296 % 256 ∷ k i ∷ l i ∷ m i ∷ n i ∷ []) ∙ (λ i. e i ++ f i)
+
+-- ---- what is written line by line
+pub lines_none : (f : ℕ → List ℕ) → lines 0 f ≡ []
+unfolding lines
+lines_none f = refl
+
+pub ruleset lines_loop = (lines_none, lines_more, written_none, written_then)
 
 -- ---- a plan whose literals fit their bytes is written as the plan file has it
 pub same_bits : (n v : ℕ) → (n ≡ 4 → v < 4294967296) → clipped_bits n v ≡ v

@@ -44,13 +44,19 @@ expr_bytes kind code a b bits start first second i = listed_bytes first second (
 abbrev pub operator_bytes : List ℕ → List ℕ → List ℕ → List ℕ → List ℕ → List ℕ → List ℕ → List ℕ → List ℕ → ℕ → List ℕ
 operator_bytes kind code a b c d start first second i = listed_bytes first second (operator_record_of kind code a b c d i) (get_or start i 0)
 
+-- the same of a plan
+abbrev pub expr_line : Plan → ℕ → List ℕ
+expr_line p i =
+    expr_bytes p.expressions.kind p.expressions.code p.expressions.a p.expressions.b p.expressions.bits p.expressions.start
+    p.items.a p.items.b i
+
+abbrev pub operator_line : Plan → ℕ → List ℕ
+operator_line p i =
+    operator_bytes p.operators.kind p.operators.code p.operators.a p.operators.b p.operators.c p.operators.d p.operators.start
+    p.items.a p.items.b i
+
 -- the bytes of a plan
 unfoldable pub written_of : Plan → List ℕ
 written_of p =
     columns_bytes p.columns.name p.columns.kind p.columns.count
-    ++ (lines p.expressions.count
-    (expr_bytes p.expressions.kind p.expressions.code p.expressions.a p.expressions.b p.expressions.bits p.expressions.start
-    p.items.a p.items.b)
-    ++ lines p.operators.count
-    (operator_bytes p.operators.kind p.operators.code p.operators.a p.operators.b p.operators.c p.operators.d p.operators.start
-    p.items.a p.items.b))
+    ++ (lines p.expressions.count (expr_line p) ++ lines p.operators.count (operator_line p))
