@@ -5,46 +5,30 @@ use apply_spec::LogicalFacts;
 use constraint_spec::{ConstraintSet, Entry, Holder};
 use plan_identities::Identities;
 use scalar::ScalarValue;
-use value_classes::ValueEquivalenceClasses;
 use value_range::ValueRange;
+use writing::Writer;
 
-// The identities of a plan whose first n columns are scanned in the order of their numbers, but for 0 and 1, which change places where asked.
-fn ids(n: usize, swapped: bool) -> Identities {
-    let mut base = [0u8; 64];
-    let mut i: usize = 0;
-    while i < 64 {
-        base[i] = i as u8;
-        i += 1;
-    }
-    if swapped {
-        base[0] = 1;
-        base[1] = 0;
+// The identities of a plan whose first n columns are scanned in the order of their numbers.
+fn ids(n: usize) -> Identities {
+    let mut base = [0; 64];
+    for i in 0..64u8 {
+        base[usize::from(i)] = i;
     }
     Identities { base, columns: n }
 }
 
-fn joined(classes: ValueEquivalenceClasses, left: usize, right: usize) -> ValueEquivalenceClasses {
-    let united = classes.union(left, right);
-    united.classes
+// The same, but for columns 0 and 1, which change places.
+fn swapped_ids(n: usize) -> Identities {
+    let mut ids = ids(n);
+    ids.base.swap(0, 1);
+    ids
 }
 
-// Column 0 = column 1 and column 1 < 7, both columns scanned.
-fn worked() -> LogicalFacts {
-    let mut f = LogicalFacts::empty();
-    f.lineage[0] = 1;
-    f.lineage[1] = 2;
-    let mut s = ConstraintSet::empty();
-    let classes = ValueEquivalenceClasses::empty();
-    s.equivalence_classes = joined(classes, 0, 1);
-    s.non_null_values[0] = true;
-    let all = ValueRange::unbounded();
-    let range = all.tighten_upper(7.0, false);
-    s.ranges[0] = Entry {
+fn entry(range: ValueRange) -> Entry {
+    Entry {
         present: true,
         range,
-    };
-    f.constraints = s;
-    f
+    }
 }
 
 fn held(value: ScalarValue) -> Holder {
@@ -54,46 +38,44 @@ fn held(value: ScalarValue) -> Holder {
     }
 }
 
-fn literals(mut s: ConstraintSet) -> ConstraintSet {
+// Column 0 = column 1 and column 1 < 7, both columns scanned.
+fn worked() -> LogicalFacts {
+    let mut f = LogicalFacts::empty();
+    f.lineage[0] = 1;
+    f.lineage[1] = 2;
+    f.constraints.equivalence_classes.union(0, 1);
+    f.constraints.non_null_values[0] = true;
+    f.constraints.ranges[0] = entry(ValueRange::unbounded().tighten_upper(7.0, false));
+    f
+}
+
+fn literals(s: &mut ConstraintSet) {
     s.literal_equalities[0] = held(ScalarValue::Boolean(true));
     s.literal_equalities[1] = held(ScalarValue::Boolean(false));
-    s.literal_equalities[2] = held(ScalarValue::Int32(-2147483648));
-    s.literal_equalities[3] = held(ScalarValue::Int32(2147483647));
-    s.literal_equalities[4] = held(ScalarValue::Int64(-9223372036854775808));
+    s.literal_equalities[2] = held(ScalarValue::Int32(i32::MIN));
+    s.literal_equalities[3] = held(ScalarValue::Int32(i32::MAX));
+    s.literal_equalities[4] = held(ScalarValue::Int64(i64::MIN));
     s.literal_equalities[5] = held(ScalarValue::Int64(0));
     s.literal_equalities[6] = held(ScalarValue::Float64(-0.0));
     s.literal_equalities[7] = held(ScalarValue::Float64(0.0 / 0.0));
     s.literal_equalities[66] = held(ScalarValue::Date32(-1));
     s.literal_equalities[127] = held(ScalarValue::Date32(19000));
-    s
 }
 
-fn ranges(mut s: ConstraintSet) -> ConstraintSet {
-    let all = ValueRange::unbounded();
-    let low = all.tighten_lower(-1.5, true);
-    let both = low.tighten_upper(9007199254740992.0, false);
-    s.ranges[10] = Entry {
-        present: true,
-        range: all,
-    };
-    s.ranges[11] = Entry {
-        present: true,
-        range: low,
-    };
-    s.ranges[64] = Entry {
-        present: true,
-        range: both,
-    };
-    s
+fn ranges(s: &mut ConstraintSet) {
+    let low = ValueRange::unbounded().tighten_lower(-1.5, true);
+    s.ranges[10] = entry(ValueRange::unbounded());
+    s.ranges[11] = entry(low);
+    s.ranges[64] = entry(low.tighten_upper(9007199254740992.0, false));
 }
 
 // Each second column has its Base identity, and the last its Derived one.
 fn lineage() -> [u8; 64] {
-    let mut lineage = [0u8; 64];
-    let mut c: usize = 0;
-    while c < 64 {
-        lineage[c] = c as u8 + 1;
-        c += 2;
+    let mut lineage = [0; 64];
+    for c in 0..64u8 {
+        if c % 2 == 0 {
+            lineage[usize::from(c)] = c + 1;
+        }
     }
     lineage[63] = 128;
     lineage
@@ -105,13 +87,12 @@ fn larger() -> LogicalFacts {
     f.lineage = lineage();
     f.definitions[63] = 1;
     f.definitions[5] = 1024;
-    let empty = ConstraintSet::empty();
-    let first = literals(empty);
-    let mut s = ranges(first);
-    let classes = ValueEquivalenceClasses::empty();
-    let one = joined(classes, 3, 9);
-    let two = joined(one, 9, 100);
-    s.equivalence_classes = joined(two, 127, 64);
+    let s = &mut f.constraints;
+    literals(s);
+    ranges(s);
+    for (left, right) in [(3, 9), (9, 100), (127, 64)] {
+        s.equivalence_classes.union(left, right);
+    }
     s.non_null_values[3] = true;
     s.non_null_values[64] = true;
     s.residual_predicates[0] = 1023;
@@ -119,16 +100,14 @@ fn larger() -> LogicalFacts {
     s.residual_predicates[2] = 10;
     s.residuals = 3;
     s.contradictory = true;
-    f.constraints = s;
     f
 }
 
 fn main() {
-    let mut out = [0u8; 16384];
-    let n = listing::listing(&mut out, 0, 1, ids(2, false), worked());
-    io::write_all(1, &out[..n]);
-    let m = listing::listing(&mut out, 0, 127, ids(64, true), larger());
-    io::write_all(1, &out[..m]);
-    let r = listing::refused(&mut out, 8, 0);
-    io::write_all(1, &out[..r]);
+    let mut out = [0; 16384];
+    let mut w = Writer::new(&mut out);
+    listing::listing(&mut w, 1, &ids(2), &worked());
+    listing::listing(&mut w, 127, &swapped_ids(64), &larger());
+    listing::refused(&mut w, 8, 0);
+    io::write_all(1, w.bytes());
 }

@@ -1,7 +1,7 @@
 // Bytes written one after another into a buffer that the caller lends. What does not fit is left out.
 #![tactic(auto)]
 
-ghost use Rattle.std.specs.Prelude.{◌≡◌, [], ◌∷◌, ◌<◌};
+ghost use Rattle.std.specs.Prelude.{◌≡◌, [], ◌∷◌, ◌<◌, take};
 ghost use Rattle.io.specs.Digits.{last_digits, hex_digit_ascii};
 ghost use Rattle.writing.specs.Text.{decimal_of, signed_of};
 ghost use Rattle.writing.specs.Writers.{written};
@@ -21,6 +21,14 @@ impl<'a> Writer<'a> {
         ensures start { result.at ≡ 0 }
     {
         Writer { out, at: 0 }
+    }
+
+    // The buffer up to the place: what was written, from the start on.
+    #[tactic(auto, using(std::proofs::lemmas::List::take_min))]
+    pub fn bytes(&self) -> &[u8]
+        ensures { result.now ≡ take self.now.at self.now.out.now }
+    {
+        &self.out[..self.at.min(self.out.len())]
     }
 
     // One byte.
