@@ -1,16 +1,14 @@
-// What each kind of operator makes of lineage and definitions, from its lists. The arrays of the plan's tables are lent one by one, and only
-// what stands by column goes through the loops: facts as a whole are some fifty times as large.
+// What each kind of operator makes of lineage and definitions, from its lists. Only what stands by column goes through the loops: facts as a whole
+// are some fifty times as large.
 #![tactic(auto)]
 
 ghost use Rattle.std.specs.Prelude.{◌≡◌};
-ghost use Rattle.plan_data.specs.Nodes.{node_of};
-ghost use Rattle.derive_spec.specs.Columns.{item_at, no_columns, lineage_entry, definition_entry, with_lineage, with_definitions, assigned, defined};
-ghost use Rattle.derive_spec.specs.Columns.{inserted, base_column, derived_column, carried, value_for_expr, computed, key_column, keyed, is_column_ref};
-ghost use Rattle.derive_spec.specs.Columns.{scan_step, scanned, derived_step, derived_columns, project_step, projected, rename_step, renamed, map_step};
-ghost use Rattle.derive_spec.specs.Columns.{mapped, key_ok, keys_ok, key_step, keys_of};
+ghost use Rattle.plan_data.specs.Nodes.{node_from};
+ghost use Rattle.derive_spec.specs.Columns.{item_at, lineage_entry, definition_entry, base_column, derived_column, carried, value_for_expr};
+ghost use Rattle.derive_spec.specs.Columns.{computed, key_column, keyed, is_column_ref, scanned, derived_columns, projected, renamed, mapped, keys_ok, keys_of};
 
 use derive_spec::ColumnFacts;
-use plan::Column;
+use plan::{Column, Expressions, Items};
 use plan_data::{ExprData, Run};
 use plan_identities::{Identities, ValueId};
 
@@ -18,35 +16,23 @@ use plan_identities::{Identities, ValueId};
 fn item(items: &[u16], r: Run, k: usize) -> u16
     ensures { result ≡ item_at items.now r k }
 {
-    let n = items.len();
-    let start = r.start;
-    if n <= start {
-        return 0;
-    }
-    if n - start <= k {
-        return 0;
-    }
-    items[start + k]
-}
-
-pub fn no_columns() -> ColumnFacts
-    ensures { result ≡ no_columns }
-{
-    ColumnFacts {
-        lineage: [0; 64],
-        definitions: [0; 64],
+    match r.start.checked_add(k) {
+        Some(i) => lists::at(items, i, 0),
+        None => 0,
     }
 }
 
 // ---- entries
 
-fn lineage_entry(ids: Identities, v: ValueId) -> u8
-    ensures { result ≡ lineage_entry ids v }
+#[tactic(auto, unfolding(derive_spec::specs::Columns::lineage_entry))]
+fn lineage_entry(ids: &Identities, v: ValueId) -> u8
+    ensures { result ≡ lineage_entry ids.now v }
 {
     let n = plan_identities::number_of(ids, v);
     if n < 128 { n + 1 } else { 0 }
 }
 
+#[tactic(auto, unfolding(derive_spec::specs::Columns::definition_entry))]
 fn definition_entry(e: u16) -> u16
     ensures { result ≡ definition_entry e }
 {
@@ -55,366 +41,177 @@ fn definition_entry(e: u16) -> u16
 
 // ---- one column; a column past the last is left alone
 
-fn assign(t: ColumnFacts, c: u16, v: u8) -> ColumnFacts
-    ensures { result ≡ assigned t c v }
-{
-    let mut u = t;
-    let i = c as usize;
-    if i < 64 {
-        u.lineage[i] = v;
-    }
-    u
-}
-
-fn define(t: ColumnFacts, c: u16, v: u16) -> ColumnFacts
-    ensures { result ≡ defined t c v }
-{
-    let mut u = t;
-    let i = c as usize;
-    if i < 64 {
-        u.definitions[i] = v;
-    }
-    u
-}
-
-fn base_column(ids: Identities, t: ColumnFacts, c: u16) -> ColumnFacts
-    ensures { result ≡ base_column ids t c }
+#[tactic(auto, unfolding(derive_spec::specs::Columns::assigned))]
+fn base_column(ids: &Identities, t: &mut ColumnFacts, c: u16)
+    ensures { t.new ≡ base_column ids.now t.old c }
 {
     let v = lineage_entry(ids, ValueId::Base(Column(c)));
-    assign(t, c, v)
+    lists::put(&mut t.lineage, usize::from(c), v);
 }
 
-pub fn derived_column(ids: Identities, t: ColumnFacts, c: u16) -> ColumnFacts
-    ensures { result ≡ derived_column ids t c }
+#[tactic(auto, unfolding(derive_spec::specs::Columns::assigned))]
+pub fn derived_column(ids: &Identities, t: &mut ColumnFacts, c: u16)
+    ensures { t.new ≡ derived_column ids.now t.old c }
 {
     let v = lineage_entry(ids, ValueId::Derived(Column(c)));
-    assign(t, c, v)
-}
-
-// An identity, if there is one.
-fn insert_lineage(t: ColumnFacts, c: u16, v: u8) -> ColumnFacts
-    ensures { result ≡ with_lineage t (inserted t.lineage c v) }
-{
-    if v == 0 { t } else { assign(t, c, v) }
-}
-
-// A definition, if there is one.
-fn insert_definition(t: ColumnFacts, c: u16, v: u16) -> ColumnFacts
-    ensures { result ≡ with_definitions t (inserted t.definitions c v) }
-{
-    if v == 0 { t } else { define(t, c, v) }
+    lists::put(&mut t.lineage, usize::from(c), v);
 }
 
 // What g has of the column `original`, put to the column `renamed`.
-fn carry(g: ColumnFacts, t: ColumnFacts, renamed: u16, original: u16) -> ColumnFacts
-    ensures { result ≡ carried g t renamed original }
+#[tactic(auto, unfolding(derive_spec::specs::Columns::carried))]
+fn carry(g: &ColumnFacts, t: &mut ColumnFacts, renamed: u16, original: u16)
+    ensures { t.new ≡ carried g.now t.old renamed original }
 {
-    let i = original as usize;
-    let v = lists::at8(&g.lineage, i);
-    let e = lists::at16(&g.definitions, i);
-    let u = insert_lineage(t, renamed, v);
-    insert_definition(u, renamed, e)
+    let v = lists::at(&g.lineage, usize::from(original), 0);
+    if v != 0 {
+        lists::put(&mut t.lineage, usize::from(renamed), v);
+    }
+    let e = lists::at(&g.definitions, usize::from(original), 0);
+    if e != 0 {
+        lists::put(&mut t.definitions, usize::from(renamed), e);
+    }
 }
 
-fn value_for_expr(t: ColumnFacts, x: ExprData) -> u8
-    ensures { result ≡ value_for_expr t.lineage x }
+fn value_for_expr(t: &ColumnFacts, x: ExprData) -> u8
+    ensures { result ≡ value_for_expr t.now.lineage x }
 {
     match x {
-        ExprData::Literal(_) => 0,
-        ExprData::ColumnRef(c) => lists::at8(&t.lineage, c.0 as usize),
-        ExprData::Unary { op: _, expr: _ } => 0,
-        ExprData::Binary {
-            op: _,
-            left: _,
-            right: _,
-        } => 0,
-        ExprData::Nary { op: _, exprs: _ } => 0,
+        ExprData::ColumnRef(c) => lists::at(&t.lineage, usize::from(c.0), 0),
+        _ => 0,
     }
 }
 
 // One computation of a Map.
-fn compute(ids: Identities, t: ColumnFacts, c: u16, e: u16, x: ExprData) -> ColumnFacts
-    ensures { result ≡ computed ids t c e x }
+#[tactic(auto, unfolding(derive_spec::specs::Columns::computed, derive_spec::specs::Columns::assigned, derive_spec::specs::Columns::defined))]
+fn compute(ids: &Identities, t: &mut ColumnFacts, c: u16, e: u16, x: ExprData)
+    ensures { t.new ≡ computed ids.now t.old c e x }
 {
     let v = value_for_expr(t, x);
     if v == 0 {
-        let u = derived_column(ids, t, c);
-        let d = definition_entry(e);
-        return define(u, c, d);
+        derived_column(ids, t, c);
+        lists::put(&mut t.definitions, usize::from(c), definition_entry(e));
+    } else {
+        lists::put(&mut t.lineage, usize::from(c), v);
     }
-    assign(t, c, v)
 }
 
-fn key_column(g: ColumnFacts, t: ColumnFacts, c: u16) -> ColumnFacts
-    ensures { result ≡ key_column g t c }
+#[tactic(auto, unfolding(derive_spec::specs::Columns::key_column))]
+fn key_column(g: &ColumnFacts, t: &mut ColumnFacts, c: u16)
+    ensures { t.new ≡ key_column g.now t.old c }
 {
-    let v = lists::at8(&g.lineage, c as usize);
-    insert_lineage(t, c, v)
+    let v = lists::at(&g.lineage, usize::from(c), 0);
+    if v != 0 {
+        lists::put(&mut t.lineage, usize::from(c), v);
+    }
 }
 
 // One key of an Aggregation.
-fn key(g: ColumnFacts, t: ColumnFacts, x: ExprData) -> ColumnFacts
-    ensures { result ≡ keyed g t x }
+fn key(g: &ColumnFacts, t: &mut ColumnFacts, x: ExprData)
+    ensures { t.new ≡ keyed g.now t.old x }
 {
-    match x {
-        ExprData::Literal(_) => t,
-        ExprData::ColumnRef(c) => key_column(g, t, c.0),
-        ExprData::Unary { op: _, expr: _ } => t,
-        ExprData::Binary {
-            op: _,
-            left: _,
-            right: _,
-        } => t,
-        ExprData::Nary { op: _, exprs: _ } => t,
+    if let ExprData::ColumnRef(c) = x {
+        key_column(g, t, c.0);
     }
 }
 
 fn is_column_ref(x: ExprData) -> bool
     ensures { result ≡ is_column_ref x }
 {
-    match x {
-        ExprData::Literal(_) => false,
-        ExprData::ColumnRef(_) => true,
-        ExprData::Unary { op: _, expr: _ } => false,
-        ExprData::Binary {
-            op: _,
-            left: _,
-            right: _,
-        } => false,
-        ExprData::Nary { op: _, exprs: _ } => false,
-    }
+    matches!(x, ExprData::ColumnRef(_))
 }
 
-// ---- lists: one item, and all of them
+// ---- lists
 
-fn scan_step(ids: Identities, items: &[u16], r: Run, k: usize, t: ColumnFacts) -> ColumnFacts
-    ensures { result ≡ scan_step ids items.now r k t }
+#[tactic(auto, using(crate::proofs::ColumnStores::steps_loop), unfolding(derive_spec::specs::Columns::scanned))]
+pub fn scan_columns(ids: &Identities, items: &Items, r: Run) -> ColumnFacts
+    ensures { result ≡ scanned ids.now items.now.a r }
 {
-    let c = item(items, r, k);
-    base_column(ids, t, c)
-}
-
-pub fn scan_columns(ids: Identities, items: &[u16], r: Run) -> ColumnFacts
-    ensures { result ≡ scanned ids items.now r }
-{
-    let n = r.count;
-    let mut t = no_columns();
-    let mut k: usize = 0;
-    while k < n {
-        t = scan_step(ids, items, r, k, t);
-        k += 1;
+    let mut t = ColumnFacts::empty();
+    for k in 0..r.count {
+        base_column(ids, &mut t, item(&items.a, r, k));
     }
     t
 }
 
-fn derived_step(ids: Identities, items: &[u16], r: Run, k: usize, t: ColumnFacts) -> ColumnFacts
-    ensures { result ≡ derived_step ids items.now r k t }
+#[tactic(auto, using(crate::proofs::ColumnStores::steps_loop), unfolding(derive_spec::specs::Columns::derived_columns))]
+pub fn derived_columns(ids: &Identities, items: &Items, r: Run, t: &mut ColumnFacts)
+    ensures { t.new ≡ derived_columns ids.now items.now.a r t.old }
 {
-    let c = item(items, r, k);
-    derived_column(ids, t, c)
+    for k in 0..r.count {
+        derived_column(ids, t, item(&items.a, r, k));
+    }
 }
 
-pub fn derived_columns(ids: Identities, items: &[u16], r: Run, g: ColumnFacts) -> ColumnFacts
-    ensures { result ≡ derived_columns ids items.now r g }
+#[tactic(auto, using(crate::proofs::ColumnStores::steps_loop), unfolding(derive_spec::specs::Columns::projected))]
+pub fn project_columns(g: &ColumnFacts, items: &Items, r: Run) -> ColumnFacts
+    ensures { result ≡ projected g.now items.now.a r }
 {
-    let n = r.count;
-    let mut t = g;
-    let mut k: usize = 0;
-    while k < n {
-        t = derived_step(ids, items, r, k, t);
-        k += 1;
+    let mut t = ColumnFacts::empty();
+    for k in 0..r.count {
+        let c = item(&items.a, r, k);
+        carry(g, &mut t, c, c);
     }
     t
 }
 
-fn project_step(g: ColumnFacts, items: &[u16], r: Run, k: usize, t: ColumnFacts) -> ColumnFacts
-    ensures { result ≡ project_step g items.now r k t }
+#[tactic(auto, using(crate::proofs::ColumnStores::steps_loop), unfolding(derive_spec::specs::Columns::renamed))]
+pub fn rename_columns(g: &ColumnFacts, items: &Items, r: Run) -> ColumnFacts
+    ensures { result ≡ renamed g.now items.now.a items.now.b r }
 {
-    let c = item(items, r, k);
-    carry(g, t, c, c)
-}
-
-pub fn project_columns(g: ColumnFacts, items: &[u16], r: Run) -> ColumnFacts
-    ensures { result ≡ projected g items.now r }
-{
-    let n = r.count;
-    let mut t = no_columns();
-    let mut k: usize = 0;
-    while k < n {
-        t = project_step(g, items, r, k, t);
-        k += 1;
+    let mut t = ColumnFacts::empty();
+    for k in 0..r.count {
+        let renamed = item(&items.a, r, k);
+        let original = item(&items.b, r, k);
+        carry(g, &mut t, renamed, original);
     }
     t
 }
 
-fn rename_step<'a>(
-    g: ColumnFacts,
-    items: &'a [u16],
-    originals: &'a [u16],
+#[tactic(auto, using(crate::proofs::ColumnStores::steps_loop), unfolding(derive_spec::specs::Columns::mapped))]
+pub fn map_columns(
+    ids: &Identities,
+    items: &Items,
+    exprs: &Expressions,
     r: Run,
-    k: usize,
-    t: ColumnFacts,
-) -> ColumnFacts
-    ensures { result ≡ rename_step g items.now originals.now r k t }
+    t: &mut ColumnFacts,
+)
+    ensures { t.new ≡ mapped ids.now (node_from exprs.now) items.now.a items.now.b r t.old }
 {
-    let renamed = item(items, r, k);
-    let original = item(originals, r, k);
-    carry(g, t, renamed, original)
-}
-
-pub fn rename_columns<'a>(
-    g: ColumnFacts,
-    items: &'a [u16],
-    originals: &'a [u16],
-    r: Run,
-) -> ColumnFacts
-    ensures { result ≡ renamed g items.now originals.now r }
-{
-    let n = r.count;
-    let mut t = no_columns();
-    let mut k: usize = 0;
-    while k < n {
-        t = rename_step(g, items, originals, r, k, t);
-        k += 1;
+    for k in 0..r.count {
+        let c = item(&items.a, r, k);
+        let e = item(&items.b, r, k);
+        compute(ids, t, c, e, plan_data::node_at(exprs, usize::from(e)));
     }
-    t
 }
 
-fn map_step<'a>(
-    ids: Identities,
-    kind: &'a [u8],
-    code: &'a [u8],
-    a: &'a [u16],
-    b: &'a [u16],
-    bits: &'a [u64],
-    start: &'a [u16],
-    items: &'a [u16],
-    exprs: &'a [u16],
-    r: Run,
-    k: usize,
-    t: ColumnFacts,
-) -> ColumnFacts
-    ensures { result ≡ map_step ids (node_of kind.now code.now a.now b.now bits.now start.now)
-        items.now exprs.now r k t }
+// The expression that is the k-th key.
+fn key_at(items: &Items, exprs: &Expressions, r: Run, k: usize) -> ExprData
+    ensures { result ≡ node_from exprs.now (item_at items.now.a r k) }
 {
-    let c = item(items, r, k);
-    let e = item(exprs, r, k);
-    let x = plan_data::node_at(kind, code, a, b, bits, start, e as usize);
-    compute(ids, t, c, e, x)
-}
-
-pub fn map_columns<'a>(
-    ids: Identities,
-    kind: &'a [u8],
-    code: &'a [u8],
-    a: &'a [u16],
-    b: &'a [u16],
-    bits: &'a [u64],
-    start: &'a [u16],
-    items: &'a [u16],
-    exprs: &'a [u16],
-    r: Run,
-    g: ColumnFacts,
-) -> ColumnFacts
-    ensures { result ≡ mapped ids (node_of kind.now code.now a.now b.now bits.now start.now)
-        items.now exprs.now r g }
-{
-    let n = r.count;
-    let mut t = g;
-    let mut k: usize = 0;
-    while k < n {
-        t = map_step(ids, kind, code, a, b, bits, start, items, exprs, r, k, t);
-        k += 1;
-    }
-    t
-}
-
-fn key_ok<'a>(
-    kind: &'a [u8],
-    code: &'a [u8],
-    a: &'a [u16],
-    b: &'a [u16],
-    bits: &'a [u64],
-    start: &'a [u16],
-    items: &'a [u16],
-    r: Run,
-    k: usize,
-) -> bool
-    ensures { result ≡ key_ok (node_of kind.now code.now a.now b.now bits.now start.now)
-        items.now r k }
-{
-    let e = item(items, r, k);
-    let x = plan_data::node_at(kind, code, a, b, bits, start, e as usize);
-    is_column_ref(x)
+    plan_data::node_at(exprs, usize::from(item(&items.a, r, k)))
 }
 
 // Every key is a column reference.
-pub fn keys_ok<'a>(
-    kind: &'a [u8],
-    code: &'a [u8],
-    a: &'a [u16],
-    b: &'a [u16],
-    bits: &'a [u64],
-    start: &'a [u16],
-    items: &'a [u16],
-    r: Run,
-) -> bool
-    ensures { result ≡ keys_ok (node_of kind.now code.now a.now b.now bits.now start.now)
-        items.now r }
+#[tactic(auto, using(lists::proofs::RangeLaws::all_loop), unfolding(derive_spec::specs::Columns::keys_ok))]
+pub fn keys_ok(items: &Items, exprs: &Expressions, r: Run) -> bool
+    ensures { result ≡ keys_ok (node_from exprs.now) items.now.a r }
 {
-    let n = r.count;
-    let mut k: usize = 0;
-    while k < n {
-        if !key_ok(kind, code, a, b, bits, start, items, r, k) {
+    for k in 0..r.count {
+        if !is_column_ref(key_at(items, exprs, r, k)) {
             return false;
         }
-        k += 1;
     }
     true
 }
 
-fn key_step<'a>(
-    kind: &'a [u8],
-    code: &'a [u8],
-    a: &'a [u16],
-    b: &'a [u16],
-    bits: &'a [u64],
-    start: &'a [u16],
-    g: ColumnFacts,
-    items: &'a [u16],
-    r: Run,
-    k: usize,
-    t: ColumnFacts,
-) -> ColumnFacts
-    ensures { result ≡ key_step (node_of kind.now code.now a.now b.now bits.now start.now) g
-        items.now r k t }
-{
-    let e = item(items, r, k);
-    let x = plan_data::node_at(kind, code, a, b, bits, start, e as usize);
-    key(g, t, x)
-}
-
 // The lineage of the keys, without definitions.
-pub fn key_columns<'a>(
-    kind: &'a [u8],
-    code: &'a [u8],
-    a: &'a [u16],
-    b: &'a [u16],
-    bits: &'a [u64],
-    start: &'a [u16],
-    g: ColumnFacts,
-    items: &'a [u16],
-    r: Run,
-) -> ColumnFacts
-    ensures { result ≡ keys_of (node_of kind.now code.now a.now b.now bits.now start.now) g
-        items.now r }
+#[tactic(auto, using(crate::proofs::ColumnStores::steps_loop), unfolding(derive_spec::specs::Columns::keys_of))]
+pub fn key_columns(g: &ColumnFacts, items: &Items, exprs: &Expressions, r: Run) -> ColumnFacts
+    ensures { result ≡ keys_of (node_from exprs.now) g.now items.now.a r }
 {
-    let n = r.count;
-    let mut t = no_columns();
-    let mut k: usize = 0;
-    while k < n {
-        t = key_step(kind, code, a, b, bits, start, g, items, r, k, t);
-        k += 1;
+    let mut t = ColumnFacts::empty();
+    for k in 0..r.count {
+        key(g, &mut t, key_at(items, exprs, r, k));
     }
     t
 }

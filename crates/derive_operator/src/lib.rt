@@ -1,396 +1,248 @@
 // What each kind of operator makes of its inputs' answers, after the `match` of the Rust's `derive_logical_facts`.
 #![tactic(auto)]
 
-ghost use Rattle.std.specs.Prelude.{◌≡◌, true, false};
+ghost use Rattle.std.specs.Prelude.{◌≡◌, true, false, MatchResult};
 ghost use Rattle.constraint_spec.specs.Sets.{empty_set};
 ghost use Rattle.plan_data.specs.Nodes.{node_at};
 ghost use Rattle.apply_spec.specs.Facts.{with_constraints};
 ghost use Rattle.apply_spec.specs.Entries.{inputs_merged};
+ghost use Rattle.derive_spec.specs.Answers.{derived};
 ghost use Rattle.derive_spec.specs.Columns.{no_columns, columns_in, facts_with, derived_column, scanned, derived_columns, projected, renamed, mapped};
-ghost use Rattle.derive_spec.specs.Operators.{is_accepted, accepted, refused, given, fitted, filtered, joined, grouped, operator_derived, outer_of, inner_of};
+ghost use Rattle.derive_spec.specs.Operators.{refused_by, given, fitted, filtered, joined, grouped, operator_derived, outer_of, inner_of};
 
-use apply_spec::{FactsAnswer, LogicalFacts, Outcome};
+use apply_spec::{FactsError, LogicalFacts};
 use constraint_spec::ConstraintSet;
-use derive_spec::{ColumnFacts, DeriveAnswer, DeriveOutcome};
+use derive_spec::{ColumnFacts, DeriveError};
 use plan::{Column, Expr, Operator, Plan};
 use plan_data::{JoinType, OperatorData, Run};
 use plan_identities::Identities;
 
-// ---- answers
+// ---- facts and refusals
 
-fn accept(f: LogicalFacts) -> DeriveAnswer
-    ensures { result ≡ accepted f }
+fn columns_in(f: &LogicalFacts) -> ColumnFacts
+    ensures { result ≡ columns_in f.now }
 {
-    DeriveAnswer {
-        facts: f,
-        outcome: DeriveOutcome::Accepted,
-    }
-}
-
-// A refusal has empty facts.
-pub fn refuse(o: DeriveOutcome) -> DeriveAnswer
-    ensures { result ≡ refused o }
-{
-    let facts = LogicalFacts::empty();
-    DeriveAnswer { facts, outcome: o }
-}
-
-fn is_accepted(o: DeriveOutcome) -> bool
-    ensures { result ≡ is_accepted o }
-{
-    match o {
-        DeriveOutcome::Accepted => true,
-        DeriveOutcome::UnsupportedKey(_) => false,
-        DeriveOutcome::Residuals(_) => false,
-        DeriveOutcome::NoSuch(_) => false,
-    }
-}
-
-fn columns_in(f: LogicalFacts) -> ColumnFacts
-    ensures { result ≡ columns_in f }
-{
-    let lineage = f.lineage;
-    let definitions = f.definitions;
     ColumnFacts {
+        lineage: f.lineage,
+        definitions: f.definitions,
+    }
+}
+
+fn facts_with(t: ColumnFacts, constraints: &ConstraintSet) -> LogicalFacts
+    ensures { result ≡ facts_with t constraints.now }
+{
+    let ColumnFacts {
         lineage,
         definitions,
-    }
-}
-
-fn facts_with(t: ColumnFacts, s: ConstraintSet) -> LogicalFacts
-    ensures { result ≡ facts_with t s }
-{
-    let lineage = t.lineage;
-    let definitions = t.definitions;
+    } = t;
     LogicalFacts {
         lineage,
         definitions,
-        constraints: s,
+        constraints: *constraints,
     }
 }
 
-fn with_constraints(f: LogicalFacts, s: ConstraintSet) -> LogicalFacts
-    ensures { result ≡ with_constraints f s }
+// Why the operator h refuses, where applying or merging refuses.
+fn refused_by(h: Operator, e: FactsError) -> DeriveError
+    ensures { result ≡ refused_by h e }
 {
-    let mut g = f;
-    g.constraints = s;
-    g
-}
-
-// The operator h answers with these columns and constraints.
-fn accept_with(t: ColumnFacts, s: ConstraintSet) -> DeriveAnswer
-    ensures { result ≡ accepted (facts_with t s) }
-{
-    let f = facts_with(t, s);
-    accept(f)
-}
-
-// What applying or merging said is the answer of the operator h.
-fn fit(h: Operator, a: FactsAnswer) -> DeriveAnswer
-    ensures { result ≡ fitted h a }
-{
-    let outcome = a.outcome;
-    match outcome {
-        Outcome::Accepted => {
-            let f = a.facts;
-            accept(f)
-        }
-        Outcome::Residuals => refuse(DeriveOutcome::Residuals(h)),
-        Outcome::NoSuch => refuse(DeriveOutcome::NoSuch(h)),
+    match e {
+        FactsError::Residuals => DeriveError::Residuals(h),
+        FactsError::NoSuch => DeriveError::NoSuch(h),
     }
 }
 
-// ---- kinds of operators
+// ---- operators without an input
 
-fn scan(p: Plan, ids: Identities, columns: Run) -> DeriveAnswer
-    ensures { result ≡ accepted (facts_with (scanned ids p.items.a columns) empty_set) }
+fn scan(p: &Plan, ids: &Identities, columns: Run) -> LogicalFacts
+    ensures { result ≡ facts_with (scanned ids.now p.now.items.a columns) empty_set }
 {
-    let items = p.items;
-    let t = derive_columns::scan_columns(ids, &items.a, columns);
-    let s = ConstraintSet::empty();
-    accept_with(t, s)
+    let t = derive_columns::scan_columns(ids, &p.items, columns);
+    facts_with(t, &ConstraintSet::empty())
 }
 
-// ConstScan and TableFunction.
-fn derived_columns(p: Plan, ids: Identities, columns: Run) -> DeriveAnswer
-    ensures { result ≡ accepted (facts_with (derived_columns ids p.items.a columns no_columns) empty_set) }
+// ConstScan and TableFunction: every column is Derived.
+fn all_derived(p: &Plan, ids: &Identities, columns: Run) -> LogicalFacts
+    ensures { result ≡ facts_with (derived_columns ids.now p.now.items.a columns no_columns) empty_set }
 {
-    let items = p.items;
-    let none = derive_columns::no_columns();
-    let t = derive_columns::derived_columns(ids, &items.a, columns, none);
-    let s = ConstraintSet::empty();
-    accept_with(t, s)
+    let mut t = ColumnFacts::empty();
+    derive_columns::derived_columns(ids, &p.items, columns, &mut t);
+    facts_with(t, &ConstraintSet::empty())
 }
 
-fn selection(p: Plan, h: Operator, predicate: Expr, l: DeriveAnswer) -> DeriveAnswer
-    ensures { result ≡ given l (λ f. fitted h (filtered p predicate f)) }
+// ---- operators with one input
+
+#[tactic(auto, unfolding(derive_spec::specs::Operators::filtered))]
+fn selection(
+    p: &Plan,
+    h: Operator,
+    predicate: Expr,
+    f: &LogicalFacts,
+) -> Result<LogicalFacts, DeriveError>
+    ensures { derived result ≡ fitted h (filtered p.now predicate f.now) }
 {
-    let o = l.outcome;
-    if is_accepted(o) {
-        let f = l.facts;
-        let a = apply_predicate::apply_to_facts(p, f, predicate);
-        return fit(h, a);
-    }
-    l
+    let mut g = *f;
+    apply_predicate::apply_to_facts(p, &mut g, predicate).map_err(|e| refused_by(h, e))?;
+    Ok(g)
 }
 
-fn projection(p: Plan, columns: Run, l: DeriveAnswer) -> DeriveAnswer
-    ensures { result ≡ given l (λ f. accepted (facts_with (projected (columns_in f) p.items.a columns) f.constraints)) }
+fn projection(p: &Plan, columns: Run, f: &LogicalFacts) -> LogicalFacts
+    ensures { result ≡ facts_with (projected (columns_in f.now) p.now.items.a columns) f.now.constraints }
 {
-    let o = l.outcome;
-    if is_accepted(o) {
-        let f = l.facts;
-        let items = p.items;
-        let g = columns_in(f);
-        let t = derive_columns::project_columns(g, &items.a, columns);
-        let s = f.constraints;
-        return accept_with(t, s);
-    }
-    l
+    let t = derive_columns::project_columns(&columns_in(f), &p.items, columns);
+    facts_with(t, &f.constraints)
 }
 
-fn rename(p: Plan, defs: Run, l: DeriveAnswer) -> DeriveAnswer
-    ensures { result ≡ given l (λ f. accepted (facts_with (renamed (columns_in f) p.items.a p.items.b defs) f.constraints)) }
+fn rename(p: &Plan, defs: Run, f: &LogicalFacts) -> LogicalFacts
+    ensures { result ≡ facts_with (renamed (columns_in f.now) p.now.items.a p.now.items.b defs) f.now.constraints }
 {
-    let o = l.outcome;
-    if is_accepted(o) {
-        let f = l.facts;
-        let items = p.items;
-        let g = columns_in(f);
-        let t = derive_columns::rename_columns(g, &items.a, &items.b, defs);
-        let s = f.constraints;
-        return accept_with(t, s);
-    }
-    l
+    let t = derive_columns::rename_columns(&columns_in(f), &p.items, defs);
+    facts_with(t, &f.constraints)
 }
 
-fn map(p: Plan, ids: Identities, computations: Run, l: DeriveAnswer) -> DeriveAnswer
-    ensures { result ≡ given l (λ f. accepted (facts_with (mapped ids (node_at p) p.items.a p.items.b computations (columns_in f)) f.constraints)) }
+fn map(p: &Plan, ids: &Identities, computations: Run, f: &LogicalFacts) -> LogicalFacts
+    ensures { result ≡ facts_with
+        (mapped ids.now (node_at p.now) p.now.items.a p.now.items.b computations (columns_in f.now)) f.now.constraints }
 {
-    let o = l.outcome;
-    if is_accepted(o) {
-        let f = l.facts;
-        let x = p.expressions;
-        let items = p.items;
-        let g = columns_in(f);
-        let t = derive_columns::map_columns(
-            ids,
-            &x.kind,
-            &x.code,
-            &x.a,
-            &x.b,
-            &x.bits,
-            &x.start,
-            &items.a,
-            &items.b,
-            computations,
-            g,
-        );
-        let s = f.constraints;
-        return accept_with(t, s);
-    }
-    l
+    let mut t = columns_in(f);
+    derive_columns::map_columns(ids, &p.items, &p.expressions, computations, &mut t);
+    facts_with(t, &f.constraints)
 }
 
 // Aggregation changes what a row is: the keys keep their lineage, and nothing else stays.
-fn group(
-    p: Plan,
-    ids: Identities,
-    h: Operator,
-    keys: Run,
-    aggregates: Run,
-    f: LogicalFacts,
-) -> DeriveAnswer
-    ensures { result ≡ grouped p ids h keys aggregates f }
-{
-    let x = p.expressions;
-    let items = p.items;
-    if !derive_columns::keys_ok(
-        &x.kind, &x.code, &x.a, &x.b, &x.bits, &x.start, &items.a, keys,
-    ) {
-        return refuse(DeriveOutcome::UnsupportedKey(h));
-    }
-    let g = columns_in(f);
-    let t = derive_columns::key_columns(
-        &x.kind, &x.code, &x.a, &x.b, &x.bits, &x.start, g, &items.a, keys,
-    );
-    let u = derive_columns::derived_columns(ids, &items.a, aggregates, t);
-    let s = ConstraintSet::empty();
-    accept_with(u, s)
-}
-
+#[tactic(auto, unfolding(derive_spec::specs::Operators::grouped))]
 fn aggregation(
-    p: Plan,
-    ids: Identities,
+    p: &Plan,
+    ids: &Identities,
     h: Operator,
     keys: Run,
     aggregates: Run,
-    l: DeriveAnswer,
-) -> DeriveAnswer
-    ensures { result ≡ given l (grouped p ids h keys aggregates) }
+    f: &LogicalFacts,
+) -> Result<LogicalFacts, DeriveError>
+    ensures { derived result ≡ grouped p.now ids.now h keys aggregates f.now }
 {
-    let o = l.outcome;
-    if is_accepted(o) {
-        let f = l.facts;
-        return group(p, ids, h, keys, aggregates, f);
+    if !derive_columns::keys_ok(&p.items, &p.expressions, keys) {
+        return Err(DeriveError::UnsupportedKey(h));
     }
-    l
+    let mut t = derive_columns::key_columns(&columns_in(f), &p.items, &p.expressions, keys);
+    derive_columns::derived_columns(ids, &p.items, aggregates, &mut t);
+    Ok(facts_with(t, &ConstraintSet::empty()))
 }
 
-fn cross_product(h: Operator, l: DeriveAnswer, r: DeriveAnswer) -> DeriveAnswer
-    ensures { result ≡ given l (λ f. given r (λ g. fitted h (inputs_merged f g true))) }
+// ---- operators with two inputs
+
+fn cross_product(
+    h: Operator,
+    f: &LogicalFacts,
+    g: &LogicalFacts,
+) -> Result<LogicalFacts, DeriveError>
+    ensures { derived result ≡ fitted h (inputs_merged f.now g.now true) }
 {
-    let o = l.outcome;
-    if !is_accepted(o) {
-        return l;
-    }
-    let u = r.outcome;
-    if !is_accepted(u) {
-        return r;
-    }
-    let f = l.facts;
-    let g = r.facts;
-    let m = logical_facts::inputs_merged(f, g, true);
-    fit(h, m)
+    let mut m = *f;
+    logical_facts::inputs_merged(&mut m, g, true).map_err(|e| refused_by(h, e))?;
+    Ok(m)
 }
 
-// ---- joins
-
-fn inner_join(p: Plan, h: Operator, on: Expr, f: LogicalFacts, g: LogicalFacts) -> DeriveAnswer
-    ensures { result ≡ given (fitted h (inputs_merged f g true)) (λ m. fitted h (filtered p on m)) }
-{
-    let m = logical_facts::inputs_merged(f, g, true);
-    let l = fit(h, m);
-    selection(p, h, on, l)
-}
-
-// Lineage and definitions of both, with the left's constraints.
-fn both_columns(f: LogicalFacts, g: LogicalFacts) -> LogicalFacts
-    ensures { result ≡ (inputs_merged f g false).facts }
-{
-    let m = logical_facts::inputs_merged(f, g, false);
-    let t = m.facts;
-    t
-}
-
-fn outer_join(f: LogicalFacts, g: LogicalFacts, s: ConstraintSet) -> DeriveAnswer
-    ensures { result ≡ accepted (with_constraints (inputs_merged f g false).facts s) }
-{
-    let m = both_columns(f, g);
-    let t = with_constraints(m, s);
-    accept(t)
-}
-
-fn left_join(f: LogicalFacts, g: LogicalFacts) -> DeriveAnswer
-    ensures { result ≡ accepted (inputs_merged f g false).facts }
-{
-    let m = both_columns(f, g);
-    accept(m)
-}
-
-fn left_mark(ids: Identities, f: LogicalFacts, marker: Column) -> DeriveAnswer
-    ensures { result ≡ accepted (facts_with (derived_column ids (columns_in f) marker.0) f.constraints) }
-{
-    let g = columns_in(f);
-    let t = derive_columns::derived_column(ids, g, marker.0);
-    let s = f.constraints;
-    accept_with(t, s)
-}
-
-fn join_inputs(
-    p: Plan,
-    ids: Identities,
+#[tactic(auto, unfolding(derive_spec::specs::Operators::given))]
+fn inner_join(
+    p: &Plan,
     h: Operator,
     on: Expr,
-    f: LogicalFacts,
-    g: LogicalFacts,
-    how: JoinType,
-) -> DeriveAnswer
-    ensures { result ≡ joined p ids h on f g how }
+    f: &LogicalFacts,
+    g: &LogicalFacts,
+) -> Result<LogicalFacts, DeriveError>
+    ensures { derived result ≡ given (fitted h (inputs_merged f.now g.now true)) (λ m. fitted h (filtered p.now on m)) }
 {
-    match how {
-        JoinType::Inner => inner_join(p, h, on, f, g),
-        JoinType::LeftSemi => accept(f),
-        JoinType::LeftAnti => accept(f),
-        JoinType::LeftOuter => left_join(f, g),
-        JoinType::Single => left_join(f, g),
-        JoinType::RightOuter => {
-            let s = g.constraints;
-            outer_join(f, g, s)
-        }
-        JoinType::FullOuter => {
-            let s = ConstraintSet::empty();
-            outer_join(f, g, s)
-        }
-        JoinType::LeftMark(marker) => left_mark(ids, f, marker),
-    }
+    let m = cross_product(h, f, g)?;
+    selection(p, h, on, &m)
+}
+
+// Lineage and definitions of both, with the left's constraints. Where no constraints are merged, none are refused.
+fn both_columns(f: &LogicalFacts, g: &LogicalFacts) -> LogicalFacts
+    ensures { result ≡ (inputs_merged f.now g.now false).facts }
+{
+    let mut m = *f;
+    let _ = logical_facts::inputs_merged(&mut m, g, false);
+    m
+}
+
+fn left_mark(ids: &Identities, f: &LogicalFacts, marker: Column) -> LogicalFacts
+    ensures { result ≡ facts_with (derived_column ids.now (columns_in f.now) marker.0) f.now.constraints }
+{
+    let mut t = columns_in(f);
+    derive_columns::derived_column(ids, &mut t, marker.0);
+    facts_with(t, &f.constraints)
 }
 
 fn join(
-    p: Plan,
-    ids: Identities,
+    p: &Plan,
+    ids: &Identities,
     h: Operator,
     on: Expr,
+    f: &LogicalFacts,
+    g: &LogicalFacts,
     how: JoinType,
-    l: DeriveAnswer,
-    r: DeriveAnswer,
-) -> DeriveAnswer
-    ensures { result ≡ given l (λ f. given r (λ g. joined p ids h on f g how)) }
+) -> Result<LogicalFacts, DeriveError>
+    ensures { derived result ≡ joined p.now ids.now h on f.now g.now how }
 {
-    let o = l.outcome;
-    if !is_accepted(o) {
-        return l;
+    match how {
+        JoinType::Inner => inner_join(p, h, on, f, g),
+        JoinType::LeftSemi | JoinType::LeftAnti => Ok(*f),
+        JoinType::LeftOuter | JoinType::Single => Ok(both_columns(f, g)),
+        JoinType::RightOuter => Ok(LogicalFacts {
+            constraints: g.constraints,
+            ..both_columns(f, g)
+        }),
+        JoinType::FullOuter => Ok(LogicalFacts {
+            constraints: ConstraintSet::empty(),
+            ..both_columns(f, g)
+        }),
+        JoinType::LeftMark(marker) => Ok(left_mark(ids, f, marker)),
     }
-    let u = r.outcome;
-    if !is_accepted(u) {
-        return r;
-    }
-    let f = l.facts;
-    let g = r.facts;
-    join_inputs(p, ids, h, on, f, g, how)
 }
 
 // ---- an operator, from the answer of its input, or outer input, and of its inner input
 
+// The facts of an input that has some.
+fn facts_of(d: &Result<LogicalFacts, DeriveError>) -> Result<&LogicalFacts, DeriveError>
+    ensures { MatchResult result (λ f. d.now ≡ Ok f.now) (λ e. d.now ≡ Err e) }
+{
+    match d {
+        Ok(f) => Ok(f),
+        Err(e) => Err(*e),
+    }
+}
+
+#[tactic(auto, unfolding(derive_spec::specs::Operators::given))]
 pub fn step(
-    p: Plan,
-    ids: Identities,
+    p: &Plan,
+    ids: &Identities,
     h: Operator,
     op: OperatorData,
-    l: DeriveAnswer,
-    r: DeriveAnswer,
-) -> DeriveAnswer
-    ensures { result ≡ operator_derived p ids h l r op }
+    l: &Result<LogicalFacts, DeriveError>,
+    r: &Result<LogicalFacts, DeriveError>,
+) -> Result<LogicalFacts, DeriveError>
+    ensures { derived result ≡ operator_derived p.now ids.now h (derived l.now) (derived r.now) op }
 {
     match op {
-        OperatorData::Scan { table: _, columns } => scan(p, ids, columns),
-        OperatorData::ConstScan { columns } => derived_columns(p, ids, columns),
-        OperatorData::TableFunction { columns } => derived_columns(p, ids, columns),
-        OperatorData::Selection {
-            predicate,
-            input: _,
-        } => selection(p, h, predicate, l),
-        OperatorData::Projection { input: _, columns } => projection(p, columns, l),
-        OperatorData::Rename { input: _, defs } => rename(p, defs, l),
-        OperatorData::Map {
-            input: _,
-            computations,
-        } => map(p, ids, computations, l),
+        OperatorData::Scan { columns, .. } => Ok(scan(p, ids, columns)),
+        OperatorData::ConstScan { columns } | OperatorData::TableFunction { columns } => {
+            Ok(all_derived(p, ids, columns))
+        }
+        OperatorData::Selection { predicate, .. } => selection(p, h, predicate, facts_of(l)?),
+        OperatorData::Projection { columns, .. } => Ok(projection(p, columns, facts_of(l)?)),
+        OperatorData::Rename { defs, .. } => Ok(rename(p, defs, facts_of(l)?)),
+        OperatorData::Map { computations, .. } => Ok(map(p, ids, computations, facts_of(l)?)),
         OperatorData::Aggregation {
-            input: _,
             keys,
             aggregates,
-        } => aggregation(p, ids, h, keys, aggregates, l),
-        OperatorData::Sort { input: _, keys: _ } => l,
-        OperatorData::Limit { input: _ } => l,
-        OperatorData::Output { input: _ } => l,
-        OperatorData::CrossProduct { outer: _, inner: _ } => cross_product(h, l, r),
-        OperatorData::Join {
-            join_type,
-            on,
-            outer: _,
-            inner: _,
-        } => join(p, ids, h, on, join_type, l, r),
+            ..
+        } => aggregation(p, ids, h, keys, aggregates, facts_of(l)?),
+        OperatorData::Sort { .. } | OperatorData::Limit { .. } | OperatorData::Output { .. } => *l,
+        OperatorData::CrossProduct { .. } => cross_product(h, facts_of(l)?, facts_of(r)?),
+        OperatorData::Join { join_type, on, .. } => {
+            join(p, ids, h, on, facts_of(l)?, facts_of(r)?, join_type)
+        }
     }
 }
 
@@ -398,37 +250,18 @@ pub fn outer_of(op: OperatorData) -> u16
     ensures { result ≡ outer_of op }
 {
     match op {
-        OperatorData::Scan {
-            table: _,
-            columns: _,
-        } => 0,
-        OperatorData::ConstScan { columns: _ } => 0,
-        OperatorData::TableFunction { columns: _ } => 0,
-        OperatorData::Selection {
-            predicate: _,
-            input,
-        } => input.0,
-        OperatorData::Projection { input, columns: _ } => input.0,
-        OperatorData::Rename { input, defs: _ } => input.0,
-        OperatorData::Map {
-            input,
-            computations: _,
-        } => input.0,
-        OperatorData::Aggregation {
-            input,
-            keys: _,
-            aggregates: _,
-        } => input.0,
-        OperatorData::Sort { input, keys: _ } => input.0,
-        OperatorData::Limit { input } => input.0,
-        OperatorData::Output { input } => input.0,
-        OperatorData::CrossProduct { outer, inner: _ } => outer.0,
-        OperatorData::Join {
-            join_type: _,
-            on: _,
-            outer,
-            inner: _,
-        } => outer.0,
+        OperatorData::Scan { .. }
+        | OperatorData::ConstScan { .. }
+        | OperatorData::TableFunction { .. } => 0,
+        OperatorData::Selection { input, .. }
+        | OperatorData::Projection { input, .. }
+        | OperatorData::Rename { input, .. }
+        | OperatorData::Map { input, .. }
+        | OperatorData::Aggregation { input, .. }
+        | OperatorData::Sort { input, .. }
+        | OperatorData::Limit { input }
+        | OperatorData::Output { input } => input.0,
+        OperatorData::CrossProduct { outer, .. } | OperatorData::Join { outer, .. } => outer.0,
     }
 }
 
@@ -436,39 +269,7 @@ pub fn inner_of(op: OperatorData) -> u16
     ensures { result ≡ inner_of op }
 {
     match op {
-        OperatorData::Scan {
-            table: _,
-            columns: _,
-        } => 0,
-        OperatorData::ConstScan { columns: _ } => 0,
-        OperatorData::TableFunction { columns: _ } => 0,
-        OperatorData::Selection {
-            predicate: _,
-            input: _,
-        } => 0,
-        OperatorData::Projection {
-            input: _,
-            columns: _,
-        } => 0,
-        OperatorData::Rename { input: _, defs: _ } => 0,
-        OperatorData::Map {
-            input: _,
-            computations: _,
-        } => 0,
-        OperatorData::Aggregation {
-            input: _,
-            keys: _,
-            aggregates: _,
-        } => 0,
-        OperatorData::Sort { input: _, keys: _ } => 0,
-        OperatorData::Limit { input: _ } => 0,
-        OperatorData::Output { input: _ } => 0,
-        OperatorData::CrossProduct { outer: _, inner } => inner.0,
-        OperatorData::Join {
-            join_type: _,
-            on: _,
-            outer: _,
-            inner,
-        } => inner.0,
+        OperatorData::CrossProduct { inner, .. } | OperatorData::Join { inner, .. } => inner.0,
+        _ => 0,
     }
 }

@@ -41,10 +41,8 @@ refuser_of (Err (Residuals o)) = o.0
 refuser_of (Err (NoSuch o)) = o.0
 
 abbrev pub is_accepted : Result (Unit {0}) DeriveError → Bool
-is_accepted (Ok tt) = true
-is_accepted (Err (UnsupportedKey o)) = false
-is_accepted (Err (Residuals o)) = false
-is_accepted (Err (NoSuch o)) = false
+is_accepted (Ok u) = true
+is_accepted (Err e) = false
 
 abbrev pub accepted : LogicalFacts → DeriveAnswer
 accepted f = record { facts = f; outcome = Ok tt }
@@ -57,11 +55,15 @@ refused o = record { facts = empty_facts; outcome = o }
 unfoldable pub given : DeriveAnswer → (LogicalFacts → DeriveAnswer) → DeriveAnswer
 given d f = cond (is_accepted d.outcome) (f d.facts) d
 
+-- why the operator h refuses, where applying or merging refuses
+abbrev pub refused_by : Operator → FactsError → DeriveError
+refused_by h O.Residuals = Residuals h
+refused_by h O.NoSuch = NoSuch h
+
 -- what applying or merging said is the answer of the operator h
 abbrev pub fitted_by : Operator → LogicalFacts → Result (Unit {0}) FactsError → DeriveAnswer
-fitted_by h f (Ok tt) = accepted f
-fitted_by h f (Err O.Residuals) = refused (Err (Residuals h))
-fitted_by h f (Err O.NoSuch) = refused (Err (NoSuch h))
+fitted_by h f (Ok u) = accepted f
+fitted_by h f (Err e) = refused (Err (refused_by h e))
 
 abbrev pub fitted : Operator → FactsAnswer → DeriveAnswer
 fitted h a = fitted_by h a.facts a.outcome

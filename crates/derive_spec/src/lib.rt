@@ -2,6 +2,9 @@
 // defined in specs/.
 #![tactic(auto)]
 
+ghost use Rattle.std.specs.Prelude.{◌≡◌};
+ghost use Rattle.derive_spec.specs.Columns.{no_columns};
+
 use plan::Operator;
 
 // What of facts stands by column, as in LogicalFacts: the loops over an operator's lists need no more.
@@ -17,4 +20,15 @@ pub enum DeriveError {
     UnsupportedKey(Operator),
     Residuals(Operator),
     NoSuch(Operator),
+}
+
+impl ColumnFacts {
+    pub fn empty() -> Self
+        ensures { result ≡ no_columns }
+    {
+        ColumnFacts {
+            lineage: [0; 64],
+            definitions: [0; 64],
+        }
+    }
 }

@@ -1,12 +1,8 @@
-use Prim.Native.Nat.{◌-◌, ◌≤◌}
 use mathlib.Core.Path.{◌≡◌}
 use Rattle.constraint_spec.specs.Sets.{steps_to}
 use Rattle.derive_spec.specs.Columns.{key_step, no_columns}
-use Rattle.plan_data.specs.Nodes.{node_of}
+use Rattle.plan_data.specs.Nodes.{node_from}
 use Rattle.derive_columns.proofs.key_columns.Given as goal
 
 abbrev pub invariant-loop-k : goal.invariant-loop-k
-invariant-loop-k l = (l.k ≤ l.n) × (l.t ≡ steps_to (key_step (node_of l.kind l.code l.a l.b l.bits l.start) l.g l.items l.r) l.k no_columns)
-
-abbrev pub decreases-loop-k : goal.decreases-loop-k
-decreases-loop-k l = l.n - l.k
+invariant-loop-k l = l.t ≡ steps_to (key_step (node_from l.exprs) l.g l.items.a l.r) l.k no_columns

@@ -1,8 +1,0 @@
-use Rattle.derive_operator.proofs.OperatorAnswers.{given_does, given_stays}
-use Rattle.derive_operator.proofs.aggregation.Goals as goal
-
-pub returns-then-is_accepted : goal.returns-then-is_accepted
-returns-then-is_accepted c = given_does _ _ _ c.is_accepted.ensures _ c.if-is_accepted.true c.group.ensures
-
-pub returns : goal.returns
-returns c = given_stays _ _ _ c.is_accepted.ensures c.if-is_accepted.false
