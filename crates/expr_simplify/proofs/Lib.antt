@@ -1,2 +1,1 @@
-pub mod HeldAnswers
-pub mod OperatorAnswers
+pub mod OperatorLaws
