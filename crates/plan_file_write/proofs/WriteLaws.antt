@@ -3,7 +3,7 @@ use Prim.Native.Nat.{ℕ, ◌/◌, ◌%◌, ◌<◌}
 use Rattle.std.specs.Int.{to_be_bytes, w16, w32, w64}
 use mathlib.Core.Path.{◌≡◌, refl, sym, ap, ◌∙◌}
 use mathlib.Core.Bool.{Bool, true, false, cond}
-use mathlib.Core.List.{List, [], ◌∷◌, ◌++◌}
+use mathlib.Core.List.{List, [], ◌∷◌, ◌++◌, append_assoc}
 use lib.Dec.{eqb}
 use native.Mathlib.Omega.{arith}
 use borrow.Author.Tests.{eqb-true}
@@ -91,7 +91,7 @@ pub lines_none : (f : ℕ → List ℕ) → lines 0 f ≡ []
 unfolding lines
 lines_none f = refl
 
-pub ruleset lines_loop = (lines_none, lines_more, written_none, written_then)
+pub ruleset lines_loop = (lines_none, lines_more, written_none, written_then, append_assoc)
 
 -- ---- a plan whose literals fit their bytes is written as the plan file has it
 pub same_bits : (n v : ℕ) → (n ≡ 4 → v < 4294967296) → clipped_bits n v ≡ v

@@ -105,7 +105,7 @@ fn put_listed(w: &mut Writer, items: &Items, x: Record, st: u16)
 }
 
 // The whole plan.
-#[tactic(auto, unfolding(crate::specs::Written::written_of, crate::specs::Written::columns_bytes), using(crate::proofs::WriteLaws::lines_loop, writing::proofs::Writings::steps))]
+#[tactic(auto, unfolding(crate::specs::Written::written_of, crate::specs::Written::columns_bytes), using(crate::proofs::WriteLaws::lines_loop))]
 pub fn write(w: &mut Writer, p: &Plan)
     ensures { w.new ≡ written w.old (written_of p.now) }
 {

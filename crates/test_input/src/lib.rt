@@ -7,53 +7,46 @@ ghost use Rattle.std.specs.Prelude.{◌<◌};
 use plan::Plan;
 use plan_kinds::Record;
 
-const FARTHEST: usize = 1000000;
-
-const NONE: usize = 18446744073709551615;
+// The N bytes at a place, with zeros past the end.
+fn bytes<const N: usize>(s: &[u8], at: usize) -> [u8; N] {
+    let mut t = [0; N];
+    for (to, from) in t.iter_mut().zip(s.iter().skip(at)) {
+        *to = *from;
+    }
+    t
+}
 
 pub fn word(s: &[u8], at: usize) -> u16 {
-    if FARTHEST < at {
-        return 0;
-    }
-    lists::at8(s, at) as u16 * 256 + lists::at8(s, at + 1) as u16
+    u16::from_be_bytes(bytes(s, at))
 }
 
 pub fn long(s: &[u8], at: usize) -> u64
     ensures { result < 4294967296 }
 {
-    if FARTHEST < at {
-        return 0;
-    }
-    word(s, at) as u64 * 65536 + word(s, at + 2) as u64
+    u64::from(u32::from_be_bytes(bytes(s, at)))
 }
 
 pub fn bits(s: &[u8], at: usize) -> u64 {
-    if FARTHEST < at {
-        return 0;
-    }
-    long(s, at) * 4294967296 + long(s, at + 4)
+    u64::from_be_bytes(bytes(s, at))
 }
 
-// The next file of standard input: its head, and its body, whose length stands at a place of the head, four bytes. The answer is the length, or NONE
-// where there is no whole file that the room is enough for.
-pub fn next<'a, 'b>(head: &'a mut [u8], at: usize, body: &'b mut [u8]) -> usize {
+// The next file of standard input: its head, and its body, whose length stands at a place of the head, four bytes. There is none where there is no whole
+// file that the room is enough for.
+pub fn next<'b>(head: &mut [u8], at: usize, room: &'b mut [u8]) -> Option<&'b [u8]> {
     if io::read_full(0, head) < head.len() {
-        return NONE;
+        return None;
     }
-    let n = long(head, at) as usize;
-    if body.len() < n {
-        return NONE;
+    let body = room.get_mut(..long(head, at) as usize)?;
+    if io::read_full(0, body) < body.len() {
+        return None;
     }
-    if io::read_full(0, &mut body[0..n]) < n {
-        return NONE;
-    }
-    n
+    Some(body)
 }
 
 fn record(s: &[u8]) -> Record {
     Record {
-        kind: lists::at8(s, 1),
-        code: lists::at8(s, 2),
+        kind: lists::at(s, 1, 0),
+        code: lists::at(s, 2, 0),
         a: word(s, 4),
         b: word(s, 6),
         c: 0,
@@ -62,21 +55,13 @@ fn record(s: &[u8]) -> Record {
     }
 }
 
-// The plan after a step: 1 a column, 2 an expression, 3 a list item, and no other step changes it.
-pub fn planned(p: Plan, s: &[u8]) -> Plan {
+// A step of a plan: 1 a column, 2 an expression, 3 a list item, and no other step changes it.
+pub fn plan_step(p: &mut Plan, s: &[u8]) {
     let x = record(s);
-    let what = lists::at8(s, 0);
-    if what == 1 {
-        let r = p.append_column(x);
-        return r.plan;
+    match lists::at(s, 0, 0) {
+        1 => p.columns.push(x),
+        2 => p.expressions.push(x, word(s, 8)),
+        3 => p.items.push(x),
+        _ => {}
     }
-    if what == 2 {
-        let r = p.append_expr(x, word(s, 8));
-        return r.plan;
-    }
-    if what == 3 {
-        let r = p.append_item(x);
-        return r.plan;
-    }
-    p
 }
