@@ -4,7 +4,7 @@
 
 use plan::{Operator, Plan};
 use plan_kinds::Record;
-use simplify_spec::Rewrite;
+use simplify_spec::{Rewrite, SimplifyError};
 
 fn record(kind: u8, code: u8, a: u16, b: u16) -> Record {
     Record {
@@ -18,107 +18,103 @@ fn record(kind: u8, code: u8, a: u16, b: u16) -> Record {
     }
 }
 
-fn with_expr(p: Plan, kind: u8, code: u8, a: u16, start: u16) -> Plan {
-    let r = p.append_expr(record(kind, code, a, 0), start);
-    r.plan
-}
-
-fn with_item(p: Plan, e: u16) -> Plan {
-    let r = p.append_item(record(0, 0, e, 0));
-    r.plan
-}
-
-// A Boolean column, and a reference to it.
+// A plan of a Boolean column, and a reference to it.
 fn column() -> Plan {
-    let p = Plan::empty();
-    let r = p.append_column(record(0x01, 1, 0, 0));
-    with_expr(r.plan, 0x20, 0, 0, 0)
+    let mut p = Plan::empty();
+    p.columns.push(record(0x01, 1, 0, 0));
+    p.expressions.push(record(0x20, 0, 0, 0), 0);
+    p
+}
+
+fn push_not(p: &mut Plan, e: u16) {
+    p.expressions.push(record(0x21, 0, e, 0), 0);
+}
+
+fn push_item(p: &mut Plan, e: u16) {
+    p.items.push(record(0, 0, e, 0));
+}
+
+// An And of the last n items, the first of which is item `start`.
+fn push_and(p: &mut Plan, n: u16, start: u16) {
+    p.expressions.push(record(0x23, 0, n, 0), start);
+}
+
+// An And of the column and of the expression e.
+fn push_pair(p: &mut Plan, e: u16) {
+    let start = p.items.count;
+    push_item(p, 0);
+    push_item(p, e);
+    push_and(p, 2, start);
 }
 
 // n Nots over the column.
 fn nots(n: u16) -> Plan {
     let mut p = column();
     for i in 0..n {
-        p = with_expr(p, 0x21, 0, i, 0);
+        push_not(&mut p, i);
     }
     p
-}
-
-// An And of the column and of the expression e.
-fn with_pair(p: Plan, e: u16) -> Plan {
-    let used = p.items;
-    let q = with_item(with_item(p, 0), e);
-    with_expr(q, 0x23, 0, 2, used.count)
 }
 
 // n Ands, each of the column and the one before it.
 fn ands(n: u16) -> Plan {
     let mut p = column();
     for i in 0..n {
-        p = with_pair(p, i);
+        push_pair(&mut p, i);
     }
     p
 }
 
-// Not(Not) of the column, and n Ands, each of the column and the one before it: every And is made anew.
+// Not(Not) of the column, and Ands up to the n-th expression, each of the column and the one before it: every And is made anew.
 fn changing_ands(n: u16) -> Plan {
-    let p = column();
-    let mut q = with_expr(with_expr(p, 0x21, 0, 0, 0), 0x21, 0, 1, 0);
+    let mut p = nots(2);
     for i in 2..n {
-        q = with_pair(q, i);
+        push_pair(&mut p, i);
     }
-    q
+    p
 }
 
 // An And of n times the column.
 fn wide(n: u16) -> Plan {
     let mut p = column();
     for _ in 0..n {
-        p = with_item(p, 0);
+        push_item(&mut p, 0);
     }
-    with_expr(p, 0x23, 0, n, 0)
+    push_and(&mut p, n, 0);
+    p
 }
 
 fn number(n: u16) {
     io::write_all(1, b" ");
-    io::print_decimal(1, n as u64);
+    io::print_decimal(1, u64::from(n));
 }
 
-fn counts(p: Plan) {
-    let e = p.expressions;
-    let i = p.items;
-    number(e.count);
-    number(i.count);
-    io::write_all(1, b"\n");
-}
-
-fn said(r: Rewrite) {
+fn said(r: Result<Rewrite, SimplifyError>) {
     match r {
-        Rewrite::Keep => {
+        Ok(Rewrite::Keep) => {
             io::write_all(1, b"keep");
         }
-        Rewrite::Replace(o) => {
+        Ok(Rewrite::Replace(o)) => {
             io::write_all(1, b"replace");
             number(o.0);
         }
-        Rewrite::Room => {
+        Err(SimplifyError::Room) => {
             io::write_all(1, b"refused 3");
         }
-        Rewrite::NoSuch => {
+        Err(SimplifyError::NoSuch) => {
             io::write_all(1, b"refused 8");
         }
     }
 }
 
 // The answer for a Selection on the expression e, and how many expressions and items there are then.
-fn answer(p: Plan, e: u16) {
-    let r = p.append_operator(record(0x31, 0, 0, 0), 0);
-    let s = r.plan;
-    let q = s.append_operator(record(0x33, 0, e, 0), 0);
-    let a = expr_simplify::simplify(q.plan, Operator(1));
-    let w = a.rewrite;
-    said(w);
-    counts(a.plan);
+fn answer(mut p: Plan, e: u16) {
+    p.operators.push(record(0x31, 0, 0, 0), 0);
+    p.operators.push(record(0x33, 0, e, 0), 0);
+    said(expr_simplify::simplify(&mut p, Operator(1)));
+    number(p.expressions.count);
+    number(p.items.count);
+    io::write_all(1, b"\n");
 }
 
 fn main() {
