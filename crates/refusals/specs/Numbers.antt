@@ -10,6 +10,11 @@ use Rattle.simplify_spec.specs.declared.SimplifyError.{SimplifyError}
 use Rattle.simplify_spec.specs.declared.Rewrite.TheVariants as W
 use Rattle.simplify_spec.specs.declared.SimplifyError.TheVariants as X
 
+-- a number of what is refused, 0 where nothing is
+abbrev pub number_of : {T E : Type 0} → (E → ℕ) → Result T E → ℕ
+number_of f (Ok v) = 0
+number_of f (Err e) = f e
+
 -- the last operator, and 0, which no plan without operators has
 abbrev pub last_of : Plan → ℕ
 last_of p = p.operators.count - 1
