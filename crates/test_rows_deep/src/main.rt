@@ -2,9 +2,13 @@
 // other, and an And of 2,048 operands. Run it with a stack of 2 MiB.
 #![tactic(auto)]
 
-use plan::{Expr, Plan};
+ghost use Rattle.std.specs.Prelude.{◌<◌, length};
+
+use plan::{AppendError, Expr, Plan};
 use plan_kinds::Record;
-use rows_spec::{Evaluation, Row};
+use rows_spec::{Cell, EvaluationError, Row};
+use scalar::ScalarValue;
+use std::io;
 
 fn record(kind: u8, code: u8, a: u16) -> Record {
     Record {
@@ -18,100 +22,92 @@ fn record(kind: u8, code: u8, a: u16) -> Record {
     }
 }
 
-fn with_expr(p: Plan, kind: u8, code: u8, a: u16, start: u16) -> Plan {
-    let r = p.append_expr(record(kind, code, a), start);
-    r.plan
+// A plan of the literal true.
+fn literal() -> Result<Plan, AppendError> {
+    let mut p = Plan::empty();
+    p.append_expr(record(0x11, 1, 0), 0)?;
+    Ok(p)
 }
 
-fn with_item(p: Plan, e: u16) -> Plan {
-    let r = p.append_item(record(0, 0, e));
-    r.plan
-}
-
-// The literal true, and n Nots over it.
-fn nots(n: u16) -> Plan {
-    let mut p = with_expr(Plan::empty(), 0x11, 1, 0, 0);
-    for i in 0..n {
-        p = with_expr(p, 0x21, 0, i, 0);
+// An And of the operands.
+fn append_and(p: &mut Plan, operands: &[u16]) -> Result<u16, AppendError>
+    requires { length operands.now < 65536 }
+{
+    let start = p.items.count;
+    for e in operands {
+        p.append_item(record(0, 0, *e))?;
     }
-    p
+    p.append_expr(record(0x23, 0, operands.len() as u16), start)
 }
 
-// An And of the expressions e and 0 more.
-fn with_pair(p: Plan, e: u16) -> Plan {
-    let used = p.items;
-    let q = with_item(with_item(p, e), 0);
-    with_expr(q, 0x23, 0, 2, used.count)
-}
-
-// The literal true, and n Ands, each of the one before it and the literal.
-fn ands(n: u16) -> Plan {
-    let mut p = with_expr(Plan::empty(), 0x11, 1, 0, 0);
-    for i in 0..n {
-        p = with_pair(p, i);
+// The literal, and n Nots over it.
+fn nots(n: u16) -> Result<Plan, AppendError> {
+    let mut p = literal()?;
+    for e in 0..n {
+        p.append_expr(record(0x21, 0, e), 0)?;
     }
-    p
+    Ok(p)
 }
 
-// The literal true, and n Ands, each of the one before it.
-fn lone_ands(n: u16) -> Plan {
-    let mut p = with_expr(Plan::empty(), 0x11, 1, 0, 0);
-    for i in 0..n {
-        p = with_item(p, i);
-        p = with_expr(p, 0x23, 0, 1, i);
+// The literal, and n Ands, each of the one before it and the literal.
+fn ands(n: u16) -> Result<Plan, AppendError> {
+    let mut p = literal()?;
+    for e in 0..n {
+        append_and(&mut p, &[e, 0])?;
     }
-    p
+    Ok(p)
 }
 
-// The literal true, and an And of n times the literal.
-fn wide(n: u16) -> Plan {
-    let mut p = with_expr(Plan::empty(), 0x11, 1, 0, 0);
-    for _ in 0..n {
-        p = with_item(p, 0);
+// The literal, and n Ands, each of the one before it.
+fn lone_ands(n: u16) -> Result<Plan, AppendError> {
+    let mut p = literal()?;
+    for e in 0..n {
+        append_and(&mut p, &[e])?;
     }
-    with_expr(p, 0x23, 0, n, 0)
+    Ok(p)
+}
+
+// The literal, and an And of 2,048 times the literal.
+fn wide() -> Result<Plan, AppendError> {
+    let mut p = literal()?;
+    append_and(&mut p, &[0; 2048])?;
+    Ok(p)
 }
 
 fn nulls() -> Row {
-    Row {
-        case: [0x10; 64],
-        code: [1; 64],
-        bits: [0; 64],
+    let null = Cell {
+        case: 0x10,
+        code: 1,
+        bits: 0,
+    };
+    Row { cells: [null; 64] }
+}
+
+fn word(answer: Result<ScalarValue, EvaluationError>) -> &'static str {
+    match answer {
+        Ok(v) => match rows::truth_of(v) {
+            0 => "FALSE",
+            2 => "TRUE",
+            _ => "UNKNOWN",
+        },
+        Err(EvaluationError::NoSuch) => "no such",
+        Err(EvaluationError::Untyped) => "untyped",
+        Err(EvaluationError::BadRow) => "bad row",
     }
 }
 
-fn letter(t: u8) {
-    if t == 0 {
-        io::write_all(1, b"FALSE\n");
-        return;
-    }
-    if t == 2 {
-        io::write_all(1, b"TRUE\n");
-        return;
-    }
-    io::write_all(1, b"UNKNOWN\n");
+// The answer for the expression e of a plan, where there was room for it.
+fn say(rt: &impl Print, plan: Result<Plan, AppendError>, e: u16) -> io::Result<()> {
+    let said = match plan {
+        Ok(p) => word(rows::evaluate(&p, Expr(e), &nulls())),
+        Err(AppendError::Room) => "no room",
+    };
+    println!(rt; "{said}")
 }
 
-fn answer(p: Plan, e: u16) {
-    match rows::evaluate(p, Expr(e), nulls()) {
-        Evaluation::Value(v) => {
-            letter(rows::truth_of(v));
-        }
-        Evaluation::NoSuch => {
-            io::write_all(1, b"no such\n");
-        }
-        Evaluation::Untyped => {
-            io::write_all(1, b"untyped\n");
-        }
-        Evaluation::BadRow => {
-            io::write_all(1, b"bad row\n");
-        }
-    }
-}
-
-fn main() {
-    answer(nots(1023), 1023);
-    answer(ands(512), 512);
-    answer(lone_ands(1023), 1023);
-    answer(wide(2048), 1);
+fn main(rt: HostRuntime) -> io::Result<()> {
+    say(&rt, nots(1023), 1023)?;
+    say(&rt, ands(512), 512)?;
+    say(&rt, lone_ands(1023), 1023)?;
+    say(&rt, wide(), 1)
 }
