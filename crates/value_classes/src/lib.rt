@@ -3,7 +3,7 @@
 
 ghost use Rattle.std.specs.Prelude.{◌≡◌, ◌<◌, cond, ◌&&◌, ltb};
 ghost use Rattle.value_classes.specs.Parents.{parent_in};
-ghost use Rattle.value_classes.specs.Classes.{classes_ok, empty_classes, canonical_of, same_class, roots_joined, union_of};
+ghost use Rattle.value_classes.specs.Classes.{Whole, classes_ok, empty_classes, canonical_of, same_class, roots_joined, union_of};
 ghost use Rattle.value_classes.specs.Answers.{united};
 ghost use Rattle.value_classes.specs.Listed.{roots_of, members_of};
 
@@ -40,10 +40,11 @@ impl ValueEquivalenceClasses {
         ValueEquivalenceClasses { parents }
     }
 
-    // Whether no parent is above its child.
+    // Whether no parent is above its child. That there is a parent for each identity is said for those who have the classes only as part of a set.
     #[tactic(auto, unfolding(crate::specs::Parents::parents_ok), using(lists::proofs::RangeLaws::all_loop))]
     pub fn parents_ok(&self) -> bool
-        ensures { result ≡ classes_ok self.now }
+        ensures value { result ≡ classes_ok self.now }
+        ensures whole { Whole self.now }
     {
         for i in 0..Self::IDENTITIES {
             if i < usize::from(self.parents[i]) {

@@ -19,7 +19,7 @@ loop-i-preserved c =
     (length-set l i x ∙ v.0, take-each-more (root_of p) l i x (omega arith) e v.1) in
     elim c.if-in_order.branch [
       | then-in_order+then-parent-i w ↦ (
-          let ok = sym c.parents_ok-in_order.ensures ∙ w.if-in_order.true in
+          let ok = sym c.parents_ok-in_order.ensures.value ∙ w.if-in_order.true in
           rw w.of-is (more _ (root-known p l 128 i _ (search rules) ok c.from-parent.ensures w.if-parent-i.true (omega arith) v.1)))
       | else-in_order w ↦ rw w.of-is (more _ w.canonical.ensures.value)
     ]
