@@ -12,3 +12,7 @@ second_of ms r = cond (eqb (get_or ms.first r 0) r) (get_or ms.next r 0) (get_or
 unfoldable pub chained : Members → ℕ → ℕ → ℕ → ConstraintSet → ConstraintSet
 chained ms r zero m t = t
 chained ms r (suc n) m t = cond (ltb m 128) (chained ms r n (get_or ms.next m 0) (union_values t r m)) t
+
+-- one class as the code goes through it
+abbrev pub join_chain : Members → ℕ → ConstraintSet → ConstraintSet
+join_chain ms r t = chained ms r 128 (second_of ms r) t

@@ -1,3 +1,1 @@
 pub mod Chained
-pub mod Joins
-pub mod Residuals

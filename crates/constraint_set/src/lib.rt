@@ -147,7 +147,7 @@ pub fn is_crossed(h: Holder, e: Entry) -> bool
 fn any_crossed(s: &ConstraintSet) -> bool
     ensures { result ≡ any_from (crossed_at s.now) 0 128 }
 {
-    for i in 0..128 {
+    for i in 0..ConstraintSet::IDENTITIES {
         if is_crossed(s.literal_equalities[i], s.ranges[i]) {
             return true;
         }
@@ -202,8 +202,8 @@ fn move_non_nulls(s: &mut ConstraintSet)
 {
     let old = s.non_null_values;
     s.non_null_values = [false; 128];
-    for i in 0..128 {
-        if old[i] {
+    for (i, non_null) in old.iter().enumerate() {
+        if *non_null {
             let root = canonical(s, i);
             s.non_null_values[root] = true;
         }
@@ -216,10 +216,10 @@ fn move_literals(s: &mut ConstraintSet)
 {
     let old = s.literal_equalities;
     s.literal_equalities = [Holder::empty(); 128];
-    for i in 0..128 {
-        if old[i].present {
+    for (i, holder) in old.iter().enumerate() {
+        if holder.present {
             let root = canonical(s, i);
-            put_literal(s, root, old[i].value);
+            put_literal(s, root, holder.value);
         }
     }
 }
@@ -230,10 +230,10 @@ fn move_ranges(s: &mut ConstraintSet)
 {
     let old = s.ranges;
     s.ranges = [Entry::empty(); 128];
-    for i in 0..128 {
-        if old[i].present {
+    for (i, entry) in old.iter().enumerate() {
+        if entry.present {
             let root = canonical(s, i);
-            put_range(s, root, old[i].range);
+            put_range(s, root, entry.range);
         }
     }
 }
@@ -294,9 +294,9 @@ pub fn merge_literals(s: &mut ConstraintSet, others: &[Holder; 128])
     ensures { s.new ≡ merge_literals s.old others.now }
 {
     let mut checked = false;
-    for i in 0..128 {
-        if others[i].present {
-            lay_literal(s, i, others[i].value, checked);
+    for (i, other) in others.iter().enumerate() {
+        if other.present {
+            lay_literal(s, i, other.value, checked);
             checked = true;
         }
     }

@@ -1,10 +1,7 @@
-use Rattle.constraint_merge.specs.Chained.{chained}
-use Rattle.constraint_merge.specs.Joins.{SettledIf}
-use mathlib.Core.Path.{◌≡◌}
+use Rattle.std.proofs.Common.{◌≡◌, ◌-◌, true}
+use Rattle.constraint_set.specs.Settled.{Settled}
+use Rattle.constraint_merge.specs.Chained.{chained, join_chain}
 use Rattle.constraint_merge.proofs.join_class.Given as goal
 
-abbrev pub invariant-loop-left : goal.invariant-loop-left
-invariant-loop-left l = (chained l.members l.r l.left l.m l.q.constraints ≡ chained l.members l.r 128 l.start l.initial.q.constraints) × SettledIf l.q
-
-abbrev pub decreases-loop-left : goal.decreases-loop-left
-decreases-loop-left l = l.left
+abbrev pub invariant-loop : goal.invariant-loop
+invariant-loop l = (chained l.members l.root (128 - l.counter) l.member l.s ≡ join_chain l.members l.root l.fn.s) × (l.settled ≡ true → Settled l.s)

@@ -1,39 +1,20 @@
-use Rattle.constraint_merge.specs.Residuals.{residuals_kept}
-use Rattle.constraint_spec.specs.Sets.{steps_to, merge_residuals, room_to}
-use native.Mathlib.Omega.{arith}
-use Prim.Native.Nat.{min}
-use Rattle.constraint_merge.proofs.Merging.{handle-pushed, handle-refused}
-use mathlib.Core.Path.{◌≡◌, refl}
+use mathlib.Core.Path.{sym, ap, ◌∙◌}
+use mathlib.Core.Bool.{not}
+use Prim.Native.Nat.{ℕ}
+use Rattle.constraint_spec.specs.Sets.{room_to}
+use Rattle.constraint_merge.proofs.Merging.{handles-one, room-one, room-refused}
 use Rattle.constraint_merge.proofs.merge_residuals.Goals as goal
-use Rattle.constraint_merge.proofs.merge_residuals.Goals.{else-many-lt64, then-many-lt64}
 
-pub loop-i-init : goal.loop-i-init
-unfolding steps_to room_to
-loop-i-init c = (
-  omega arith,
-  elim c.if-many-lt64.branch [
-    | then-many-lt64 w ↦ omega arith
-    | else-many-lt64 w ↦ omega arith
-  ],
-  refl,
-  refl,
-)
+pub returns-in_err-add_residual-clause-room : goal.returns-in_err-add_residual-clause-room
+returns-in_err-add_residual-clause-room c =
+    let none = room-refused c.args.other.now.residual_predicates c.args.s.now _ _ _ _ c.loop-handle-test.true c.loop-handle.invariant.0
+    c.in_err-add_residual.ensures in
+    c.from_residual.ensures.0 ∙ sym (ap (λ (n : ℕ). not (room_to c.args.s.now c.args.other.now.residual_predicates n)) (sym c.min-count.ensures) ∙ ap not none)
 
-pub loop-i-preserved : goal.loop-i-preserved
-loop-i-preserved c =
-    let args = c.args in
-    let v = c.loop-i.invariant in (
-      omega arith,
-      v.1,
-      handle-pushed args.t args.others c.loop-i.i c.loop-i.list c.loop-i.count c.loop-i.refused
-          c.push_handle-k.result v.2 v.3 c.push_handle-k.ensures,
-      handle-refused args.t args.others c.loop-i.i c.loop-i.list c.loop-i.count c.loop-i.refused
-          c.push_handle-k.result v.2 v.3 c.push_handle-k.ensures,
-    )
-
-pub returns : goal.returns
-unfolding residuals_kept merge_residuals
-returns c =
-    let v = c.loop-i.invariant in
-    let e : c.loop-i.i ≡ min c.args.many 64 = omega arith in
-    λ k. record { constraints = (rw e at v.2) k; refused = (rw e at v.3) k }
+pub loop-handle-preserved : goal.loop-handle-preserved
+loop-handle-preserved c =
+    let v = c.loop-handle.invariant in
+    let e = c.in_ok-add_residual.ensures in
+    let h = c.loop-handle-test.true in
+    let l = c.args.other.now.residual_predicates in
+    (handles-one l c.args.s.now _ _ _ _ h v.0 e, room-one l c.args.s.now _ _ _ _ h v.0 v.1 e)

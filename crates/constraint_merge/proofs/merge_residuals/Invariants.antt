@@ -1,12 +1,7 @@
-use Rattle.constraint_spec.specs.Sets.{with_residuals, steps_to, merge_residual, room_to}
-use mathlib.Core.Bool.{not}
-use Prim.Native.Nat.{◌≤◌, ◌-◌, min}
-use mathlib.Core.Path.{◌≡◌}
+use Rattle.std.proofs.Common.{◌≡◌, true}
+use Rattle.constraint_spec.specs.Sets.{room_to}
+use Rattle.constraint_merge.proofs.Merging.{handles_laid}
 use Rattle.constraint_merge.proofs.merge_residuals.Given as goal
 
-abbrev pub invariant-loop-i : goal.invariant-loop-i
-invariant-loop-i l = (l.i ≤ l.n) × (l.n ≡ min l.many 64)
-    × (with_residuals l.t l.list l.count ≡ steps_to (merge_residual l.others) l.i l.t) × (l.refused ≡ not (room_to l.t l.others l.i))
-
-abbrev pub decreases-loop-i : goal.decreases-loop-i
-decreases-loop-i l = l.n - l.i
+abbrev pub invariant-loop-handle : goal.invariant-loop-handle
+invariant-loop-handle l = (l.s ≡ handles_laid l.other.residual_predicates l.fn.s l.handle-index) × (room_to l.fn.s l.other.residual_predicates l.handle-index ≡ true)
