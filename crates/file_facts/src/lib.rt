@@ -12,6 +12,7 @@ use derive_spec::DeriveError;
 use plan::{Operator, Plan};
 use plan_file::ReadError;
 use plan_identities::Identities;
+use refusals::{Placed as _, Refusal as _};
 
 // The operator, and what its listing is made of.
 #[derive(Clone, Copy)]
@@ -35,8 +36,8 @@ impl From<ReadError> for Refusal {
 
     fn from(e: ReadError) -> Refusal {
         Refusal {
-            number: refusals::reading_number(e),
-            place: refusals::reading_place(e),
+            number: e.number(),
+            place: e.place(),
         }
     }
 }
@@ -48,8 +49,8 @@ impl From<DeriveError> for Refusal {
 
     fn from(e: DeriveError) -> Refusal {
         Refusal {
-            number: refusals::derive_number(e),
-            place: usize::from(refusals::derive_place(e)),
+            number: e.number(),
+            place: e.place(),
         }
     }
 }
