@@ -4,12 +4,8 @@ use Prim.Native.Nat.{ℕ, zero, suc, ◌<◌}
 use mathlib.Core.Path.{◌≡◌, sym, subst}
 use mathlib.Core.List.{List, [], ◌++◌}
 use native.Mathlib.Omega.{arith}
-use Rattle.apply_shared.proofs.Within.{Within, within_none, within-left, within-right, within_both}
-
--- n frames: `own` has what the And of each has, `run` what is to come in it, and `more` what comes from above
-unfoldable pub Chain : List ℕ → (ℕ → List ℕ) → (ℕ → List ℕ) → ℕ → List ℕ → Type 0
-Chain there own run zero more = Unit {0}
-Chain there own run (suc k) more = Within (own k) (there ++ (run k ++ more)) × Chain there own run k (own k)
+use Rattle.apply_shared.specs.Turns.{Within, Chain}
+use Rattle.apply_shared.proofs.Within.{within_none, within-left, within-right, within_both}
 
 -- a list within three that stand one after the other
 within-three : (there run more all : List ℕ) → Within there all → Within run all → Within more all → Within (there ++ (run ++ more)) all

@@ -1,433 +1,360 @@
 -- Conjuncts thinned while a walk goes on: whatever is kept of the rest of the walk, the list kept so far and that are a thinned list of all, if
 -- what was passed over comes again in the rest. Assumes nothing.
-use Prim.Native.Nat.{ℕ, suc, ◌+◌, ◌-◌, ◌<◌, ◌≤◌}
+use Prim.Native.Nat.{ℕ, ◌+◌, ◌<◌, ◌≤◌}
 use mathlib.Core.Path.{◌≡◌, refl, sym, ap, subst, ◌∙◌}
-use mathlib.Core.Bool.{Bool, true, false, not, ◌&&◌}
+use mathlib.Core.Bool.{Bool, true, false}
 use mathlib.Core.List.{List, [], ◌∷◌, ◌++◌, append-nil, append_assoc}
-use mathlib.Core.Logic.{⊎_elim}
 use native.Mathlib.Omega.{arith}
 use native.Mathlib.Numerals.{add-one}
-use lib.Dec.{ltb, eqb}
-use lib.ListN.{length, get_or, set, take, replicate, length-set, length-replicate, get_or-eq_default}
-use lib.Seq.{take-suc-set, get_or-set_same}
-use borrow.Author.Tests.{ltb-true, ltb-false, eqb-true}
-use Rattle.laws.proofs.Bools.{and_left, and_right}
+use lib.ListN.{length, get_or, set, take, replicate}
+use lib.Seq.{take-suc-set, set-set, get_or-set_same}
+use borrow.Author.Tests.{ltb-true, ltb-false}
 use Rattle.laws.proofs.Lists.{get_d_replicate-self}
-use Rattle.lists.proofs.RangeLaws.{below_or_not}
-use Rattle.plan_data.specs.Nodes.{node_of}
+use Rattle.plan.specs.declared.Expressions.{Expressions}
+use Rattle.plan_data.specs.Nodes.{node_from}
 use Rattle.apply_spec.specs.Conjuncts.{conjuncts_to}
+use Rattle.apply_walk.specs.declared.Frame.{Frame}
 use Rattle.apply_walk.specs.declared.Walk.{Walk}
 use Rattle.apply_walk.specs.declared.Move.{Move}
 use Rattle.apply_walk.specs.declared.Move.TheVariants.{Pop, Skip, Enter, Found}
-use Rattle.apply_walk.specs.Walks.{is_and, empty_walk, owner_at, place_at, left_at, popped, passed, entered, turn_of}
-use Rattle.apply_walk.proofs.Rests.{Good, rest_of, steps_left, passed-good}
-use Rattle.apply_walk.proofs.Stepping.{Goes, nothing_left, and-within, start-good, start-rest}
-use Rattle.apply_walk.proofs.WalkTurns.{Said, move_said, deeper, pop_turn, skip-turn, found_turn, enter_turn, enter_within}
+use Rattle.apply_walk.specs.Walks.{and_in, empty_walk, frame_at, top_of, passed, entered, moved}
+use Rattle.apply_walk.specs.Rests.{Good, rest_of, steps_left, Turned}
+use Rattle.apply_walk.proofs.RestLaws.{passed-depth, passed-good}
+use Rattle.apply_walk.proofs.Stepping.{nothing_left, start-good, start-rest}
+use Rattle.apply_walk.proofs.WalkTurns.{top, owner_within, turn_said, turn_leaves, enter_low, found_low, pop_turn, skip-turn, found_turn, enter_turn, enter_within}
 use Rattle.apply_shared.specs.Thinned.{Thinned}
-use Rattle.apply_shared.proofs.Within.{Within, contrary, within_none, within-left, within-right, thin_drop, thin_keep}
-use Rattle.apply_shared.proofs.Marks.{mark-either, mark-taken, mark-stays}
-use Rattle.apply_shared.proofs.Frames.{conj, Covered, first_below, first_past, conj-other, popped-within, popped-covered, passed-covered}
+use Rattle.apply_shared.specs.declared.Mark.{Mark}
+use Rattle.apply_shared.specs.declared.Thin.{Thin}
+use Rattle.apply_shared.specs.declared.Thinner.{Thinner}
+use Rattle.apply_shared.specs.Turns.{no_mark, mark_at, Within, SoFar, kept_of, conj, Covered, Held, GoesOn}
+use Rattle.apply_shared.proofs.Within.{contrary, within_none, within-left, within-right, thin_drop, thin_keep}
+use Rattle.apply_shared.proofs.Marks.{mark-either, mark-taken, mark_same, mark-stays}
+use Rattle.apply_shared.proofs.Frames.{first_below, first_past, conj-other, popped-within, popped-covered, passed-covered}
 use Rattle.apply_shared.proofs.Frames.{deeper-covered, over-rest, over-less, start-covered}
 
--- ---- lists alone: all of `whole` so far, where `there` was kept, `rest` is to come, and `own h` is owed of every handle h that `owed` marks
+abbrev is_seen : Mark → Bool
+is_seen m = m.seen
+
+abbrev is_owed : Mark → Bool
+is_owed m = m.owed
+
+-- ---- lists alone
 module _ (own : ℕ → List ℕ) where
-  -- whatever is owed comes
-  abbrev pub Comes : List Bool → List ℕ → Type 0
-  Comes owed rest = (h : ℕ) → get_or owed h false ≡ true → Within (own h) rest
-
-  abbrev pub SoFar : List ℕ → List ℕ → List ℕ → List Bool → Type 0
-  SoFar whole there rest owed = Comes owed rest → (ks : List ℕ) → Thinned there rest ks → Thinned [] whole (there ++ ks)
-
-  module _ (whole there rest : List ℕ) (owed : List Bool) (x : ℕ) where
+  module _ (whole there rest : List ℕ) (marks : List Mark) (x : ℕ) (m : Mark) where
     -- all of x is passed over
-    pub so_dropped : x < length owed → Within (own x) there → SoFar whole there (own x ++ rest) owed → SoFar whole there rest (set owed x true)
-    so_dropped l known was comes ks t =
-        was (λ h q i j. within-right (own x) rest i (comes h (mark-stays owed x h q) i j)) ks
-        (thin_drop there (own x) rest ks known (comes x (get_or-set_same owed x true false l)) t)
+    so_dropped : x < length marks → m.owed ≡ true → Within (own x) there → SoFar own whole there (own x ++ rest) marks → SoFar own whole there rest (set marks x m)
+    so_dropped l o known was comes ks t =
+        was (λ h q i j. within-right (own x) rest i (comes h (mark-stays is_owed marks x m l o h q) i j)) ks
+        (thin_drop there (own x) rest ks known (comes x (ap is_owed (get_or-set_same marks x m no_mark l) ∙ o)) t)
 
     -- all of x is to come
-    pub so-entered : SoFar whole there (own x ++ rest) owed → SoFar whole there (own x ++ rest) (set owed x false)
+    so-entered : SoFar own whole there (own x ++ rest) marks → SoFar own whole there (own x ++ rest) (set marks x m)
     so-entered was comes ks t =
-        was (mark-taken (λ (h : ℕ). Within (own h) (own x ++ rest)) owed x (within-left (own x) rest) comes) ks t
+        was (mark-taken is_owed (λ (h : ℕ). Within (own h) (own x ++ rest)) marks x m (within-left (own x) rest) comes) ks t
 
     -- x is kept
-    pub so-kept : own x ≡ x ∷ [] → SoFar whole there (x ∷ rest) owed → SoFar whole (there ++ (x ∷ [])) rest (set owed x false)
+    so-kept : own x ≡ x ∷ [] → SoFar own whole there (x ∷ rest) marks → SoFar own whole (there ++ (x ∷ [])) rest (set marks x m)
     so-kept alone was comes ks t =
         subst (Thinned [] whole) (sym (append_assoc there (x ∷ []) ks))
         (was
-        (mark-taken (λ (h : ℕ). Within (own h) (x ∷ rest)) owed x (subst (λ (l : List ℕ). Within l (x ∷ rest)) (sym alone) (within-left (x ∷ [])
-        rest))
+        (mark-taken is_owed (λ (h : ℕ). Within (own h) (x ∷ rest)) marks x m
+        (subst (λ (l : List ℕ). Within l (x ∷ rest)) (sym alone) (within-left (x ∷ []) rest))
         (λ h q i j. within-right (x ∷ []) rest i (comes h q i j)))
         (x ∷ ks) (thin_keep there x rest ks t))
 
   -- nothing is to come, and nothing is owed
-  pub so-ended : (whole there rest : List ℕ) (owed : List Bool) → rest ≡ [] → ((h : ℕ) → get_or owed h false ≡ false) → SoFar whole there rest owed
+  so-ended : (whole there rest : List ℕ) (marks : List Mark) → rest ≡ [] → ((h : ℕ) → (mark_at marks h).owed ≡ false) → SoFar own whole there rest marks
       → Thinned [] whole there
-  so-ended whole there rest owed e none was =
+  so-ended whole there rest marks e none was =
       subst (Thinned [] whole) (append-nil there)
-      (was (λ h q. contrary (get_or owed h false) (none h) q) [] (subst (λ (l : List ℕ). Thinned there l []) (sym e) refl))
+      (was (λ h q. contrary (mark_at marks h).owed (none h) q) [] (subst (λ (l : List ℕ). Thinned there l []) (sym e) refl))
 
-module _ (kind code a start items : List ℕ) where
-  abbrev rest : List ℕ → List ℕ → Walk → List ℕ
-  rest b bits = rest_of (node_of kind code a b bits start) items
-
-  abbrev steps : Walk → ℕ
-  steps = steps_left kind code a start items
-
-  abbrev conj_by : List ℕ → List ℕ → ℕ → List ℕ
-  conj_by b bits = conj kind code a b bits start items
-
-  module _ (e : ℕ) where
-    -- the walk v is left, and the conjuncts `there` were kept; where a handle is seen, its conjuncts are among them
-    pub record Held (b bits : List ℕ) (v : Walk) (seen owed : List Bool) (there : List ℕ) : Type 0 where
-      pub so_far : SoFar (conj_by b bits) (conj_by b bits e) there (rest b bits v) owed
-      pub known : (h : ℕ) → get_or seen h false ≡ true → Within (conj_by b bits h) there
-      pub frames : Covered kind code a b bits start items there v
-
-    pub record Collected (v : Walk) (seen owed : List Bool) (handles : List ℕ) (n : ℕ) : Type 0 where
-      pub good : Good v
-      pub slots : length handles ≡ 2048
-      pub debts : length owed ≡ 1024
-      pub few : n ≤ 2048
-      pub held : (b bits : List ℕ) → Held b bits v seen owed (take n handles)
-
--- ---- a turn of the loop, where the frame on top does m next
-abbrev top_of : Walk → ℕ
-top_of v = v.depth - 1
-
-pub record Turning (kind code a start items : List ℕ) (e : ℕ) (v : Walk) (seen owed : List Bool) (handles : List ℕ) (n : ℕ) (m : Move) : Type 0 where
-  pub long : length items ≡ 2048
-  pub had : Collected kind code a start items e v seen owed handles n
-  pub more : (ltb 0 v.depth && ltb n 2048) ≡ true
-  pub next : m ≡ turn_of kind code items (owner_at v (top_of v)) (place_at v (top_of v)) (left_at v (top_of v))
-
-module _ {kind code a start items : List ℕ} {e : ℕ} {v : Walk} {seen owed : List Bool} {handles : List ℕ} {n : ℕ} {m : Move}
-    (t : Turning kind code a start items e v seen owed handles n m) where
+-- ---- a turn, where the walk moves by m to u
+module _ (t : Expressions) (items : List ℕ) (s : Thinner) where
   abbrev k : ℕ
-  k = top_of v
+  k = top_of s.walk
 
-  abbrev o : ℕ
-  o = owner_at v k
+  abbrev f : Frame
+  f = frame_at s.walk k
+
+  abbrev v : Walk
+  v = passed s.walk k
 
   abbrev operand : ℕ
-  operand = get_or items (place_at v k) 0
+  operand = get_or items f.at 0
 
   abbrev there : List ℕ
-  there = take n handles
+  there = kept_of s.thin
 
-  abbrev g : Good v
-  g = t.had.good
+  abbrev own : ℕ → List ℕ
+  own = conj t items
 
-  abbrev whole : List ℕ → List ℕ → List ℕ
-  whole b bits = conj kind code a b bits start items e
+  abbrev rest : Walk → List ℕ
+  rest = rest_of (node_from t) items
 
-  abbrev own : List ℕ → List ℕ → ℕ → List ℕ
-  own b bits = conj kind code a b bits start items
+  abbrev popped_marks : List Mark
+  popped_marks = set s.marks f.owner (record { seen = true; owed = (mark_at s.marks f.owner).owed })
 
-  abbrev left_over : List ℕ → List ℕ → Walk → List ℕ
-  left_over b bits = rest kind code a start items b bits
+  -- x is owed or not
+  abbrev marked : ℕ → Bool → Mark
+  marked x b = record { seen = (mark_at s.marks x).seen; owed = b }
 
-  abbrev Becomes : Walk → List Bool → List Bool → List ℕ → ℕ → Type 0
-  Becomes u s d hs i = Collected kind code a start items e u s d hs i × (steps kind code a start items u < steps kind code a start items v)
+  abbrev marks_then : ℕ → Bool → List Mark
+  marks_then x b = set s.marks x (marked x b)
 
-  pub thin_some_frame : 0 < v.depth
-  thin_some_frame = ltb-true 0 v.depth (and_left (ltb 0 v.depth) (ltb n 2048) t.more)
+  abbrev longer : ℕ → List ℕ
+  longer x = there ++ (x ∷ [])
 
-  pub found-room : n < 2048
-  found-room = ltb-true n 2048 (and_right (ltb 0 v.depth) (ltb n 2048) t.more)
+  abbrev one_more : ℕ → Thin
+  one_more x = record { handles = set s.thin.handles s.thin.count x; count = s.thin.count + 1 }
 
-  top : v.depth ≡ suc k
-  top = omega (arith, thin_some_frame)
-
-  says : (x : Move) → m ≡ x → x ≡ turn_of kind code items o (place_at v k) (left_at v k)
-  says x p = sym p ∙ t.next
-
-  said : (x : Move) → m ≡ x → Said kind code items o (place_at v k) (left_at v k) x
-  said x p = move_said kind code items o (place_at v k) (left_at v k) x (says x p)
-
-  -- the And of the frame stands in the tables
-  pub owner_within : o < 1024
-  owner_within = omega (arith, g.low k (omega (arith, thin_some_frame)))
+  abbrev kept_mark : Mark
+  kept_mark = record { seen = true; owed = false }
 
   -- the same is to come, in other words
-  said-so : (b bits : List ℕ) (d : List Bool) (l l2 : List ℕ) → l ≡ l2 → SoFar (own b bits) (whole b bits) there l d → SoFar (own b bits) (whole b
-      bits) there
-      l2 d
-  said-so b bits d l l2 e = subst (λ (x : List ℕ). SoFar (own b bits) (whole b bits) there x d) e
+  so_said : (e : ℕ) (marks : List Mark) (l l2 : List ℕ) → l ≡ l2 → SoFar own (own e) there l marks → SoFar own (own e) there l2 marks
+  so_said e marks l l2 q = subst (λ (x : List ℕ). SoFar own (own e) there x marks) q
 
-  -- ---- the frame is done: all conjuncts of its And are there
-  pub thin_popped-on : m ≡ Pop → Becomes (popped v k) (set seen o true) owed handles n
-  thin_popped-on p =
-      let go = pop_turn kind code a start items t.long v g k top (says Pop p) in (
+  -- the same is owed, and the same is seen
+  so_owed : (e : ℕ) (l : List ℕ) (marks : List Mark) → ((h : ℕ) → (mark_at marks h).owed ≡ (mark_at s.marks h).owed) → SoFar own (own e) there l s.marks
+      → SoFar own (own e) there l marks
+  so_owed e l marks same was comes = was (λ h q. comes h (same h ∙ q))
+
+  known_same : (marks : List Mark) → ((h : ℕ) → (mark_at marks h).seen ≡ (mark_at s.marks h).seen)
+      → ((h : ℕ) → (mark_at s.marks h).seen ≡ true → Within (own h) there) → (h : ℕ) → (mark_at marks h).seen ≡ true → Within (own h) there
+  known_same marks same was h q = was h (sym (same h) ∙ q)
+
+  -- s with the walk moved, other marks and other handles
+  abbrev next : Walk → List Bool → List Mark → Thin → Thinner
+  next w last marks thin = record { walk = w; last = last; marks = marks; thin = thin }
+
+  module _ {u : Walk} {m : Move} (r : Turned t items s.walk u m) where
+    -- what is covered by the walk that is left
+    covers : (x : Move) → m ≡ x → (there2 : List ℕ) → Covered t items there2 (moved s.walk x) → Covered t items there2 u
+    covers x p there2 = subst (Covered t items there2) (sym (turn_leaves r x p))
+
+    -- ---- x is the operand, a conjunct or an And; its conjuncts come next
+    pub record Has (x : ℕ) : Type 0 where
+      pub within : x < 1024
+      pub some_left : 1 ≤ f.left
+      pub low : f.at < 2048
+      pub first : get_or (conjuncts_to (node_from t) items f.owner) operand [] ≡ own x
+      pub walk : u ≡ v
+      pub good : Good u
+      pub to-come : rest s.walk ≡ own x ++ rest u
+      pub less : steps_left t items u < steps_left t items s.walk
+
+    found-alone : (x : ℕ) → m ≡ Found x → own x ≡ x ∷ []
+    found-alone x p = let n = turn_said r (Found x) p in conj-other t items x (subst (λ (y : ℕ). and_in t y ≡ false) n.is n.opened)
+
+    pub found_has : (x : ℕ) → m ≡ Found x → Has x
+    found_has x p =
+        let n = turn_said r (Found x) p in
+        let go = found_turn r x p in
         record {
-          good = (go [] []).good;
-          slots = t.had.slots;
-          debts = t.had.debts;
-          few = t.had.few;
-          held =
-              λ b bits.
-              let was = t.had.held b bits in
-              record {
-                so_far = said-so b bits owed (left_over b bits v) (left_over b bits (popped v k)) (go b bits).to-come was.so_far;
+          within = found_low r x p;
+          some_left = n.has.some;
+          low = n.has.low;
+          first = first_below t items f.owner operand (ltb-true operand f.owner n.has.stands) ∙ ap own n.is;
+          walk = turn_leaves r (Found x) p;
+          good = go.good;
+          to-come = go.to-come ∙ ap (λ (l : List ℕ). l ++ rest u) (sym (found-alone x p));
+          less = go.less;
+        }
+
+    pub enter_has : (x : ℕ) → m ≡ Enter x → Has x
+    enter_has x p =
+        let n = turn_said r (Enter x) p in
+        let same = sym (turn_leaves r (Enter x) p) in
+        record {
+          within = enter_low r x p;
+          some_left = n.has.some;
+          low = n.has.low;
+          first = first_below t items f.owner operand (ltb-true operand f.owner n.has.stands) ∙ ap own n.is;
+          walk = turn_leaves r (Enter x) p;
+          good = subst Good same (passed-good s.walk r.good k (top r));
+          to-come =
+              over-rest t items r.long s.walk r.good k (top r) n.has.some n.has.low n.has.stands n.opened
+              ∙ ap (λ (y : ℕ). own y ++ rest v) n.is
+              ∙ ap (λ (w : Walk). own x ++ rest w) same;
+          less =
+              subst (λ (w : Walk). steps_left t items w < steps_left t items s.walk) same
+              (over-less t items r.long s.walk r.good k (top r) n.has.some n.has.low n.has.stands n.opened);
+        }
+
+    -- there is a frame for an And
+    pub frame_within : (x : ℕ) → m ≡ Enter x → s.walk.depth < 1024
+    frame_within x p =
+        omega (arith, enter_within r x p, ap (λ (w : Walk). w.depth) (turn_leaves r (Enter x) p), passed-depth s.walk r.good k (top r))
+
+    module _ (room : s.thin.count < 2048) (places : length s.marks ≡ 1024) (slots : length s.thin.handles ≡ 2048) where
+      -- ---- the frame is done: all conjuncts of its And are there
+      module _ (p : m ≡ Pop) where
+        pub when_popped : GoesOn t items s (next u s.last popped_marks s.thin)
+        when_popped =
+            let go = pop_turn r p in
+            record {
+              good = go.good;
+              few = omega arith;
+              held = λ e was. record {
+                so_far =
+                    so_owed e (rest u) popped_marks (mark_same is_owed s.marks f.owner (record {
+                      seen = true;
+                      owed = (mark_at s.marks f.owner).owed;
+                    }) (omega (arith, owner_within r, places)) refl)
+                    (so_said e s.marks (rest s.walk) (rest u) go.to-come was.so_far);
                 known =
-                    mark-either (λ (h : ℕ). Within (conj kind code a b bits start items h) there) seen o
-                    (popped-within kind code a b bits start items t.long there v g k top was.frames (said Pop p)) was.known;
-                frames = popped-covered kind code a b bits start items t.long there v g k top was.frames (said Pop p);
+                    mark-either is_seen (λ (h : ℕ). Within (own h) there) s.marks f.owner (record {
+                      seen = true;
+                      owed = (mark_at s.marks f.owner).owed;
+                    }) (popped-within t items r.long there s.walk r.good k (top r) was.frames (turn_said r Pop p)) was.known;
+                frames = covers Pop p there (popped-covered t items r.long there s.walk r.good k (top r) was.frames (turn_said r Pop p));
               };
-        },
-        (go [] []).less,
-      )
+              less = go.less;
+            }
 
-  -- ---- nothing comes of an operand
-  module _ (owed2 : List Bool) (size : length owed2 ≡ length owed) (some : 1 ≤ left_at v k) (low : place_at v k < 2048) (first : List ℕ → List ℕ →
-      List ℕ)
-      (is : (b bits : List ℕ) → get_or (conjuncts_to (node_of kind code a b bits start) items o) operand [] ≡ first b bits)
-      (so : (b bits : List ℕ) → SoFar (own b bits) (whole b bits) there (left_over b bits (passed v k)) owed2)
-      (known-first : (b bits : List ℕ) → Within (first b bits) there) where
-    passed_on : Collected kind code a start items e (passed v k) seen owed2 handles n
-    passed_on =
-        record {
-          good = passed-good v g k top;
-          slots = t.had.slots;
-          debts = size ∙ t.had.debts;
-          few = t.had.few;
-          held =
-              λ b bits.
-              let was = t.had.held b bits in
-              record {
-                so_far = so b bits;
+      -- ---- nothing comes of the operand
+      module _ (p : m ≡ Skip) where
+        pub when_skipped : GoesOn t items s (next u s.last s.marks s.thin)
+        when_skipped =
+            let go = skip-turn r p in
+            let h = turn_said r Skip p in
+            record {
+              good = go.good;
+              few = omega arith;
+              held = λ e was. record {
+                so_far = so_said e s.marks (rest s.walk) (rest u) go.to-come was.so_far;
                 known = was.known;
                 frames =
-                    passed-covered kind code a b bits start items t.long there v g k top was.frames some low (first b bits) (is b bits) there (λ h i.
-                    i)
-                    (known-first b bits);
+                    covers Skip p there
+                    (passed-covered t items r.long there s.walk r.good k (top r) was.frames h.some h.low []
+                    (first_past t items f.owner operand (ltb-false operand f.owner h.stands)) there (λ i q. q) (within_none there));
               };
-        }
+              less = go.less;
+            }
 
-  pub thin_skipped_on : m ≡ Skip → Becomes (passed v k) seen owed handles n
-  thin_skipped_on p =
-      let f = said Skip p in
-      let go = skip-turn kind code a start items t.long v g k top (says Skip p) in (
-        passed_on owed refl f.0 f.1 (λ b bits. []) (λ b bits. first_past kind code a b bits start items o operand (ltb-false operand o f.2))
-            (λ b bits. said-so b bits owed (left_over b bits v) (left_over b bits (passed v k)) (go b bits).to-come (t.had.held b bits).so_far)
-            (λ b bits. within_none there),
-        (go [] []).less,
-      )
+      module _ (x : ℕ) (h : Has x) where
+        in_marks : x < length s.marks
+        in_marks = omega (arith, h.within, places)
 
-  -- ---- a conjunct is found
-  module _ (x : ℕ) (p : m ≡ Found x) where
-    found-said : Said kind code items o (place_at v k) (left_at v k) (Found x)
-    found-said = said (Found x) p
+        seen_same : (b : Bool) (i : ℕ) → (mark_at (marks_then x b) i).seen ≡ (mark_at s.marks i).seen
+        seen_same b = mark_same is_seen s.marks x (marked x b) in_marks refl
 
-    pub thin_found-within : x < 1024
-    thin_found-within = omega (arith, found-said.4, ltb-true operand o found-said.2, owner_within)
+        so_next : (e : ℕ) → Held t items e s → SoFar own (own e) there (own x ++ rest u) s.marks
+        so_next e was = so_said e s.marks (rest s.walk) (own x ++ rest u) h.to-come was.so_far
 
-    found_owed : x < length owed
-    found_owed = omega (arith, thin_found-within, t.had.debts)
+        -- the walk that is left covers what it did, if the conjuncts of x are among what is there
+        on_covers : (e : ℕ) → Held t items e s → (there2 : List ℕ) → Within there there2 → Within (own x) there2 → Covered t items there2 u
+        on_covers e was there2 grows known =
+            subst (Covered t items there2) (sym h.walk)
+            (passed-covered t items r.long there s.walk r.good k (top r) was.frames h.some_left h.low (own x) h.first there2 grows known)
 
-    found-alone : (b bits : List ℕ) → conj kind code a b bits start items x ≡ x ∷ []
-    found-alone b bits = conj-other kind code a b bits start items x (subst (λ (y : ℕ). is_and kind code y ≡ false) found-said.4 found-said.3)
+        -- it is passed over
+        pub when_over : (mark_at s.marks x).seen ≡ true → GoesOn t items s (next u s.last (marks_then x true) s.thin)
+        when_over seen =
+            record {
+              good = h.good;
+              few = omega arith;
+              held = λ e was. record {
+                so_far = so_dropped own (own e) there (rest u) s.marks x (marked x true) in_marks refl (was.known x seen) (so_next e was);
+                known = known_same (marks_then x true) (seen_same true) was.known;
+                frames = on_covers e was there (λ i q. q) (was.known x seen);
+              };
+              less = h.less;
+            }
 
-    found_first : (b bits : List ℕ) → get_or (conjuncts_to (node_of kind code a b bits start) items o) operand [] ≡ conj kind code a b bits start
-        items x
-    found_first b bits =
-        first_below kind code a b bits start items o operand (ltb-true operand o found-said.2) ∙ ap (conj kind code a b bits start items) found-said.4
-
-    found-goes : (b bits : List ℕ) → Goes kind code a b bits start items t.long v (passed v k) (x ∷ [])
-    found-goes = found_turn kind code a start items t.long v g k top x (says (Found x) p)
-
-    -- it is passed over
-    pub found-over : get_or seen x false ≡ true → Becomes (passed v k) seen (set owed x true) handles n
-    found-over s = (
-      passed_on (set owed x true) (length-set owed x true) found-said.0 found-said.1 (λ b bits. conj kind code a b bits start items x) found_first
-          (λ b bits.
-          so_dropped (own b bits) (whole b bits) there (left_over b bits (passed v k)) owed x found_owed ((t.had.held b bits).known x s)
-          (said-so b bits owed (left_over b bits v) (own b bits x ++ left_over b bits (passed v k))
-          ((found-goes b bits).to-come ∙ ap (λ (l : List ℕ). l ++ left_over b bits (passed v k)) (sym (found-alone b bits))) (t.had.held b
-          bits).so_far))
-          (λ b bits. (t.had.held b bits).known x s),
-      (found-goes [] []).less,
-    )
-
-    -- it is kept
-    abbrev longer : List ℕ
-    longer = there ++ (x ∷ [])
-
-    one_more : take (n + 1) (set handles n x) ≡ longer
-    one_more = rw add-one (take-suc-set handles n x (omega (arith, t.had.slots, found-room)))
-
-    held_then : (b bits : List ℕ) → Held kind code a start items e b bits (passed v k) (set seen x true) (set owed x false) longer
-    held_then b bits =
-        let was = t.had.held b bits in
-        record {
-          so_far =
-              so-kept (own b bits) (whole b bits) there (left_over b bits (passed v k)) owed x (found-alone b bits)
-              (said-so b bits owed (left_over b bits v) (x ∷ left_over b bits (passed v k)) (found-goes b bits).to-come was.so_far);
-          known =
-              mark-either (λ (h : ℕ). Within (conj kind code a b bits start items h) longer) seen x
-              (subst (λ (l : List ℕ). Within l longer) (sym (found-alone b bits)) (within-right there (x ∷ [])))
-              (λ h q i j. within-left there (x ∷ []) i (was.known h q i j));
-          frames =
-              passed-covered kind code a b bits start items t.long there v g k top was.frames found-said.0 found-said.1 (x ∷ [])
-              (found_first b bits ∙ found-alone b bits) longer (within-left there (x ∷ [])) (within-right there (x ∷ []));
-        }
-
-    pub found-kept : Becomes (passed v k) (set seen x true) (set owed x false) (set handles n x) (n + 1)
-    found-kept = (
-      record {
-        good = passed-good v g k top;
-        slots = length-set handles n x ∙ t.had.slots;
-        debts = length-set owed x false ∙ t.had.debts;
-        few = omega (arith, found-room);
-        held = λ b bits. subst (Held kind code a start items e b bits (passed v k) (set seen x true) (set owed x false)) (sym one_more) (held_then b
-            bits);
-      },
-      (found-goes [] []).less,
-    )
-
-  -- ---- an And is the operand
-  module _ (x : ℕ) (p : m ≡ Enter x) where
-    enter_said : Said kind code items o (place_at v k) (left_at v k) (Enter x)
-    enter_said = said (Enter x) p
-
-    pub entered-within : x < 1024
-    entered-within = omega (arith, enter_said.4, ltb-true operand o enter_said.2, owner_within)
-
-    enter_owed : x < length owed
-    enter_owed = omega (arith, entered-within, t.had.debts)
-
-    enter_first : (b bits : List ℕ) → get_or (conjuncts_to (node_of kind code a b bits start) items o) operand [] ≡ conj kind code a b bits start
-        items x
-    enter_first b bits =
-        first_below kind code a b bits start items o operand (ltb-true operand o enter_said.2) ∙ ap (conj kind code a b bits start items) enter_said.4
-
-    -- its conjuncts come next
-    enter_next : (b bits : List ℕ) → left_over b bits v ≡ own b bits x ++ left_over b bits (passed v k)
-    enter_next b bits =
-        over-rest kind code a b bits start items t.long v g k top enter_said.0 enter_said.1 enter_said.2 enter_said.3
-        ∙ ap (λ (y : ℕ). conj kind code a b bits start items y ++ left_over b bits (passed v k)) enter_said.4
-
-    enter_so : (b bits : List ℕ) → SoFar (own b bits) (whole b bits) there (own b bits x ++ left_over b bits (passed v k)) owed
-    enter_so b bits = said-so b bits owed (left_over b bits v) (own b bits x ++ left_over b bits (passed v k)) (enter_next b bits) (t.had.held b
-        bits).so_far
-
-    -- it is passed over
-    pub entered-over : get_or seen x false ≡ true → Becomes (passed v k) seen (set owed x true) handles n
-    entered-over s = (
-      passed_on (set owed x true) (length-set owed x true) enter_said.0 enter_said.1 (λ b bits. conj kind code a b bits start items x) enter_first
-          (λ b bits. so_dropped (own b bits) (whole b bits) there (left_over b bits (passed v k)) owed x enter_owed ((t.had.held b bits).known x s)
-          (enter_so b bits))
-          (λ b bits. (t.had.held b bits).known x s),
-      over-less kind code a [] [] start items t.long v g k top enter_said.0 enter_said.1 enter_said.2 enter_said.3,
-    )
-
-    -- its operands come next
-    pub thin_entered-on : (at left : ℕ) → at ≡ get_or start x 0 → left ≡ get_or a x 0 → Becomes (deeper v k x at left) seen (set owed x false) handles
-        n
-    thin_entered-on at left q r =
-        let go = enter_turn kind code a start items t.long v g k top x at left (says (Enter x) p) q r in (
-          record {
-            good = (go [] []).good;
-            slots = t.had.slots;
-            debts = length-set owed x false ∙ t.had.debts;
-            few = t.had.few;
-            held =
-                λ b bits.
-                let was = t.had.held b bits in
-                record {
+        -- it is an And, and entered
+        module _ (p : m ≡ Enter x) where
+          pub when_entered : (w : Walk) → w ≡ entered t u x → (last : List Bool) → GoesOn t items s (next w last (marks_then x false) s.thin)
+          when_entered w ew last =
+              let go = enter_turn r x p in
+              let n = turn_said r (Enter x) p in
+              subst (λ (y : Walk). GoesOn t items s (next y last (marks_then x false) s.thin)) (sym ew)
+              (record {
+                good = go.good;
+                few = omega arith;
+                held = λ e was. record {
                   so_far =
-                      said-so b bits (set owed x false) (own b bits x ++ left_over b bits (passed v k)) (left_over b bits (deeper v k x at left))
-                      (sym (enter_next b bits) ∙ (go b bits).to-come)
-                      (so-entered (own b bits) (whole b bits) there (left_over b bits (passed v k)) owed x (enter_so b bits));
-                  known = was.known;
+                      so_said e (marks_then x false) (own x ++ rest u) (rest (entered t u x)) (sym h.to-come ∙ go.to-come)
+                      (so-entered own (own e) there (rest u) s.marks x (marked x false) (so_next e was));
+                  known = known_same (marks_then x false) (seen_same false) was.known;
                   frames =
-                      rw (q, r)
-                      (deeper-covered kind code a b bits start items t.long there v g k top was.frames enter_said.0 enter_said.1
-                      (conj kind code a b bits start items x) (enter_first b bits) x
-                      (subst (λ (y : ℕ). is_and kind code y ≡ true) enter_said.4 enter_said.3) refl
-                      (omega (arith, top, g.low k (omega (arith, thin_some_frame)), enter_said.4, ltb-true operand o enter_said.2)));
+                      subst (λ (y : Walk). Covered t items there (entered t y x)) (sym h.walk)
+                      (deeper-covered t items r.long there s.walk r.good k (top r) was.frames h.some_left h.low (own x) h.first x
+                      (subst (λ (y : ℕ). and_in t y ≡ true) n.is n.opened) refl
+                      (subst (λ (y : Walk). y.depth + x ≤ 1023) h.walk (enter_within r x p)) (passed-depth s.walk r.good k (top r)));
                 };
-          },
-          (go [] []).less,
-        )
+                less = go.less;
+              })
 
-    -- there is a frame for it
-    pub thin_enter_frame : v.depth < 1024
-    thin_enter_frame = enter_within kind code a start items t.long v g k top x (says (Enter x) p)
+        -- it is another conjunct, and kept
+        module _ (p : m ≡ Found x) where
+          longer_is : kept_of (one_more x) ≡ longer x
+          longer_is = rw add-one (take-suc-set s.thin.handles s.thin.count x (omega (arith, slots, room)))
 
-  -- ---- the frame has an operand
-  abbrev Operand : Type 0
-  Operand = (1 ≤ left_at v k) × (place_at v k < 2048)
+          at_once : GoesOn t items s (next u s.last (set s.marks x kept_mark) (one_more x))
+          at_once = record {
+            good = h.good;
+            few = omega arith;
+            held = λ e was. let alone = found-alone x p in record {
+              so_far =
+                  subst (λ (l : List ℕ). SoFar own (own e) l (rest u) (set s.marks x kept_mark)) (sym longer_is)
+                  (so-kept own (own e) there (rest u) s.marks x kept_mark alone
+                  (so_said e s.marks (own x ++ rest u) (x ∷ rest u) (ap (λ (l : List ℕ). l ++ rest u) alone) (so_next e was)));
+              known =
+                  subst (λ (l : List ℕ). (i : ℕ) → (mark_at (set s.marks x kept_mark) i).seen ≡ true → Within (own i) l) (sym longer_is)
+                  (mark-either is_seen (λ (i : ℕ). Within (own i) (longer x)) s.marks x kept_mark
+                  (subst (λ (l : List ℕ). Within l (longer x)) (sym alone) (within-right there (x ∷ [])))
+                  (λ i q j q2. within-left there (x ∷ []) j (was.known i q j q2)));
+              frames =
+                  subst (λ (l : List ℕ). Covered t items l u) (sym longer_is)
+                  (on_covers e was (longer x) (within-left there (x ∷ []))
+                  (subst (λ (l : List ℕ). Within l (longer x)) (sym alone) (within-right there (x ∷ []))));
+            };
+            less = h.less;
+          }
 
-  pub thin_skip-operand : m ≡ Skip → Operand
-  thin_skip-operand p = let f = said Skip p in (f.0, f.1)
-
-  pub thin_found-operand : (x : ℕ) → m ≡ Found x → Operand
-  thin_found-operand x p = ((found-said x p).0, (found-said x p).1)
-
-  pub thin_enter_operand : (x : ℕ) → m ≡ Enter x → Operand
-  thin_enter_operand x p = ((enter_said x p).0, (enter_said x p).1)
-
--- ---- what the tests of the loop say
-pub test_frame : (d n : ℕ) → (ltb 0 d && ltb n 2048) ≡ true → 1 ≤ d
-test_frame d n e = ltb-true 0 d (and_left (ltb 0 d) (ltb n 2048) e)
-
-pub over_seen : (last : List Bool) (i : ℕ) (r s : Bool) → (not (get_or last i false && r) && s) ≡ true → s ≡ true
-over_seen last i r s e = and_right (not (get_or last i false && r)) s e
+          -- first it is not owed, then it is seen
+          pub when_kept : GoesOn t items s
+              (next u s.last (set (marks_then x false) x (record { seen = true; owed = (mark_at (marks_then x false) x).owed })) (one_more x))
+          when_kept =
+              subst (λ (ms : List Mark). GoesOn t items s (next u s.last ms (one_more x)))
+              (sym (ap (λ (b : Bool). set (marks_then x false) x (record { seen = true; owed = b }))
+              (ap is_owed (get_or-set_same s.marks x (marked x false) no_mark in_marks))
+              ∙ set-set s.marks x (marked x false) kept_mark)) at_once
 
 -- ---- the walk is done
-pub ended : {kind code a start items : List ℕ} {e : ℕ} {v : Walk} {seen owed : List Bool} {handles : List ℕ} {n : ℕ} → length items ≡ 2048
-    → Collected kind code a start items e v seen owed handles n → (none : Bool) → (none ≡ true → (h : ℕ) → get_or owed h false ≡ false)
-    → (eqb v.depth 0 && none) ≡ true → (b bits : List ℕ) → Thinned [] (conj kind code a b bits start items e) (take n handles)
-ended {kind} {code} {a} {start} {items} {e} {v} {seen} {owed} {handles} {n} long had none f q b bits =
-    so-ended (conj kind code a b bits start items) (conj kind code a b bits start items e) (take n handles)
-    (rest_of (node_of kind code a b bits start) items v) owed
-    (nothing_left kind code a b bits start items long v (eqb-true v.depth 0 (and_left (eqb v.depth 0) none q)))
-    (f (and_right (eqb v.depth 0) none q)) (had.held b bits).so_far
+module _ (t : Expressions) (items : List ℕ) (e : ℕ) where
+  pub ended : (s : Thinner) → Held t items e s → s.walk.depth ≡ 0 → ((h : ℕ) → (mark_at s.marks h).owed ≡ false) → Thinned [] (conj t items e) (kept_of s.thin)
+  ended s had none owes =
+      so-ended (conj t items) (conj t items e) (kept_of s.thin) (rest_of (node_from t) items s.walk) s.marks (nothing_left t items s.walk none) owes
+      had.so_far
 
--- ---- its start: nothing is seen yet, and nothing is owed
-module _ (kind code a start items : List ℕ) (long : length items ≡ 2048) (short : length kind ≡ 1024) (e : ℕ) (y : is_and kind code e ≡ true) where
-  in_table : List ℕ → List ℕ → e < 1024
-  in_table b bits = and-within kind code a b bits start items long short e y
+  -- ---- its start: nothing is seen yet, and nothing is owed
+  module _ (low : e < 1024) (y : and_in t e ≡ true) where
+    pub first_good : (w : Walk) → w ≡ entered t empty_walk e → Good w
+    first_good w ew = subst Good (sym ew) (start-good t items e low)
 
-  first-held : (b bits : List ℕ) → Held kind code a start items e b bits (entered a start empty_walk e) (replicate 1024 false) (replicate 1024 false)
-      []
-  first-held b bits =
-      record {
-        so_far =
-            λ comes ks.
-            subst (λ (l : List ℕ). Thinned [] l ks → Thinned [] (conj kind code a b bits start items e) ks)
-            (start-rest kind code a b bits start items long e (in_table b bits) y) (λ t. t);
-        known = λ h q. contrary (get_or (replicate 1024 false) h false) (get_d_replicate-self 1024 h false) q;
-        frames = start-covered kind code a b bits start items long e y;
-      }
+    abbrev first_marks : List Mark
+    first_marks = replicate 1024 no_mark
 
-  pub started : (v w : Walk) → v ≡ empty_walk → w ≡ entered a start v e
-      → Collected kind code a start items e w (replicate 1024 false) (replicate 1024 false) (replicate 2048 0) 0
-  started v w p q =
-      subst (λ (u : Walk). Collected kind code a start items e u (replicate 1024 false) (replicate 1024 false) (replicate 2048 0) 0)
-      (sym (q ∙ ap (λ (u : Walk). entered a start u e) p))
-      (record {
-        good = start-good kind code a [] [] start items long e (in_table [] []);
-        slots = length-replicate {A = ℕ} 2048 0;
-        debts = length-replicate {A = Bool} 1024 false;
-        few = omega arith;
-        held = first-held;
-      })
-
--- ---- no mark was met up to the end
-pub none_at_all : (ts : List Bool) → length ts ≡ 1024 → (i : ℕ) → 1024 ≤ i → ((h : ℕ) → h < i → get_or ts h false ≡ false) → (h : ℕ) → get_or ts h
-    false ≡ false
-none_at_all ts size i all none h = ⊎_elim (λ l. none h (omega arith)) (λ l. get_or-eq_default ts false {n = h} (omega arith)) (below_or_not h 1024)
-
--- one more was met
-pub none_more : (ts : List Bool) (i : ℕ) → get_or ts i false ≡ false → ((h : ℕ) → h < i → get_or ts h false ≡ false) → (h : ℕ) → h < i + 1 → get_or ts
-    h false ≡ false
-none_more ts i this none h l =
-    ⊎_elim (none h) (λ m. let e : h ≡ i = omega arith in subst (λ (x : ℕ). get_or ts x false ≡ false) (sym e) this) (below_or_not h i)
+    pub first_held : (w : Walk) → w ≡ entered t empty_walk e → (last : List Bool)
+        → Held t items e (record { walk = w; last = last; marks = first_marks; thin = record { handles = replicate 2048 0; count = 0 } })
+    first_held w ew last =
+        subst (λ (x : Walk). Held t items e (record {
+          walk = x;
+          last = last;
+          marks = first_marks;
+          thin = record { handles = replicate 2048 0; count = 0 };
+        })) (sym ew)
+        (record {
+          so_far =
+              λ comes ks.
+              subst (λ (l : List ℕ). Thinned [] l ks → Thinned [] (conj t items e) ks) (start-rest t items e low y) (λ q. q);
+          known = λ h q. contrary (mark_at first_marks h).seen (ap is_seen (get_d_replicate-self 1024 h no_mark)) q;
+          frames = start-covered t items e y;
+        })
 
 -- ---- an expression that is no And is its own conjunct
-pub thinned_alone : (kind code a b bits start items : List ℕ) (e : ℕ) → is_and kind code e ≡ false
-    → Thinned [] (conj kind code a b bits start items e) (take 1 (replicate 2048 e))
-thinned_alone kind code a b bits start items e f =
-    subst (λ (l : List ℕ). Thinned [] l (e ∷ [])) (sym (conj-other kind code a b bits start items e f)) (thin_keep [] e [] [] refl)
+pub thinned_alone : (t : Expressions) (items : List ℕ) (e : ℕ) → and_in t e ≡ false → Thinned [] (conj t items e) (take 1 (replicate 2048 e))
+thinned_alone t items e f = subst (λ (l : List ℕ). Thinned [] l (e ∷ [])) (sym (conj-other t items e f)) (thin_keep [] e [] [] refl)

@@ -9,10 +9,7 @@ use lib.Dec.{eqb}
 use borrow.Author.Tests.{eq-eqb}
 use Rattle.laws.proofs.Bools.{or_inl, or_inr, or_cases, and_both}
 use Rattle.apply_shared.specs.Thinned.{is_in, Thinned}
-
--- every handle of the one list is in the other
-abbrev pub Within : List ℕ → List ℕ → Type 0
-Within xs ys = (h : ℕ) → is_in h xs ≡ true → is_in h ys ≡ true
+use Rattle.apply_shared.specs.Turns.{Within}
 
 pub contrary : {A : Type 0} (t : Bool) → t ≡ false → t ≡ true → A
 contrary t f e = absurd (let z : ◌≡◌ {A = ℕ} 0 1 = ap (λ (y : Bool). cond {A = ℕ} y 1 0) (sym f ∙ e) in omega arith)

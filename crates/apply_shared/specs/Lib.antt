@@ -1,1 +1,2 @@
 pub mod Thinned
+pub mod Turns

@@ -3,220 +3,215 @@
 // each frame and operand of the tables.
 #![tactic(auto)]
 
-ghost use Rattle.std.specs.Prelude.{◌≡◌, true, false, List, [], ℕ, ◌≤◌, length, get_or, take};
-ghost use Rattle.plan_data.specs.Nodes.{node_of};
+ghost use Rattle.std.specs.Prelude.{◌≡◌, true, false, [], ℕ, ◌<◌, ◌≤◌, get_or, set, take, IfSome};
+ghost use Rattle.plan_data.specs.Nodes.{node_from};
 ghost use Rattle.apply_spec.specs.Conjuncts.{conjuncts_of};
-ghost use Rattle.apply_walk.specs.Walks.{is_and};
+ghost use Rattle.apply_walk.specs.Walks.{and_in};
+ghost use Rattle.apply_walk.specs.Rests.{Good};
 ghost use Rattle.apply_shared.specs.Thinned.{Thinned};
+ghost use Rattle.apply_shared.specs.Turns.{mark_at, with_mark, GoesOn};
 
-use apply_walk::{Move, Walk};
+use apply_walk::{Frame, Move, Walk};
+use plan::{Expressions, Items};
 
-// The first `count` handles are the conjuncts kept, where `whole` is true: the walk came to its end, and whatever it passed over came again.
+// The first `count` handles are the conjuncts kept.
 #[derive(Clone, Copy)]
 pub struct Thin {
     pub handles: [u16; 2048],
     pub count: usize,
-    pub whole: bool,
 }
 
-// By handle: the And and the place among the items where it stands for the last time. Nothing is promised of it: an operand passed over that
-// does not come again is found out by the walk itself.
+// Where an expression is an operand: of which And, and at which place among the items.
+#[derive(Clone, Copy, PartialEq, Eq)]
+struct Place {
+    owner: u16,
+    at: u16,
+}
+
+// The operands of an And that are still to be gone through backward: from the place `first` on, up to `end`.
 #[derive(Clone, Copy)]
-struct Lasts {
-    owner: [u16; 1024],
-    place: [u16; 1024],
+struct Span {
+    owner: u16,
+    first: u16,
+    end: u16,
 }
 
-// The place after the last operand of e.
-fn ending<'a>(a: &'a [u16], start: &'a [u16], e: u16) -> u16 {
-    let s = lists::at16(start, e as usize);
-    let n = lists::at16(a, e as usize);
-    if 2048 <= s {
-        return s;
-    }
-    if 2048 - s < n {
-        return 2048;
-    }
-    s + n
+// An expression is seen when all of its conjuncts are kept: another conjunct once it is found, an And once its frame is done. What is seen may
+// be passed over; it is owed then, until it comes again.
+#[derive(Clone, Copy)]
+struct Mark {
+    seen: bool,
+    owed: bool,
 }
 
-// Backward through the And e: what is met first stands for the last time. Each And is entered once, so that the turns are at most one for each
-// And and each operand of it: `turns` is more than that, and only says that the loop ends.
-fn last_places<'a>(
-    kind: &'a [u8],
-    code: &'a [u8],
-    a: &'a [u16],
-    start: &'a [u16],
-    items: &'a [u16],
-    e: u16,
-) -> Lasts {
-    let mut owners = [e; 1024];
-    let mut firsts = [lists::at16(start, e as usize); 1024];
-    let mut ends = [ending(a, start, e); 1024];
+// A walk with what was kept and passed over on it: whether each frame is the last visit to its And, and a mark for each handle.
+#[derive(Clone, Copy)]
+struct Thinner {
+    walk: Walk,
+    last: [bool; 1024],
+    marks: [Mark; 1024],
+    thin: Thin,
+}
+
+impl Thin {
+    pub fn kept(&self) -> &[u16]
+        ensures { result.now ≡ take self.now.count self.now.handles }
+    {
+        &self.handles[..self.count.min(2048)]
+    }
+}
+
+impl Span {
+    fn of(exprs: &Expressions, e: u16) -> Span {
+        let first = exprs.start(usize::from(e));
+        let count = lists::at(&exprs.a, usize::from(e), 0);
+        Span {
+            owner: e,
+            first,
+            end: first.saturating_add(count).min(2048),
+        }
+    }
+}
+
+// By handle, where it stands for the last time in the And e, gone through backward: what is met first stands last. Each And is entered once, so
+// that the turns are at most one for each And and each operand of it: the bound is more than that, and only says that the loop ends. Nothing is
+// promised of the places: an operand passed over that does not come again is found out by the walk itself.
+fn last_places(exprs: &Expressions, items: &Items, e: u16) -> [Option<Place>; 1024] {
+    let mut lasts = [None; 1024];
+    let mut spans = [Span::of(exprs, e); 1024];
     let mut depth: usize = 1;
-    let mut seen = [false; 1024];
-    let mut owner = [0u16; 1024];
-    let mut place = [0u16; 1024];
-    let mut turns: u32 = 2_200_000;
-    while 0 < turns {
-        turns -= 1;
+    for _ in 0..2_200_000u32 {
         if depth == 0 {
-            return Lasts { owner, place };
+            break;
         }
         let k = depth - 1;
-        let o = owners[k];
-        let end = ends[k];
-        if end <= firsts[k] {
+        let Span { owner, first, end } = spans[k];
+        if end <= first {
             depth = k;
-        } else {
-            let p = end - 1;
-            ends[k] = p;
-            if p < 2048 {
-                let h = lists::at16(items, p as usize);
-                if h < o {
-                    if h < 1024 {
-                        if !seen[h as usize] {
-                            seen[h as usize] = true;
-                            owner[h as usize] = o;
-                            place[h as usize] = p;
-                            if depth < 1024 {
-                                if apply_walk::is_and(kind, code, h) {
-                                    owners[depth] = h;
-                                    firsts[depth] = lists::at16(start, h as usize);
-                                    ends[depth] = ending(a, start, h);
-                                    depth += 1;
-                                }
-                            }
-                        }
-                    }
-                }
+            continue;
+        }
+        let at = end - 1;
+        spans[k].end = at;
+        let h = lists::at(&items.a, usize::from(at), 0);
+        if h < owner && h < 1024 && lasts[usize::from(h)].is_none() {
+            lasts[usize::from(h)] = Some(Place { owner, at });
+            if depth < 1024 && apply_walk::is_and(exprs, h) {
+                spans[depth] = Span::of(exprs, h);
+                depth += 1;
             }
         }
     }
-    Lasts { owner, place }
+    lasts
 }
 
-// Whether the handle h stands for the last time at the place `at` of the And o, in its last visit.
-fn stands_last<'a>(owners: &'a [u16], places: &'a [u16], h: u16, o: u16, at: u16) -> bool {
-    (lists::at16(owners, h as usize) == o) & (lists::at16(places, h as usize) == at)
+// Whether the operand x of a frame stands there for the last time in its And.
+fn stands_last(lasts: &[Option<Place>; 1024], x: u16, frame: Frame) -> bool {
+    let place = Place {
+        owner: frame.owner,
+        at: frame.at,
+    };
+    lists::at(lasts, usize::from(x), None) == Some(place)
 }
 
-fn none_owed(owed: [bool; 1024]) -> bool
-    ensures { result ≡ true → (h : ℕ) → get_or owed h false ≡ false }
-{
-    let mut i: usize = 0;
-    while i < 1024 {
-        if owed[i] {
-            return false;
-        }
-        i += 1;
+impl Thinner {
+    // Whether x is passed over, here where it stands for the last time or not.
+    fn passes_over(&mut self, x: u16, last: bool) -> bool
+        requires { x < 1024 }
+        ensures marked { self.new ≡ with_mark self.old x result }
+        ensures seen { result ≡ true → (mark_at self.old.marks x).seen ≡ true }
+    {
+        let mark = &mut self.marks[usize::from(x)];
+        let over = !last && mark.seen;
+        mark.owed = over;
+        over
     }
-    true
-}
 
-// The conjuncts of the And e, with the places where each handle stands for the last time. An expression is seen when all of its conjuncts are
-// among the handles: another conjunct once it is found, an And once its frame is done. What is seen may be passed over; it is owed then, until
-// it comes again.
-fn of_and<'a>(
-    kind: &'a [u8],
-    code: &'a [u8],
-    a: &'a [u16],
-    start: &'a [u16],
-    items: &'a [u16],
-    owners: &'a [u16],
-    places: &'a [u16],
-    e: u16,
-) -> Thin
-    requires kind_len { length kind.now ≡ 1024 }
-    requires len { length items.now ≡ 2048 }
-    requires e_value { is_and kind.now code.now e ≡ true }
-    ensures count_bound { result.count ≤ 2048 }
-    ensures thinned { result.whole ≡ true → (b bits : List ℕ) → Thinned []
-        (conjuncts_of (node_of kind.now code.now a.now b bits start.now) items.now e)
-        (take result.count result.handles) }
-{
-    let mut walk = apply_walk::enter(a, start, Walk::empty(), e);
-    let mut last = [true; 1024];
-    let mut seen = [false; 1024];
-    let mut owed = [false; 1024];
-    let mut handles = [0u16; 2048];
-    let mut count: usize = 0;
-    while (0 < walk.depth) & (count < 2048) {
-        let depth = walk.depth;
-        let k = depth - 1;
-        let owner = walk.owner[k];
-        let at = walk.at[k];
-        let left = walk.left[k];
-        let turn = apply_walk::turn(kind, code, items, owner, at, left);
+    // One turn of the walk.
+    #[tactic(auto, using(crate::proofs::Thinning::frame_within))]
+    fn turn(&mut self, exprs: &Expressions, items: &Items, lasts: &[Option<Place>; 1024])
+        requires good { Good self.old.walk }
+        requires some { 0 < self.old.walk.depth }
+        requires room { self.old.thin.count < 2048 }
+        ensures { GoesOn exprs.now items.now.a self.old self.new }
+    {
+        let k = self.walk.depth - 1;
+        let frame = self.walk.frames[k];
+        let last_visit = self.last[k];
+        let turn = self.walk.turn(exprs, items);
         match turn {
-            Move::Pop => {
-                seen[owner as usize] = true;
-                walk.depth = k;
-            }
-            Move::Skip => {
-                walk.at[k] = at + 1;
-                walk.left[k] = left - 1;
-            }
-            Move::Enter(inner) => {
-                walk.at[k] = at + 1;
-                walk.left[k] = left - 1;
-                let is_last = last[k] & stands_last(owners, places, inner, owner, at);
-                if !is_last & seen[inner as usize] {
-                    owed[inner as usize] = true;
-                } else {
-                    owed[inner as usize] = false;
-                    last[depth] = is_last;
-                    walk.owner[depth] = inner;
-                    walk.at[depth] = lists::at16(start, inner as usize);
-                    walk.left[depth] = lists::at16(a, inner as usize);
-                    walk.depth = depth + 1;
+            Move::Pop => self.marks[usize::from(frame.owner)].seen = true,
+            Move::Skip => {}
+            Move::Enter(x) => {
+                let last = last_visit && stands_last(lasts, x, frame);
+                if !self.passes_over(x, last) {
+                    self.last[k + 1] = last;
+                    self.walk.enter(exprs, x);
                 }
             }
             Move::Found(x) => {
-                walk.at[k] = at + 1;
-                walk.left[k] = left - 1;
-                let is_last = last[k] & stands_last(owners, places, x, owner, at);
-                if !is_last & seen[x as usize] {
-                    owed[x as usize] = true;
-                } else {
-                    owed[x as usize] = false;
-                    seen[x as usize] = true;
-                    handles[count] = x;
-                    count += 1;
+                let last = last_visit && stands_last(lasts, x, frame);
+                if !self.passes_over(x, last) {
+                    self.marks[usize::from(x)].seen = true;
+                    self.thin.handles[self.thin.count] = x;
+                    self.thin.count += 1;
                 }
             }
         }
     }
-    let whole = (walk.depth == 0) & none_owed(owed);
-    Thin {
-        handles,
-        count,
-        whole,
+
+    fn none_owed(&self) -> bool
+        ensures { result ≡ true → (h : ℕ) → (mark_at self.now.marks h).owed ≡ false }
+    {
+        !self.marks.iter().any(|mark| mark.owed)
     }
 }
 
-// The conjuncts of the And or other expression e, where `whole` is true: each at its first and its last place, and maybe at some between.
-pub fn thinned_conjuncts<'a>(
-    kind: &'a [u8; 1024],
-    code: &'a [u8; 1024],
-    a: &'a [u16; 1024],
-    start: &'a [u16; 1024],
-    items: &'a [u16; 2048],
-    e: u16,
-) -> Thin
-    ensures count_bound { result.count ≤ 2048 }
-    ensures thinned { result.whole ≡ true → (b bits : List ℕ) → Thinned []
-        (conjuncts_of (node_of kind.now code.now a.now b bits start.now) items.now e)
-        (take result.count result.handles) }
+// The conjuncts of the And e, by the places where each handle stands for the last time.
+#[tactic(auto, using(crate::proofs::Thinning::ended))]
+fn of_and(exprs: &Expressions, items: &Items, lasts: &[Option<Place>; 1024], e: u16) -> Option<Thin>
+    requires is_and { and_in exprs.now e ≡ true }
+    requires within { e < 1024 }
+    ensures count_bound { IfSome result (λ t. t.count ≤ 2048) }
+    ensures thinned { IfSome result (λ t. Thinned []
+        (conjuncts_of (node_from exprs.now) items.now.a e) (take t.count t.handles)) }
 {
-    if apply_walk::is_and(kind, code, e) {
-        let lasts = last_places(kind, code, a, start, items, e);
-        return of_and(kind, code, a, start, items, &lasts.owner, &lasts.place, e);
+    let mark = Mark {
+        seen: false,
+        owed: false,
+    };
+    let mut thinner = Thinner {
+        walk: Walk::empty(),
+        last: [true; 1024],
+        marks: [mark; 1024],
+        thin: Thin {
+            handles: [0; 2048],
+            count: 0,
+        },
+    };
+    thinner.walk.enter(exprs, e);
+    while 0 < thinner.walk.depth && thinner.thin.count < 2048 {
+        thinner.turn(exprs, items, lasts);
     }
-    let handles = [e; 2048];
-    Thin {
-        handles,
-        count: 1,
-        whole: true,
+    if thinner.walk.depth == 0 && thinner.none_owed() {
+        Some(thinner.thin)
+    } else {
+        None
+    }
+}
+
+// The conjuncts of the And or other expression e: each at its first and its last place, and maybe at some between. None where the walk did not
+// come to its end, or passed over what did not come again.
+pub fn thinned_conjuncts(exprs: &Expressions, items: &Items, e: u16) -> Option<Thin>
+    ensures count_bound { IfSome result (λ t. t.count ≤ 2048) }
+    ensures thinned { IfSome result (λ t. Thinned []
+        (conjuncts_of (node_from exprs.now) items.now.a e) (take t.count t.handles)) }
+{
+    if apply_walk::is_and(exprs, e) {
+        of_and(exprs, items, &last_places(exprs, items, e), e)
+    } else {
+        Some(Thin {
+            handles: [e; 2048],
+            count: 1,
+        })
     }
 }

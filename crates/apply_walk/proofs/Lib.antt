@@ -1,5 +1,5 @@
 pub mod Guards
 pub mod Entries
-pub mod Rests
+pub mod RestLaws
 pub mod Stepping
 pub mod WalkTurns

@@ -1,20 +1,21 @@
 -- What a frame does next says what its numbers are, and the walk that is moved so goes on. Assumes nothing.
 use Prim.Native.Nat.{ℕ, suc, ◌+◌, ◌<◌, ◌≤◌}
-use mathlib.Core.Path.{◌≡◌, refl, sym, subst}
+use mathlib.Core.Path.{◌≡◌, refl, sym, ap, subst, ◌∙◌}
 use mathlib.Core.Bool.{Bool, true, false, cond, ◌||◌}
 use mathlib.Core.List.{List, [], ◌∷◌}
 use native.Mathlib.Omega.{arith}
 use lib.Dec.{ltb, leb, eqb}
-use lib.ListN.{length, get_or}
+use lib.ListN.{get_or}
+use borrow.Author.Tests.{ltb-true}
 use Rattle.plan.specs.declared.Expressions.{Expressions}
 use Rattle.apply_walk.specs.declared.Frame.{Frame}
 use Rattle.apply_walk.specs.declared.Walk.{Walk}
 use Rattle.apply_walk.specs.declared.Move.{Move}
 use Rattle.apply_walk.specs.declared.Move.TheVariants.{Pop, Skip, Enter, Found}
-use Rattle.apply_walk.specs.Walks.{and_in, frame_at, top_of, popped, passed, entered, operand_turn, turn_of, frame_turn, top_turn}
+use Rattle.apply_walk.specs.Walks.{and_in, frame_at, top_of, popped, passed, entered, operand_turn, turn_of, frame_turn, moved}
 use Rattle.apply_walk.proofs.Guards.{goes_on}
-use Rattle.apply_walk.proofs.Rests.{Good}
-use Rattle.apply_walk.proofs.Stepping.{Goes, pop_goes, skip-goes, found-goes, enter_goes, enter_room}
+use Rattle.apply_walk.specs.Rests.{Goes, Turned}
+use Rattle.apply_walk.proofs.Stepping.{pop_goes, skip-goes, found-goes, enter_goes, enter_room}
 
 -- ---- what each turn says of a frame
 module _ (t : Expressions) (items : List ℕ) (f : Frame) where
@@ -69,40 +70,61 @@ module _ (t : Expressions) (items : List ℕ) (f : Frame) where
       go (Found x) s n = (s.has.some, s.has.low)
 
 -- ---- a turn of a walk
-module _ (t : Expressions) (items : List ℕ) (long : length items ≡ 2048) (w : Walk) (g : Good w) (some : 0 < w.depth) where
-  abbrev here : Move → Type 0
-  here m = m ≡ top_turn t items w
-
+module _ {t : Expressions} {items : List ℕ} {w v : Walk} {m : Move} (r : Turned t items w v m) where
   abbrev k : ℕ
   k = top_of w
 
-  top : w.depth ≡ suc k
-  top = omega arith
+  abbrev f : Frame
+  f = frame_at w k
 
-  facts : (m : Move) → here m → Said t items (frame_at w k) m
-  facts m e = move_said t items (frame_at w k) m e
+  pub top : w.depth ≡ suc k
+  top = omega (arith, r.some)
 
-  pub pop_turn : here Pop → Goes t items long w (popped w k) []
-  pop_turn e = pop_goes t items long w g k top (facts Pop e)
+  -- the And of the frame stands in the tables
+  pub owner_within : f.owner < 1024
+  owner_within = omega (arith, r.good.low k (omega (arith, r.some)))
 
-  pub skip-turn : here Skip → Goes t items long w (passed w k) []
-  skip-turn e = let h = facts Skip e in skip-goes t items long w g k top h.some h.low h.stands
+  pub turn_said : (x : Move) → m ≡ x → Said t items f x
+  turn_said x e = move_said t items f x (sym e ∙ r.told)
+
+  pub turn_leaves : (x : Move) → m ≡ x → v ≡ moved w x
+  turn_leaves x e = r.done ∙ ap (moved w) e
+
+  goes : (u : Walk) (found : List ℕ) → v ≡ u → Goes t items w u found → Goes t items w v found
+  goes u found e = subst (λ (x : Walk). Goes t items w x found) (sym e)
+
+  -- and so does an operand that counts
+  pub enter_low : (x : ℕ) → m ≡ Enter x → x < 1024
+  enter_low x e = let h = turn_said (Enter x) e in omega (arith, h.is, ltb-true (get_or items f.at 0) f.owner h.has.stands, owner_within)
+
+  pub found_low : (x : ℕ) → m ≡ Found x → x < 1024
+  found_low x e = let h = turn_said (Found x) e in omega (arith, h.is, ltb-true (get_or items f.at 0) f.owner h.has.stands, owner_within)
+
+  pub pop_turn : m ≡ Pop → Goes t items w v []
+  pop_turn e = goes (popped w k) [] (turn_leaves Pop e) (pop_goes t items r.long w r.good k top (turn_said Pop e))
+
+  pub skip-turn : m ≡ Skip → Goes t items w v []
+  skip-turn e = let h = turn_said Skip e in goes (passed w k) [] (turn_leaves Skip e) (skip-goes t items r.long w r.good k top h.some h.low h.stands)
 
   module _ (x : ℕ) where
-    pub found_turn : here (Found x) → Goes t items long w (passed w k) (x ∷ [])
+    pub found_turn : m ≡ Found x → Goes t items w v (x ∷ [])
     found_turn e =
-        let h = facts (Found x) e in
-        subst (λ (y : ℕ). Goes t items long w (passed w k) (y ∷ [])) h.is (found-goes t items long w g k top h.has.some h.has.low h.has.stands h.opened)
+        let h = turn_said (Found x) e in
+        subst (λ (y : ℕ). Goes t items w v (y ∷ [])) h.is
+        (goes (passed w k) _ (turn_leaves (Found x) e) (found-goes t items r.long w r.good k top h.has.some h.has.low h.has.stands h.opened))
 
-    module _ (e : here (Enter x)) where
-      h : Named t items (frame_at w k) true x
-      h = facts (Enter x) e
+    module _ (e : m ≡ Enter x) where
+      h : Named t items f true x
+      h = turn_said (Enter x) e
 
       -- there is room for a frame for it
-      pub enter_within : (passed w k).depth + x ≤ 1023
-      enter_within = omega (arith, enter_room t items long w g k top h.has.some h.has.low h.has.stands, h.is)
+      pub enter_within : v.depth + x ≤ 1023
+      enter_within =
+          subst (λ (u : Walk). u.depth + x ≤ 1023) (sym (turn_leaves (Enter x) e))
+          (omega (arith, enter_room t items r.long w r.good k top h.has.some h.has.low h.has.stands, h.is))
 
-      pub enter_turn : Goes t items long w (entered t (passed w k) x) []
+      pub enter_turn : Goes t items w (entered t v x) []
       enter_turn =
-          subst (λ (y : ℕ). Goes t items long w (entered t (passed w k) y) []) h.is
-          (enter_goes t items long w g k top h.has.some h.has.low h.has.stands h.opened)
+          subst (λ (y : ℕ). Goes t items w (entered t v y) []) h.is
+          (subst (λ (u : Walk). Goes t items w (entered t u (get_or items f.at 0)) []) (sym (turn_leaves (Enter x) e))
+          (enter_goes t items r.long w r.good k top h.has.some h.has.low h.has.stands h.opened))

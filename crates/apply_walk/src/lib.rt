@@ -2,8 +2,9 @@
 // frame for each And that it is within.
 #![tactic(auto)]
 
-ghost use Rattle.std.specs.Prelude.{◌≡◌, ◌<◌, ◌≤◌};
-ghost use Rattle.apply_walk.specs.Walks.{and_in, frame_of, empty_walk, entered, frame_turn, top_turn, moved};
+ghost use Rattle.std.specs.Prelude.{◌≡◌, ◌<◌, true, length};
+ghost use Rattle.apply_walk.specs.Walks.{and_in, frame_of, empty_walk, entered, frame_turn};
+ghost use Rattle.apply_walk.specs.Rests.{Good, Turned};
 
 use plan::{Expressions, Items};
 
@@ -30,9 +31,11 @@ pub enum Move {
     Found(u16),
 }
 
-// Whether the expression e is an And.
+// Whether the expression e is an And; one that is stands in the table.
+#[tactic(auto, using(crate::proofs::Guards::and_within))]
 pub fn is_and(exprs: &Expressions, e: u16) -> bool
-    ensures { result ≡ and_in exprs.now e }
+    ensures told { result ≡ and_in exprs.now e }
+    ensures within { result ≡ true → e < 1024 }
 {
     let i = usize::from(e);
     lists::at(&exprs.kind, i, 0) == 0x23 && lists::at(&exprs.code, i, 0) == 0
@@ -53,7 +56,8 @@ impl Frame {
 
     #[tactic(auto, unfolding(crate::specs::Walks::turn_of))]
     fn turn(self, exprs: &Expressions, items: &Items) -> Move
-        ensures { result ≡ frame_turn exprs.now items.now.a self }
+        ensures told { result ≡ frame_turn exprs.now items.now.a self }
+        ensures long { length items.now.a ≡ 2048 }
     {
         if self.left == 0 || 2048 <= self.at {
             return Move::Pop;
@@ -102,10 +106,9 @@ impl Walk {
     // What the frame on top does next, which is then done, but for an And: whether it is entered is for the caller to say.
     #[tactic(auto, using(crate::proofs::WalkTurns::has_operand), unfolding(crate::specs::Walks::passed))]
     pub fn turn(&mut self, exprs: &Expressions, items: &Items) -> Move
+        requires good { Good self.old }
         requires some { 0 < self.old.depth }
-        requires few { self.old.depth ≤ 1024 }
-        ensures told { result ≡ top_turn exprs.now items.now.a self.old }
-        ensures done { self.new ≡ moved self.old result }
+        ensures { Turned exprs.now items.now.a self.old self.new result }
     {
         let k = self.depth - 1;
         let frame = self.frames[k];

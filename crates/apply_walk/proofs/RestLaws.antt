@@ -1,8 +1,7 @@
--- The conjuncts that are still to come in a walk, and how much is left to do: what one operand less and one frame more make of them. Assumes nothing.
+-- What one operand less and one frame more make of what is to come in a walk, and of what is left to do. Assumes nothing.
 use Prim.Native.Nat.{ℕ, zero, suc, ◌+◌, ◌-◌, ◌<◌, ◌≤◌}
 use mathlib.Core.Path.{◌≡◌, refl, sym, ap, subst, ◌∙◌}
-use mathlib.Core.Bool.{cond}
-use mathlib.Core.List.{List, [], ◌∷◌, ◌++◌}
+use mathlib.Core.List.{List, [], ◌∷◌}
 use mathlib.Core.Logic.{⊎_elim}
 use native.Mathlib.Omega.{arith}
 use native.Mathlib.Numerals.{add-one}
@@ -11,63 +10,15 @@ use lib.Seq.{drop-cons, take-nil, get_or-set_same, get_or-set_other}
 use borrow.Author.Tests.{lt-ltb}
 use native.Mathlib.Nat.{ne_of_lt}
 use Rattle.lists.proofs.RangeLaws.{below_or_not}
-use Rattle.plan.specs.declared.Expressions.{Expressions}
-use Rattle.plan_data.specs.declared.ExprData.{ExprData}
-use Rattle.apply_spec.specs.Conjuncts.{joined_of, conjuncts_to}
-use Rattle.rows_spec.specs.InOrder.{in_order}
 use Rattle.apply_walk.specs.declared.Frame.{Frame}
 use Rattle.apply_walk.specs.declared.Walk.{Walk}
-use Rattle.apply_walk.specs.Walks.{and_in, no_frame, frame_at, frame_of, less, pushed, popped, passed}
-
--- ---- something of each frame taken together, from the frame on top down
-unfoldable pub fold_to : {A : Type 0} → (A → A → A) → A → (ℕ → A) → ℕ → A
-fold_to op none f zero = none
-fold_to op none f (suc k) = op (f k) (fold_to op none f k)
-
-abbrev pub of_frame : {A : Type 0} → (Frame → A) → Walk → ℕ → A
-of_frame run w k = run (frame_at w k)
-
-unfoldable pub fold_of : {A : Type 0} → (A → A → A) → A → (Frame → A) → Walk → A
-fold_of op none run w = fold_to op none (of_frame run w) w.depth
-
--- ---- the conjuncts to come: of a frame, its operands that are left
-unfoldable pub run_rest : (ℕ → ExprData) → List ℕ → Frame → List ℕ
-run_rest node items f = joined_of (conjuncts_to node items f.owner) (take f.left (drop f.at items))
-
-abbrev pub rest_of : (ℕ → ExprData) → List ℕ → Walk → List ℕ
-rest_of node items = fold_of ◌++◌ [] (run_rest node items)
-
--- ---- the steps to come: one for each frame, one for each operand, and those of the Ands among them
-unfoldable pub steps_in : List ℕ → List ℕ → ℕ
-steps_in below [] = 0
-steps_in below (e ∷ es) = suc (get_or below e 0) + steps_in below es
-
--- those of a frame, by those of each expression
-abbrev pub frame_steps : List ℕ → List ℕ → Frame → ℕ
-frame_steps items below f = suc (steps_in below (take f.left (drop f.at items)))
-
-abbrev pub steps_by : Expressions → List ℕ → List ℕ → ℕ → ℕ
-steps_by t items below h = cond (and_in t h) (frame_steps items below (frame_of t h)) 0
-
-abbrev pub steps_to : Expressions → List ℕ → ℕ → List ℕ
-steps_to t items = in_order (steps_by t items)
-
-unfoldable pub run_steps : Expressions → List ℕ → Frame → ℕ
-run_steps t items f = frame_steps items (steps_to t items f.owner) f
-
-abbrev pub steps_left : Expressions → List ℕ → Walk → ℕ
-steps_left t items = fold_of ◌+◌ 0 (run_steps t items)
+use Rattle.apply_walk.specs.Walks.{no_frame, frame_at, less, pushed, popped, passed}
+use Rattle.apply_walk.specs.Rests.{fold_to, of_frame, fold_of, Good}
 
 fold_same : {A : Type 0} (op : A → A → A) (none : A) (f g : ℕ → A) (n : ℕ) → ((k : ℕ) → k < n → f k ≡ g k) → fold_to op none f n ≡ fold_to op none g n
 unfolding fold_to
 fold_same op none f g zero h = refl
 fold_same op none f g (suc n) h = λ i. op (h n (omega arith) i) (fold_same op none f g n (λ k l. h k (omega arith)) i)
-
--- ---- walks as the steps make them: a frame's And stands at most as high as there is room for the frames below it, so there is always room
-pub record Good (w : Walk) : Type 0 where
-  pub many : length w.frames ≡ 1024
-  pub few : w.depth ≤ 1024
-  pub low : (k : ℕ) → k < w.depth → k + (frame_at w k).owner ≤ 1023
 
 -- ---- the operands of a run, one less
 module _ (items : List ℕ) (long : length items ≡ 2048) where
@@ -93,7 +44,7 @@ module _ (w : Walk) (g : Good w) (k : ℕ) (top : w.depth ≡ suc k) where
   unfolding passed
   passed-below j l = get_or-set_other w.frames k j (less (frame_at w k)) no_frame (ne_of_lt l)
 
-  passed-owner : (j : ℕ) → j < suc k → (frame_at (passed w k) j).owner ≡ (frame_at w j).owner
+  pub passed-owner : (j : ℕ) → j < suc k → (frame_at (passed w k) j).owner ≡ (frame_at w j).owner
   passed-owner j l =
       ⊎_elim (λ m. ap (λ (f : Frame). f.owner) (passed-below j m))
       (λ m. let e : k ≡ j = omega arith in subst (λ (i : ℕ). (frame_at (passed w k) i).owner ≡ (frame_at w i).owner) e (ap (λ (f : Frame). f.owner) passed-top))
