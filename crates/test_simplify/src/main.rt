@@ -5,33 +5,35 @@
 
 ghost use Rattle.std.specs.Prelude.{◌≤◌};
 
-use plan::{Columns, Expressions, Items, Operator, Operators, Plan};
-use plan_file::Reading;
+use plan::{Items, Operator, Plan};
 use plan_kinds::{Record, Row};
-use simplify_spec::Rewrite;
+use simplify_spec::{Rewrite, SimplifyError};
+
+const NAN: u64 = 0x7ff8_0000_0000_0000;
 
 fn code(n: u8) {
-    io::print_hex(1, n as u64, 2);
+    io::print_hex(1, u64::from(n), 2);
 }
 
 fn number(sort: u8, n: u16) {
-    if sort != 0 {
-        io::print_hex(1, n as u64, 4);
+    if sort != plan_kinds::NONE {
+        io::print_hex(1, u64::from(n), 4);
     }
 }
 
 // A literal's payload: every NaN is written as one.
 fn payload(kind: u8, bits: u64, width: u8) {
-    if width == 4 {
-        io::print_hex(1, bits, 8);
-    }
-    if width == 8 {
-        let nan = (kind == 0x14) & (0x7ff0000000000000 < bits % 0x8000000000000000);
-        if nan {
-            io::print_hex(1, 0x7ff8000000000000, 16);
-            return;
+    match width {
+        4 => {
+            io::print_hex(1, bits, 8);
         }
-        io::print_hex(1, bits, 16);
+        8 if kind == 0x14 && 0x7ff0_0000_0000_0000 < bits % 0x8000_0000_0000_0000 => {
+            io::print_hex(1, NAN, 16);
+        }
+        8 => {
+            io::print_hex(1, bits, 16);
+        }
+        _ => {}
     }
 }
 
@@ -47,128 +49,93 @@ fn body(row: Row, x: Record) {
     payload(x.kind, x.bits, row.bits);
 }
 
-fn item<'a>(a: &'a [u16], b: &'a [u16], kind: u8, i: usize) {
-    let row = plan_kinds::row_of(kind);
-    code(kind);
-    number(row.a, lists::at16(a, i));
-    number(row.b, lists::at16(b, i));
-}
-
-fn item_list<'a>(a: &'a [u16], b: &'a [u16], kind: u8, from: usize, n: u16)
-    requires { from ≤ 200000 }
+fn item_list(items: &Items, kind: u8, from: usize, n: u16)
+    requires { from ≤ 131070 }
 {
-    for k in 0..n {
-        item(a, b, kind, from + k as usize);
+    let row = plan_kinds::row_of(kind);
+    for k in 0..usize::from(n) {
+        let x = items.record(from + k);
+        code(kind);
+        number(row.a, x.a);
+        number(row.b, x.b);
     }
 }
 
 // A record with its lists.
-fn whole(items: Items, x: Record, start: u16) {
-    let a = items.a;
-    let b = items.b;
+fn whole(items: &Items, x: Record, start: u16) {
     let row = plan_kinds::row_of(x.kind);
-    body(row, x);
+    let from = usize::from(start);
     let n = plan_kinds::count_of(row, x);
-    let m = plan_kinds::more_of(row, x);
-    item_list(&a, &b, row.item, start as usize, n);
-    item_list(&a, &b, 0x40, start as usize + n as usize, m);
+    body(row, x);
+    item_list(items, row.item, from, n);
+    item_list(
+        items,
+        0x40,
+        from + usize::from(n),
+        plan_kinds::more_of(row, x),
+    );
 }
 
-fn column_line(t: Columns, i: u16) {
-    let name = t.name;
-    let kind = t.kind;
-    code(1);
-    number(1, lists::at16(&name, i as usize));
-    code(lists::at8(&kind, i as usize));
-}
-
-fn expr_line(t: Expressions, items: Items, i: u16) {
-    let starts = t.start;
-    let start = lists::at16(&starts, i as usize);
-    let x = plan::expr_record(&t.kind, &t.code, &t.a, &t.b, &t.bits, i as usize);
-    whole(items, x, start);
-}
-
-fn operator_line(t: Operators, items: Items, i: u16) {
-    let starts = t.start;
-    let start = lists::at16(&starts, i as usize);
-    let x = plan::operator_record(&t.kind, &t.code, &t.a, &t.b, &t.c, &t.d, i as usize);
-    whole(items, x, start);
-}
-
-fn columns(t: Columns) {
-    for i in 0..t.count {
-        column_line(t, i);
-    }
-}
-
-fn expressions(t: Expressions, items: Items) {
-    for i in 0..t.count {
-        expr_line(t, items, i);
-    }
-}
-
-fn operators(t: Operators, items: Items) {
-    for i in 0..t.count {
-        operator_line(t, items, i);
-    }
-}
-
-fn listed(p: Plan) {
-    let items = p.items;
+fn listed(p: &Plan) {
     io::write_all(1, b"/plan ");
-    columns(p.columns);
-    expressions(p.expressions, items);
-    operators(p.operators, items);
+    for i in 0..usize::from(p.columns.count) {
+        let x = p.columns.record(i);
+        code(x.kind);
+        number(plan_kinds::NUMBER, x.a);
+        code(x.code);
+    }
+    for i in 0..usize::from(p.expressions.count) {
+        whole(&p.items, p.expressions.record(i), p.expressions.start(i));
+    }
+    for i in 0..usize::from(p.operators.count) {
+        whole(&p.items, p.operators.record(i), p.operators.start(i));
+    }
 }
 
-fn answer(r: Rewrite) {
+fn answer(r: Result<Rewrite, SimplifyError>) {
     match r {
-        Rewrite::Keep => {
+        Ok(Rewrite::Keep) => {
             io::write_all(1, b"keep");
         }
-        Rewrite::Replace(o) => {
+        Ok(Rewrite::Replace(o)) => {
             io::write_all(1, b"replace ");
-            io::print_decimal(1, o.0 as u64);
+            io::print_decimal(1, u64::from(o.0));
         }
-        Rewrite::Room => {
+        Err(SimplifyError::Room) => {
             io::write_all(1, b"refused 3");
         }
-        Rewrite::NoSuch => {
+        Err(SimplifyError::NoSuch) => {
             io::write_all(1, b"refused 8");
         }
     }
 }
 
+// A file that is no plan's stands for the empty plan.
 fn one(s: &[u8], o: u16) {
-    let a = plan_file::read(s);
-    let p = a.plan;
-    let r = expr_simplify::simplify(p, Operator(o));
-    let w = r.rewrite;
-    answer(w);
-    listed(r.plan);
+    let mut p = plan_file::read(s).unwrap_or(Plan::empty());
+    answer(expr_simplify::simplify(&mut p, Operator(o)));
+    listed(&p);
     io::write_all(1, b"\n");
 }
 
 // The next file, if there is a whole one.
 fn next() -> bool {
-    let mut head = [0u8; 6];
-    let mut body = [0u8; 32768];
-    let n = test_input::next(&mut head, 0, &mut body);
-    if 32768 < n {
-        return false;
+    let mut head = [0; 6];
+    let mut room = [0; 32768];
+    match test_input::next(&mut head, 0, &mut room) {
+        Some(file) => {
+            one(file, test_input::word(&head, 4));
+            true
+        }
+        None => false,
     }
-    one(&body[0..n], test_input::word(&head, 4));
-    true
 }
 
 // The bound stands in for the end of the input, which no contract speaks of.
 fn main() {
-    let mut i: u32 = 0;
-    while i < 1000000 {
+    for _ in 0..1000000 {
         if !next() {
             return;
         }
-        i += 1;
     }
 }
