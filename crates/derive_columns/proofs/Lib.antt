@@ -1,1 +1,1 @@
-pub mod ColumnStores
+pub mod ColumnLoops

@@ -122,7 +122,7 @@ fn is_column_ref(x: ExprData) -> bool
 
 // ---- lists
 
-#[tactic(auto, using(crate::proofs::ColumnStores::steps_loop), unfolding(derive_spec::specs::Columns::scanned))]
+#[tactic(auto, using(crate::proofs::ColumnLoops::steps_loop), unfolding(derive_spec::specs::Columns::scanned))]
 pub fn scan_columns(ids: &Identities, items: &Items, r: Run) -> ColumnFacts
     ensures { result ≡ scanned ids.now items.now.a r }
 {
@@ -133,7 +133,7 @@ pub fn scan_columns(ids: &Identities, items: &Items, r: Run) -> ColumnFacts
     t
 }
 
-#[tactic(auto, using(crate::proofs::ColumnStores::steps_loop), unfolding(derive_spec::specs::Columns::derived_columns))]
+#[tactic(auto, using(crate::proofs::ColumnLoops::steps_loop), unfolding(derive_spec::specs::Columns::derived_columns))]
 pub fn derived_columns(ids: &Identities, items: &Items, r: Run, t: &mut ColumnFacts)
     ensures { t.new ≡ derived_columns ids.now items.now.a r t.old }
 {
@@ -142,7 +142,7 @@ pub fn derived_columns(ids: &Identities, items: &Items, r: Run, t: &mut ColumnFa
     }
 }
 
-#[tactic(auto, using(crate::proofs::ColumnStores::steps_loop), unfolding(derive_spec::specs::Columns::projected))]
+#[tactic(auto, using(crate::proofs::ColumnLoops::steps_loop), unfolding(derive_spec::specs::Columns::projected))]
 pub fn project_columns(g: &ColumnFacts, items: &Items, r: Run) -> ColumnFacts
     ensures { result ≡ projected g.now items.now.a r }
 {
@@ -154,7 +154,7 @@ pub fn project_columns(g: &ColumnFacts, items: &Items, r: Run) -> ColumnFacts
     t
 }
 
-#[tactic(auto, using(crate::proofs::ColumnStores::steps_loop), unfolding(derive_spec::specs::Columns::renamed))]
+#[tactic(auto, using(crate::proofs::ColumnLoops::steps_loop), unfolding(derive_spec::specs::Columns::renamed))]
 pub fn rename_columns(g: &ColumnFacts, items: &Items, r: Run) -> ColumnFacts
     ensures { result ≡ renamed g.now items.now.a items.now.b r }
 {
@@ -167,7 +167,7 @@ pub fn rename_columns(g: &ColumnFacts, items: &Items, r: Run) -> ColumnFacts
     t
 }
 
-#[tactic(auto, using(crate::proofs::ColumnStores::steps_loop), unfolding(derive_spec::specs::Columns::mapped))]
+#[tactic(auto, using(crate::proofs::ColumnLoops::steps_loop), unfolding(derive_spec::specs::Columns::mapped))]
 pub fn map_columns(
     ids: &Identities,
     items: &Items,
@@ -205,7 +205,7 @@ pub fn keys_ok(items: &Items, exprs: &Expressions, r: Run) -> bool
 }
 
 // The lineage of the keys, without definitions.
-#[tactic(auto, using(crate::proofs::ColumnStores::steps_loop), unfolding(derive_spec::specs::Columns::keys_of))]
+#[tactic(auto, using(crate::proofs::ColumnLoops::steps_loop), unfolding(derive_spec::specs::Columns::keys_of))]
 pub fn key_columns(g: &ColumnFacts, items: &Items, exprs: &Expressions, r: Run) -> ColumnFacts
     ensures { result ≡ keys_of (node_from exprs.now) g.now items.now.a r }
 {

@@ -7,7 +7,7 @@
 
 use apply_spec::LogicalFacts;
 use constraint_spec::{ConstraintSet, Entry, Holder};
-use derive_spec::DeriveAnswer;
+use derive_spec::DeriveError;
 use plan::{Operator, Plan};
 use plan_identities::{Identities, ValueId};
 use value_range::Bound;
@@ -18,25 +18,20 @@ fn number(n: u64) {
 }
 
 fn flag(b: bool) {
-    number(if b { 1 } else { 0 });
+    number(u64::from(b));
 }
 
-fn identity(ids: Identities, n: u8) {
-    let v = plan_identities::value_id(ids, n);
-    match v {
-        ValueId::Base(c) => {
-            io::write_all(1, b"b");
-            number(c.0 as u64);
-        }
-        ValueId::Derived(c) => {
-            io::write_all(1, b"d");
-            number(c.0 as u64);
-        }
-    }
+fn identity(ids: &Identities, n: u8) {
+    let (letter, c) = match plan_identities::value_id(ids, n) {
+        ValueId::Base(c) => (b"b", c),
+        ValueId::Derived(c) => (b"d", c),
+    };
+    io::write_all(1, letter);
+    number(u64::from(c.0));
 }
 
-fn column(ids: Identities, c: usize, v: u8) {
-    if 0 < v {
+fn column(ids: &Identities, c: usize, v: u8) {
+    if v != 0 {
         io::write_all(1, b"c ");
         number(c as u64);
         identity(ids, v - 1);
@@ -44,36 +39,35 @@ fn column(ids: Identities, c: usize, v: u8) {
 }
 
 fn definition(c: usize, v: u16) {
-    if 0 < v {
+    if v != 0 {
         io::write_all(1, b"d ");
         number(c as u64);
-        number(v as u64 - 1);
+        number(u64::from(v - 1));
     }
 }
 
-fn member(ids: Identities, i: u8, r: usize) {
-    if r < i as usize {
+fn member(ids: &Identities, i: u8, r: usize) {
+    if r < usize::from(i) {
         io::write_all(1, b"k ");
         identity(ids, i);
-        identity(ids, (r % 256) as u8);
+        identity(ids, r as u8);
     }
 }
 
-fn non_null(ids: Identities, i: u8, known: bool) {
+fn non_null(ids: &Identities, i: u8, known: bool) {
     if known {
         io::write_all(1, b"n ");
         identity(ids, i);
     }
 }
 
-fn literal(ids: Identities, h: Holder, i: u8) {
+fn literal(ids: &Identities, i: u8, h: Holder) {
     if h.present {
         io::write_all(1, b"l ");
         identity(ids, i);
-        let v = h.value;
-        number(scalar::case_of(v) as u64);
-        number(scalar::code_of(v) as u64);
-        number(scalar::bits_of(v));
+        number(u64::from(scalar::case_of(h.value)));
+        number(u64::from(scalar::code_of(h.value)));
+        number(scalar::bits_of(h.value));
     }
 }
 
@@ -83,117 +77,102 @@ fn bound(b: Bound) {
     number(scalar::bits_of_float(b.value));
 }
 
-fn range(ids: Identities, e: Entry, i: u8) {
+fn range(ids: &Identities, i: u8, e: Entry) {
     if e.present {
         io::write_all(1, b"r ");
         identity(ids, i);
-        let r = e.range;
-        let l = r.lower;
-        let u = r.upper;
-        bound(l);
-        bound(u);
+        bound(e.range.lower);
+        bound(e.range.upper);
     }
 }
 
-fn columns(ids: Identities, lineage: [u8; 64], definitions: [u16; 64]) {
+fn columns(ids: &Identities, f: &LogicalFacts) {
     for c in 0..64 {
-        column(ids, c, lists::at8(&lineage, c));
-        definition(c, lists::at16(&definitions, c));
+        column(ids, c, f.lineage[c]);
+        definition(c, f.definitions[c]);
     }
 }
 
-fn identities_all(ids: Identities, s: ConstraintSet) {
-    let mut k: usize = 0;
-    while k < 128 {
-        let h = s.literal_equalities[k];
-        let e = s.ranges[k];
-        let i = k as u8;
-        member(ids, i, constraint_set::canonical(s, k));
+fn identities_all(ids: &Identities, s: &ConstraintSet) {
+    for i in 0..128 {
+        let k = usize::from(i);
+        member(ids, i, s.equivalence_classes.canonical(k));
         non_null(ids, i, s.non_null_values[k]);
-        literal(ids, h, i);
-        range(ids, e, i);
-        k += 1;
+        literal(ids, i, s.literal_equalities[k]);
+        range(ids, i, s.ranges[k]);
     }
 }
 
-fn residual(e: u16) {
-    io::write_all(1, b"e ");
-    number(e as u64);
-}
-
-fn residuals(list: [u16; 64], count: usize) {
-    let mut k: usize = 0;
-    while k < count {
-        residual(lists::at16(&list, k));
-        k += 1;
+fn residuals(s: &ConstraintSet) {
+    for e in s.residual_predicates.iter().take(s.residuals) {
+        io::write_all(1, b"e ");
+        number(u64::from(*e));
     }
 }
 
-fn facts(p: Plan, f: LogicalFacts) {
-    let s = f.constraints;
-    let lineage = f.lineage;
-    let definitions = f.definitions;
-    let list = s.residual_predicates;
+fn facts(p: &Plan, f: &LogicalFacts) {
     let ids = plan_identities::identities_of(p);
-    flag(s.contradictory);
-    columns(ids, lineage, definitions);
-    identities_all(ids, s);
-    residuals(list, s.residuals);
+    flag(f.constraints.contradictory);
+    columns(&ids, f);
+    identities_all(&ids, &f.constraints);
+    residuals(&f.constraints);
     io::write_all(1, b"\n");
 }
 
 // What the library promises of an answer is known here alone: a function of many calls that knew of it would take longer to prove.
-fn derived(p: Plan, h: u16) -> DeriveAnswer {
+fn derived(p: &Plan, h: u16) -> Result<LogicalFacts, DeriveError> {
     derive_logical_facts::derive_logical_facts(p, Operator(h))
 }
 
-fn answer(p: Plan, h: u16) {
-    let d = derived(p, h);
-    let o = d.outcome;
-    number(refusals::derive_number(o) as u64);
-    number(refusals::derive_place(o) as u64);
-    facts(p, d.facts);
+fn answer(p: &Plan, h: u16) {
+    match derived(p, h) {
+        Ok(f) => {
+            number(0);
+            number(0);
+            facts(p, &f);
+        }
+        Err(e) => {
+            number(u64::from(refusals::derive_number(e)));
+            number(u64::from(refusals::derive_place(e)));
+            facts(p, &LogicalFacts::empty());
+        }
+    }
 }
 
 fn one(s: &[u8], last: bool, asked: u16) {
-    let a = plan_file::read(s);
-    let k = a.reading;
-    let p = a.plan;
-    if refusals::reading_number(k) != 0 {
-        io::write_all(1, b"unread\n");
-        return;
+    match plan_file::read(s) {
+        Ok(p) => {
+            let h = if last {
+                refusals::last_operator(&p)
+            } else {
+                asked
+            };
+            answer(&p, h);
+        }
+        Err(_) => {
+            io::write_all(1, b"unread\n");
+        }
     }
-    answer(
-        p,
-        if last {
-            refusals::last_operator(p)
-        } else {
-            asked
-        },
-    );
 }
 
 // The next file, if there is a whole one.
 fn next() -> bool {
-    let mut head = [0u8; 7];
-    let mut body = [0u8; 24576];
-    let n = test_input::next(&mut head, 3, &mut body);
-    if 24576 < n {
-        return false;
+    let mut head = [0; 7];
+    let mut room = [0; 24576];
+    match test_input::next(&mut head, 3, &mut room) {
+        Some(body) => {
+            one(body, head[0] == 1, test_input::word(&head, 1));
+            true
+        }
+        None => false,
     }
-    let last = lists::at8(&head, 0) == 1;
-    let asked = test_input::word(&head, 1);
-    one(&body[0..n], last, asked);
-    true
 }
 
 // The bound stands in for the end of the input, which no contract speaks of.
 fn main() {
-    let mut i: u32 = 0;
-    while i < 1000000 {
+    for _ in 0..1000000 {
         if !next() {
             return;
         }
-        i += 1;
     }
 }
