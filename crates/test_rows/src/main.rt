@@ -5,107 +5,69 @@
 #![tactic(auto)]
 
 use plan::{Expr, Plan};
-use rows_spec::{Evaluation, Row};
+use rows_spec::{Cell, EvaluationError, Row};
+use scalar::ScalarValue;
+use std::io;
+use std::io::Read;
 
+// More steps than any input of the tests has.
 const STEPS: u32 = 4000000;
 
-#[derive(Clone, Copy)]
-struct State {
-    plan: Plan,
-    row: Row,
-}
-
 fn nulls() -> Row {
-    Row {
-        case: [0x10; 64],
-        code: [1; 64],
-        bits: [0; 64],
-    }
-}
-
-fn with_cell(row: Row, s: &[u8]) -> Row {
-    let c = lists::at8(s, 3) as usize;
-    let mut r = row;
-    if c < 64 {
-        r.case[c] = lists::at8(s, 1);
-        r.code[c] = lists::at8(s, 2);
-        r.bits[c] = test_input::bits(s, 12);
-    }
-    r
-}
-
-fn truth_letter(t: u8) {
-    if t == 0 {
-        io::write_all(1, b"F\n");
-        return;
-    }
-    if t == 2 {
-        io::write_all(1, b"T\n");
-        return;
-    }
-    io::write_all(1, b"U\n");
-}
-
-fn answer(a: Evaluation) {
-    match a {
-        Evaluation::Value(v) => {
-            truth_letter(rows::truth_of(v));
-        }
-        Evaluation::NoSuch => {
-            io::write_all(1, b"8\n");
-        }
-        Evaluation::Untyped => {
-            io::write_all(1, b"9\n");
-        }
-        Evaluation::BadRow => {
-            io::write_all(1, b"10\n");
-        }
-    }
-}
-
-// What the library promises of an answer is known here alone: a function of many branches that knew of it would take longer to prove.
-fn evaluated(p: Plan, e: u16, row: Row) -> Evaluation {
-    rows::evaluate(p, Expr(e), row)
-}
-
-// One step, which `buf` has: what it makes of the plan and the row.
-fn step(s: State, buf: &[u8]) -> State {
-    let p = s.plan;
-    let row = s.row;
-    let what = lists::at8(buf, 0);
-    if what == 0 {
-        return State {
-            plan: Plan::empty(),
-            row: nulls(),
-        };
-    }
-    if what == 4 {
-        return State {
-            plan: p,
-            row: with_cell(row, buf),
-        };
-    }
-    if what == 5 {
-        answer(evaluated(p, test_input::word(buf, 4), row));
-        return s;
-    }
-    State {
-        plan: test_input::planned(p, buf),
-        row,
-    }
-}
-
-fn main() {
-    let mut buf = [0u8; 20];
-    let mut s = State {
-        plan: Plan::empty(),
-        row: nulls(),
+    let null = Cell {
+        case: 0x10,
+        code: 1,
+        bits: 0,
     };
+    Row { cells: [null; 64] }
+}
+
+fn put_cell(row: &mut Row, s: &[u8; 20]) {
+    let cell = Cell {
+        case: s[1],
+        code: s[2],
+        bits: test_input::bits(s, 12),
+    };
+    lists::put(&mut row.cells, usize::from(s[3]), cell);
+}
+
+fn line(answer: Result<ScalarValue, EvaluationError>) -> &'static str {
+    match answer {
+        Ok(v) => match rows::truth_of(v) {
+            truth::FALSE => "F",
+            truth::TRUE => "T",
+            _ => "U",
+        },
+        Err(EvaluationError::NoSuch) => "8",
+        Err(EvaluationError::Untyped) => "9",
+        Err(EvaluationError::BadRow) => "10",
+    }
+}
+
+// One step: what it makes of the plan and the row, or the line that it writes.
+fn step(rt: &impl Print, plan: &mut Plan, row: &mut Row, s: &[u8; 20]) -> io::Result<()> {
+    match s[0] {
+        0 => {
+            *plan = Plan::empty();
+            *row = nulls();
+        }
+        4 => put_cell(row, s),
+        5 => rt.println(line(rows::evaluate(plan, Expr(test_input::word(s, 4)), row)))?,
+        _ => test_input::plan_step(plan, s),
+    }
+    Ok(())
+}
+
+fn main(rt: HostRuntime) -> io::Result<()> {
+    let mut input = rt.reader();
+    let mut plan = Plan::empty();
+    let mut row = nulls();
+    let mut s = [0; 20];
     for _ in 0..STEPS {
-        let n = io::read_full(0, &mut buf);
-        if n < 20 {
+        if input.read_exact(&mut s).is_err() {
             break;
         }
-        s = step(s, &buf);
+        step(&rt, &mut plan, &mut row, &s)?;
     }
+    Ok(())
 }

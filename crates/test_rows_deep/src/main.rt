@@ -86,8 +86,8 @@ fn nulls() -> Row {
 fn word(answer: Result<ScalarValue, EvaluationError>) -> &'static str {
     match answer {
         Ok(v) => match rows::truth_of(v) {
-            0 => "FALSE",
-            2 => "TRUE",
+            truth::FALSE => "FALSE",
+            truth::TRUE => "TRUE",
             _ => "UNKNOWN",
         },
         Err(EvaluationError::NoSuch) => "no such",
