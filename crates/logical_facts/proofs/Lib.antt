@@ -1,2 +1,1 @@
 pub mod Overriding
-pub mod EntryAnswers

@@ -1,47 +1,30 @@
 -- Columns overridden one by one, as the loop goes through them. Assumes nothing.
-use Prim.Native.Nat.{ℕ, ◌+◌, ◌≤◌}
-use mathlib.Core.Path.{◌≡◌, refl, sym, ap, ◌∙◌}
-use mathlib.Core.Bool.{Bool, true, false, cond}
-use mathlib.Core.List.{List}
-use native.Mathlib.Omega.{arith}
-use native.Mathlib.Numerals.{add-one}
-use lib.Dec.{eqb}
-use lib.ListN.{get_or, set}
-use lib.Seq.{set-get_or}
+use Rattle.std.proofs.Common.{◌≡◌, ℕ, ◌+◌, List, get_or, set, refl, ap, ◌∙◌, ◌≤◌, arith, add-one}
+use borrow.Author.Tests.{eq-eqb, ne_eqb}
 use Rattle.constraint_spec.specs.Sets.{steps_to}
 use Rattle.apply_spec.specs.Entries.{override, overridden}
-use Rattle.logical_facts.specs.Columns.{over_of, columns_over}
-use Rattle.logical_facts.specs.declared.ByColumn.{ByColumn}
-
--- storing what stands is overriding
-over-set : (l r : List ℕ) (c : ℕ) → set l c (over_of (get_or r c 0) (get_or l c 0)) ≡ override r c l
-over-set l r c = go (eqb (get_or r c 0) 0)
-  where
-    go : (t : Bool) → set l c (cond t (get_or l c 0) (get_or r c 0)) ≡ cond t l (set l c (get_or r c 0))
-    go true = set-get_or l c 0
-    go false = refl
 
 -- the first c columns overridden
-unfoldable pub over_to : ByColumn → ByColumn → ℕ → ByColumn
-over_to l r c = record { lineage = steps_to (override r.lineage) c l.lineage; definitions = steps_to (override r.definitions) c l.definitions }
+unfoldable pub over_to : List ℕ → List ℕ → ℕ → List ℕ
+over_to l r c = steps_to (override r) c l
 
-pub over_none : (l r : ByColumn) → l ≡ over_to l r 0
+pub over_none : (l r : List ℕ) → over_to l r 0 ≡ l
 unfolding over_to steps_to
 over_none l r = refl
 
-pub over-next : (l r t : ByColumn) (c x y : ℕ) → t ≡ over_to l r c → x ≡ over_of (get_or r.lineage c 0) (get_or t.lineage c 0)
-    → y ≡ over_of (get_or r.definitions c 0) (get_or t.definitions c 0)
-    → record { lineage = set t.lineage c x; definitions = set t.definitions c y } ≡ over_to l r (c + 1)
+over_next : (l r : List ℕ) (c : ℕ) → over_to l r (c + 1) ≡ override r c (over_to l r c)
 unfolding over_to steps_to
-over-next l r t c x y e f g =
-    (λ i. record { lineage = (lin i); definitions = (def i) }) ∙ ap (over_to l r) (sym (add-one c))
-  where
-    lin : set t.lineage c x ≡ override r.lineage c (steps_to (override r.lineage) c l.lineage)
-    lin = ap (set t.lineage c) f ∙ over-set t.lineage r.lineage c ∙ ap (λ (u : ByColumn). override r.lineage c u.lineage) e
+over_next l r c = ap (λ (n : ℕ). steps_to (override r) n l) (add-one c)
 
-    def : set t.definitions c y ≡ override r.definitions c (steps_to (override r.definitions) c l.definitions)
-    def = ap (set t.definitions c) g ∙ over-set t.definitions r.definitions c ∙ ap (λ (u : ByColumn). override r.definitions c u.definitions) e
+-- a column of which the right has nothing stays, and what the right has of a column stands
+pub over_stays : (l r : List ℕ) (c : ℕ) → get_or r c 0 ≡ 0 → over_to l r (c + 1) ≡ over_to l r c
+over_stays l r c e = over_next l r c ∙ rw (eq-eqb _ _ e) refl
 
-pub over-all : (l r t : ByColumn) (c : ℕ) → c ≤ 64 → 64 ≤ c → t ≡ over_to l r c → t ≡ columns_over l r
-unfolding over_to columns_over overridden
-over-all l r t c few all e = let q : c ≡ 64 = omega arith in e ∙ ap (over_to l r) q
+pub over_stands : (l r : List ℕ) (c : ℕ) → (get_or r c 0 ≡ 0 → ⊥) → over_to l r (c + 1) ≡ set (over_to l r c) c (get_or r c 0)
+over_stands l r c n = over_next l r c ∙ rw (ne_eqb _ _ n) refl
+
+pub over_all : (l r : List ℕ) (c : ℕ) → c ≤ 64 → 64 ≤ c → over_to l r c ≡ overridden l r
+unfolding over_to overridden
+over_all l r c few all = let e : c ≡ 64 = omega arith in rw e refl
+
+pub ruleset override_loop = (over_none, over_stays, over_stands, over_all)

@@ -1,11 +1,7 @@
-use Rattle.apply_spec.specs.Facts.{definition_ok}
+use Rattle.std.proofs.Common.{◌≡◌, ◌-◌}
 use Rattle.lists.specs.Ranges.{all_from}
-use Prim.Native.Nat.{◌-◌, ◌≤◌}
-use mathlib.Core.Path.{◌≡◌}
+use Rattle.apply_spec.specs.Facts.{definition_ok}
 use Rattle.logical_facts.proofs.definitions_ok.Given as goal
 
 abbrev pub invariant-loop-c : goal.invariant-loop-c
-invariant-loop-c l = (l.c ≤ 64) × (all_from (definition_ok l.definitions l.nc l.ne) 0 64 ≡ all_from (definition_ok l.definitions l.nc l.ne) l.c (64 - l.c))
-
-abbrev pub decreases-loop-c : goal.decreases-loop-c
-decreases-loop-c l = 64 - l.c
+invariant-loop-c l = all_from (definition_ok l.definitions l.columns l.exprs) 0 64 ≡ all_from (definition_ok l.definitions l.columns l.exprs) l.c (64 - l.c)
