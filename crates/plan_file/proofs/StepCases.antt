@@ -11,7 +11,7 @@ use lib.ListN.{get_or, set, length, drop}
 use borrow.Author.Tests.{eqb-true, leb-false, ltb-true, lt-ltb, le-ltb, eq-eqb, ne_eqb}
 use Rattle.laws.proofs.Bools.{and_left, and_right, cond_elim}
 use Rattle.plan_kinds.specs.declared.Record.{Record}
-use Rattle.plan_kinds.specs.declared.Row.{Row}
+use Rattle.plan_kinds.specs.Rows.{Row}
 use Rattle.plan_kinds.specs.Rows.{row_of, line_of}
 use Rattle.plan_kinds.specs.Records.{code_ok, handles_ok, count_of}
 use Rattle.plan_kinds.proofs.Table.{item-kinds}

@@ -11,7 +11,7 @@ use native.Mathlib.Nat.{zero-add, suc-add}
 use lib.ListN.{get_or, length}
 use lib.Dec.{leb, eqb}
 use borrow.Author.Tests.{ne_eqb}
-use Rattle.plan_kinds.specs.declared.Row.{Row}
+use Rattle.plan_kinds.specs.Rows.{Row}
 use Rattle.plan_kinds.specs.declared.Record.{Record}
 use Rattle.plan_kinds.specs.Rows.{row_of}
 use Rattle.plan.specs.Append.{Appended, appended, no_room, added_at, with_item, append_column, append_expr, append_operator, append_item}

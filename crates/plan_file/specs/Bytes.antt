@@ -1,7 +1,7 @@
 -- Numbers of two, four and eight bytes, high byte first, and a record out of bytes; past the end of the bytes stand zeros. Assumes nothing.
 use Rattle.std.specs.Prelude.{ℕ, ◌+◌, ◌*◌, cond, List, eqb, get_or}
 use Rattle.plan_kinds.specs.declared.Record.{Record}
-use Rattle.plan_kinds.specs.declared.Row.{Row}
+use Rattle.plan_kinds.specs.Rows.{Row}
 
 abbrev pub word2 : List ℕ → ℕ → ℕ
 word2 s at = get_or s at 0 * 256 + get_or s (at + 1) 0

@@ -2,7 +2,7 @@
 use Rattle.std.specs.Prelude.{ℕ, zero, suc, ◌+◌, ◌-◌, Bool, false, cond, ◌&&◌, ◌||◌, not, List, ltb, leb, eqb, get_or, set, replicate, length, drop}
 use Rattle.std.specs.Prelude.{Ok, Err, Result}
 use Rattle.plan_kinds.specs.declared.Record.{Record}
-use Rattle.plan_kinds.specs.declared.Row.{Row}
+use Rattle.plan_kinds.specs.Rows.{Row}
 use Rattle.plan_kinds.specs.Rows.{row_of, columns, expressions, operators, items}
 use Rattle.plan_kinds.specs.Records.{code_ok, handles_ok, count_of, more_of}
 use Rattle.plan.specs.declared.Plan.{Plan}

@@ -2,6 +2,7 @@
 #![tactic(auto)]
 
 ghost use Rattle.std.specs.Prelude.{◌≡◌, ℕ, ◌+◌, ◌≤◌, ◌<◌, true, false, get_or, length, Ok};
+ghost use Rattle.plan_kinds.specs.Coding.{field_code, numbered};
 ghost use Rattle.plan.specs.Append.{appended};
 ghost use Rattle.plan_file.specs.Answer.{answer};
 ghost use Rattle.plan_file.specs.Bytes.{word_from, bits_from, record_from};
@@ -10,7 +11,7 @@ ghost use Rattle.plan_file.specs.Steps.{kind_wanted, kind_ok, scanned_twice, fau
 ghost use Rattle.plan_file.specs.Steps.{taken_by, record_step, done_at, is_done, step_of, start_state, read_of};
 
 use plan::{AppendError, Plan};
-use plan_kinds::{Before, COLUMNS, EXPRESSIONS, ITEMS, NONE, OPERATORS, Record, Row};
+use plan_kinds::{Before, Field, Record, Row, Sort};
 
 // Why a plan file was refused: the number is the offset where the faulty record starts.
 #[derive(Clone, Copy, PartialEq, Eq)]
@@ -55,11 +56,11 @@ fn bytes<const N: usize>(s: &[u8], at: usize) -> [u8; N]
 
 // A number of the sort, 0 where the kind has none.
 #[tactic(auto, unfolding(crate::specs::Bytes::word_from))]
-fn word(s: &[u8], at: usize, sort: u8) -> u16
+fn word(s: &[u8], at: usize, field: Field) -> u16
     requires { at ≤ 900 }
-    ensures { result ≡ word_from s.now at sort }
+    ensures { result ≡ word_from s.now at (field_code field) }
 {
-    if sort == NONE {
+    if field == Field::None {
         0
     } else {
         u16::from_be_bytes(bytes(s, at))
@@ -81,7 +82,7 @@ fn bits(s: &[u8], n: u8) -> u64
 // The record that begins s, whose kind has the row r. Past the end of s it has zeros: the length is tested apart.
 #[tactic(auto, unfolding(crate::specs::Bytes::record_from, crate::specs::Bytes::code_from))]
 fn fetch(s: &[u8], r: Row) -> Record
-    ensures { result ≡ record_from s.now r }
+    ensures { result ≡ record_from s.now (numbered r) }
 {
     let from = usize::from(r.from);
     Record {
@@ -102,7 +103,7 @@ fn fetch(s: &[u8], r: Row) -> Record
 impl Wanted {
     // The items that are to follow a record.
     fn list_of(r: Row, x: Record) -> Wanted
-        ensures { result ≡ list_of r x }
+        ensures { result ≡ list_of (numbered r) x }
     {
         Wanted {
             item: r.item,
@@ -129,10 +130,10 @@ impl Wanted {
     // An item of the wanted kind where one is wanted, else a listed kind that is no item.
     #[tactic(auto, unfolding(crate::specs::Steps::kind_ok))]
     fn allows(self, r: Row, x: Record) -> bool
-        ensures { result ≡ kind_ok r x self }
+        ensures { result ≡ kind_ok (numbered r) x self }
     {
         match self.kind() {
-            0 => 0 < r.sort && r.sort < ITEMS,
+            0 => r.sort != Sort::Unknown && r.sort != Sort::Items,
             kind => x.kind == kind,
         }
     }
@@ -154,14 +155,14 @@ impl Wanted {
 // A record takes the next handle of its sort, an item the next place; a list starts where the next item is to stand.
 #[tactic(auto, unfolding(crate::specs::Steps::append_of))]
 fn append(p: &mut Plan, r: Row, x: Record) -> Result<u16, AppendError>
-    ensures { appended p.new result ≡ append_of p.old r x }
+    ensures { appended p.new result ≡ append_of p.old (numbered r) x }
 {
     let start = p.items.count;
     match r.sort {
-        COLUMNS => p.append_column(x),
-        EXPRESSIONS => p.append_expr(x, start),
-        OPERATORS => p.append_operator(x, start),
-        _ => p.append_item(x),
+        Sort::Columns => p.append_column(x),
+        Sort::Expressions => p.append_expr(x, start),
+        Sort::Operators => p.append_operator(x, start),
+        Sort::Items | Sort::Unknown => p.append_item(x),
     }
 }
 
@@ -185,16 +186,16 @@ impl Reader {
 
     // Whether the item is a column of a Scan, and another Scan has it.
     fn scanned_twice(&self, r: Row, x: Record) -> bool
-        ensures { result ≡ scanned_twice r x self.now.wanted self.now.scans self.now.plan.operators.count }
+        ensures { result ≡ scanned_twice (numbered r) x self.now.wanted self.now.scans self.now.plan.operators.count }
     {
         let by = lists::at(&self.scans, usize::from(x.a), 0);
-        r.sort == ITEMS && self.wanted.scan && by != 0 && by != self.plan.operators.count
+        r.sort == Sort::Items && self.wanted.scan && by != 0 && by != self.plan.operators.count
     }
 
     // The tests of a record of which n bytes are left, but the one for room, which appending makes.
     #[tactic(auto, unfolding(crate::specs::Steps::fault_of))]
     fn test(&self, r: Row, x: Record, n: usize) -> Result<(), ReadError>
-        ensures { result ≡ fault_of r x n (state self.now (Ok tt)) }
+        ensures { result ≡ fault_of (numbered r) x n (state self.now (Ok tt)) }
     {
         let before = Before {
             columns: self.plan.columns.count,
@@ -222,11 +223,11 @@ impl Reader {
     // The record is taken: what is wanted after it, and which Scan a column of a Scan's list belongs to.
     #[tactic(auto, unfolding(crate::specs::Steps::wanted_after, crate::specs::Steps::scans_after), using(crate::proofs::RecordTests::wanted_item))]
     fn take(&mut self, r: Row, x: Record)
-        requires { (self.old.at + r.length < 18446744073709551616) × (kind_ok r x self.old.wanted ≡ true) }
-        ensures { state self.new (Ok tt) ≡ taken_by (state self.old (Ok tt)) r x self.old.plan }
+        requires { (self.old.at + r.length < 18446744073709551616) × (kind_ok (numbered r) x self.old.wanted ≡ true) }
+        ensures { state self.new (Ok tt) ≡ taken_by (state self.old (Ok tt)) (numbered r) x self.old.plan }
     {
         self.at += usize::from(r.length);
-        if r.sort != ITEMS {
+        if r.sort != Sort::Items {
             self.wanted = Wanted::list_of(r, x);
             return;
         }

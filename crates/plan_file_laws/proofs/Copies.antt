@@ -13,7 +13,7 @@ use Rattle.laws.proofs.Bools.{and_left, and_right}
 use Rattle.lists.specs.Ranges.{all_from}
 use Rattle.lists.proofs.RangeLaws.{below_or_not, all-at}
 use Rattle.plan_kinds.specs.declared.Record.{Record}
-use Rattle.plan_kinds.specs.declared.Row.{Row}
+use Rattle.plan_kinds.specs.Rows.{Row}
 use Rattle.plan_kinds.specs.Rows.{row_of, line_of}
 use Rattle.plan_kinds.specs.Records.{code_ok, bits_ok, handle_ok, handles_ok}
 use Rattle.plan_kinds.proofs.Table.{holds, every-row}

@@ -14,7 +14,7 @@ use borrow.Author.Tests.{le-leb, lt-leb, ne_eqb}
 use Rattle.laws.proofs.Bools.{ne-false-of-true}
 use Rattle.lists.proofs.RangeLaws.{below_or_not}
 use Rattle.plan_kinds.specs.declared.Record.{Record}
-use Rattle.plan_kinds.specs.declared.Row.{Row}
+use Rattle.plan_kinds.specs.Rows.{Row}
 use Rattle.plan_kinds.specs.Rows.{row_of}
 use Rattle.plan.specs.Plans.{empty_plan}
 use Rattle.plan_file.specs.declared.Wanted.{Wanted}

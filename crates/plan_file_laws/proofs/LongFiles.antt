@@ -12,7 +12,7 @@ use lib.Seq.{length-take-le, get_or-take, get_or-drop}
 use borrow.Author.Tests.{eqb-true, leb-true, le-leb, lt-leb}
 use Rattle.laws.proofs.Bools.{and_left, and_right, or_cases, ne-false-of-true}
 use Rattle.plan_kinds.specs.declared.Record.{Record}
-use Rattle.plan_kinds.specs.declared.Row.{Row}
+use Rattle.plan_kinds.specs.Rows.{Row}
 use Rattle.plan_kinds.specs.Rows.{row_of}
 use Rattle.plan_kinds.proofs.Table.{holds, every-row}
 use Rattle.plan_file.specs.State.{State}

@@ -11,7 +11,7 @@ use lib.ListN.{length}
 use borrow.Author.Tests.{eqb-true, leb-true, ltb-true, eq-eqb, not-true}
 use Rattle.laws.proofs.Bools.{and_left, and_right, or_cases, ne-false-of-true}
 use Rattle.plan_kinds.specs.declared.Record.{Record}
-use Rattle.plan_kinds.specs.declared.Row.{Row}
+use Rattle.plan_kinds.specs.Rows.{Row}
 use Rattle.plan_kinds.specs.Rows.{row_of, line_of}
 use Rattle.plan_kinds.specs.Records.{handle_ok, handles_ok}
 use Rattle.plan_kinds.proofs.Table.{holds, every-row}

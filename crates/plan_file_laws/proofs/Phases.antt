@@ -12,7 +12,7 @@ use Rattle.laws.proofs.Bools.{and_left, and_right, and_both}
 use Rattle.laws.proofs.Numbers.{eq-of_le_lt_add_one}
 use Rattle.lists.proofs.RangeLaws.{below_or_not, all_of}
 use Rattle.plan_kinds.specs.declared.Record.{Record}
-use Rattle.plan_kinds.specs.declared.Row.{Row}
+use Rattle.plan_kinds.specs.Rows.{Row}
 use Rattle.plan_kinds.specs.Rows.{row_of}
 use Rattle.plan_kinds.specs.Records.{code_ok, bits_ok, handles_ok, count_of, more_of}
 use Rattle.plan_kinds.proofs.Table.{column_codes_lem}

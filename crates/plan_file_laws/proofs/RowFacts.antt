@@ -11,7 +11,7 @@ use lib.Seq.{get_or-drop}
 use borrow.Author.Tests.{eqb-true, eqb-false, eq-eqb, ne_eqb, lt-ltb, not-true}
 use Rattle.laws.proofs.Bools.{and_left, and_right, and_both, or_neg_resolve_left}
 use Rattle.plan_kinds.specs.declared.Record.{Record}
-use Rattle.plan_kinds.specs.declared.Row.{Row}
+use Rattle.plan_kinds.specs.Rows.{Row}
 use Rattle.plan_kinds.specs.Rows.{row_of}
 use Rattle.plan_kinds.specs.Records.{bits_ok, handle_ok, handles_ok}
 use Rattle.plan_kinds.proofs.Table.{holds, every-row}

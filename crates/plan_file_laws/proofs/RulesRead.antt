@@ -12,7 +12,7 @@ use Rattle.laws.proofs.Lists.{get_d_replicate-self}
 use Rattle.lists.specs.Ranges.{any_from, count_from}
 use Rattle.lists.proofs.RangeLaws.{count_none}
 use Rattle.plan_kinds.specs.declared.Record.{Record}
-use Rattle.plan_kinds.specs.declared.Row.{Row}
+use Rattle.plan_kinds.specs.Rows.{Row}
 use Rattle.plan_kinds.specs.Rows.{row_of}
 use Rattle.plan_kinds.specs.Records.{bits_ok}
 use Rattle.plan.specs.declared.Plan.{Plan}

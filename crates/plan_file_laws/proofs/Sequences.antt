@@ -12,7 +12,7 @@ use lib.Seq.{drop-drop, drop-length}
 use borrow.Author.Tests.{le-leb, lt-leb, eq-eqb, ne_eqb}
 use Rattle.laws.proofs.Bools.{ne-false-of-true}
 use Rattle.plan_kinds.specs.declared.Record.{Record}
-use Rattle.plan_kinds.specs.declared.Row.{Row}
+use Rattle.plan_kinds.specs.Rows.{Row}
 use Rattle.plan_kinds.specs.Rows.{row_of}
 use Rattle.plan_kinds.specs.Records.{code_ok, handles_ok}
 use Rattle.plan.specs.Append.{append_column, append_expr, append_operator, append_item}

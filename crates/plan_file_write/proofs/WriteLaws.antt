@@ -7,10 +7,12 @@ use mathlib.Core.List.{List, [], ◌∷◌, ◌++◌, append_assoc}
 use lib.Dec.{eqb}
 use native.Mathlib.Omega.{arith}
 use borrow.Author.Tests.{eqb-true}
+use Rattle.plan_kinds.specs.Coding.{field_code, numbered}
+use Rattle.plan_kinds.specs.declared.Row as Declared
 use Rattle.plan_kinds.specs.Rows.{row_of}
 use Rattle.plan_file_write.specs.Written.{clipped_bits, clipped, record_bytes}
 use Rattle.plan_kinds.specs.declared.Record.{Record}
-use Rattle.plan_kinds.specs.declared.Row.{Row}
+use Rattle.plan_kinds.specs.Rows.{Row}
 use Rattle.writing.specs.Text.{lines}
 use Rattle.writing.proofs.Wrotes.{lines_more}
 use Rattle.writing.proofs.Writings.{written_none, written_then}
@@ -48,17 +50,19 @@ body_parts r x =
     (word_rest r.d x.d _ ∙ ap (λ (l : List ℕ). put_word r.d x.d [] ++ l) (code-rest (eqb r.code 3) x.code _))))))
 
 -- a record part by part, its row looked up
-pub record_parts : (x : Record) (r : Row) → r ≡ row_of x.kind
+pub record_parts : (x : Record) (r : Declared.Row) → numbered r ≡ row_of x.kind
     → (x.kind ∷ [])
     ++ (put_code (eqb r.code 1) x.code []
-    ++ (put_word r.a x.a []
-    ++ (put_word r.b x.b []
-    ++ (put_word r.c x.c []
-    ++ (put_word r.d x.d []
+    ++ (put_word (field_code r.a) x.a []
+    ++ (put_word (field_code r.b) x.b []
+    ++ (put_word (field_code r.c) x.c []
+    ++ (put_word (field_code r.d) x.d []
     ++ (put_code (eqb r.code 3) x.code [] ++ put_bits r.bits (clipped_bits r.bits x.bits) []))))))
     ≡ record_bytes x
 unfolding record_bytes
-record_parts x r e = rw e (ap (λ (l : List ℕ). x.kind ∷ l) (body_parts (row_of x.kind) (clipped (row_of x.kind) x)))
+record_parts x r e =
+    ap (λ (l : List ℕ). x.kind ∷ l)
+    (body_parts (numbered r) (clipped (numbered r) x) ∙ ap (λ (q : Row). put_body q (clipped q x) []) e)
 
 -- ---- numbers, high byte first
 pub bytes_2 : (v : ℕ) → v < 65536 → to_be_bytes w16 v ≡ put2 v []

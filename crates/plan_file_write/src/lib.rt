@@ -2,13 +2,14 @@
 #![tactic(auto)]
 
 ghost use Rattle.std.specs.Prelude.{◌≡◌, []};
+ghost use Rattle.plan_kinds.specs.Coding.{field_code};
 ghost use Rattle.writing.specs.Writers.{written};
 ghost use Rattle.plan_file_laws.specs.ListItems.{item_kind};
 ghost use Rattle.plan_file_laws.specs.Writing.{put8, put_word, put_code, put_bits};
 ghost use Rattle.plan_file_write.specs.Written.{clipped_bits, record_bytes, items_bytes, listed_bytes, written_of};
 
 use plan::{Items, Plan};
-use plan_kinds::{NONE, Record};
+use plan_kinds::{Field, Record};
 use writing::Writer;
 
 // A number of eight bytes, high byte first.
@@ -21,10 +22,10 @@ pub fn put8(w: &mut Writer, v: u64)
 
 // A number of two bytes, if the kind has it.
 #[tactic(auto, unfolding(plan_file_laws::specs::Writing::put_word), using(crate::proofs::WriteLaws::bytes_2, writing::proofs::Writings::written_none))]
-fn put_word(w: &mut Writer, sort: u8, v: u16)
-    ensures { w.new ≡ written w.old (put_word sort v []) }
+fn put_word(w: &mut Writer, field: Field, v: u16)
+    ensures { w.new ≡ written w.old (put_word (field_code field) v []) }
 {
-    if sort != NONE {
+    if field != Field::None {
         w.text(&v.to_be_bytes());
     }
 }

@@ -7,7 +7,7 @@ use native.Mathlib.Omega.{arith}
 use lib.Dec.{leb, eqb}
 use borrow.Author.Tests.{eqb-true, leb-true, eq-eqb, ne_eqb}
 use Rattle.laws.proofs.Bools.{and_left, and_right, or_neg_resolve_left}
-use Rattle.plan_kinds.specs.declared.Row.{Row}
+use Rattle.plan_kinds.specs.Rows.{Row}
 use Rattle.plan_kinds.specs.Rows.{Line, kinds, unlisted, line_of, row_of}
 
 unfoldable pub holds : (Row → Bool) → List Line → Bool

@@ -1,7 +1,7 @@
 -- What a record has to keep to, by its kind's row. Assumes nothing.
 use Rattle.std.specs.Prelude.{ℕ, ◌+◌, Bool, true, cond, ◌&&◌, ltb, leb, eqb}
 use Rattle.plan_kinds.specs.declared.Record.{Record}
-use Rattle.plan_kinds.specs.declared.Row.{Row}
+use Rattle.plan_kinds.specs.Rows.{Row}
 use Rattle.plan_kinds.specs.Rows.{none, column, expression, operator, operand, count}
 
 -- the code is listed

@@ -1,6 +1,21 @@
 -- The kinds of record in a plan file: the table of the plan file, a line a kind. Assumes nothing.
 use Rattle.std.specs.Prelude.{ℕ, ◌+◌, ◌*◌, cond, List, [], ◌∷◌, eqb, get_or, length}
-use Rattle.plan_kinds.specs.declared.Row.{Row}
+
+-- what a kind says of its record, in numbers: its sort, its length with the kind's byte, where its code stands and between what it lies, where its
+-- numbers begin and of what sort each is, the bytes of a literal, and the kind of the items that follow
+pub record Row : Type 0 where
+  pub sort : ℕ
+  pub length : ℕ
+  pub code : ℕ
+  pub low : ℕ
+  pub high : ℕ
+  pub from : ℕ
+  pub a : ℕ
+  pub b : ℕ
+  pub c : ℕ
+  pub d : ℕ
+  pub bits : ℕ
+  pub item : ℕ
 
 -- the sort of a record
 abbrev pub unknown : ℕ

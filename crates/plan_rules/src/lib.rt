@@ -3,15 +3,16 @@
 
 ghost use Rattle.std.specs.Prelude.{◌≡◌, ℕ, ◌+◌, ◌<◌, ◌≤◌, eqb, get_or};
 ghost use Rattle.lists.specs.Ranges.{all_from, any_from, count_from};
+ghost use Rattle.plan_kinds.specs.Coding.{sort_code};
 ghost use Rattle.plan_rules.specs.Rules.{record_ok, item_ok, lists_ok, column_ok, expr_ok, operator_ok, scans_in, scanned_once, counts_ok, plan_ok};
 
 use plan::{Items, Operators, Plan};
-use plan_kinds::{Before, Record};
+use plan_kinds::{Before, Record, Sort};
 
 // A record of the sort keeps to its row, with so many records before it.
 #[tactic(auto, unfolding(crate::specs::Rules::record_ok))]
-fn record_ok(sort: u8, x: Record, before: Before) -> bool
-    ensures { result ≡ record_ok sort x before.columns before.expressions before.operators }
+fn record_ok(sort: Sort, x: Record, before: Before) -> bool
+    ensures { result ≡ record_ok (sort_code sort) x before.columns before.expressions before.operators }
 {
     let row = plan_kinds::row_of(x.kind);
     row.sort == sort
@@ -90,7 +91,7 @@ fn expr_ok(p: &Plan, i: u16) -> bool
         expressions: i,
         operators: p.operators.count,
     };
-    record_ok(plan_kinds::EXPRESSIONS, x, before)
+    record_ok(Sort::Expressions, x, before)
         && lists_ok(
             &p.items,
             x,
@@ -127,7 +128,7 @@ fn operator_ok(p: &Plan, i: u16) -> bool
         expressions: p.expressions.count,
         operators: i,
     };
-    record_ok(plan_kinds::OPERATORS, x, before) && lists_ok(&p.items, x, start, before)
+    record_ok(Sort::Operators, x, before) && lists_ok(&p.items, x, start, before)
 }
 
 // So does every operator.
