@@ -19,7 +19,7 @@ use Rattle.constraint_set.specs.Settled.{literal_on, range_on, range_bad}
 use Rattle.constraint_normal.specs.Ready.{Comparable, Bounded}
 use Rattle.constraint_normal.specs.ReadyPlaces.{blank_scalar, ready_holder, blank_bound, ready_bound, ready_entry, quiet_place, ready_place}
 use Rattle.constraint_normal.proofs.Floats.{zero-float, zero_bits}
-use Rattle.constraint_normal.proofs.SetTyped.{FitsEntry}
+use Rattle.constraint_normal.specs.Held.{FitsEntry}
 
 -- ---- literals
 blank_scalar_lem : (v : ScalarValue) → blank_scalar v ≡ true → v ≡ S.Null K.Boolean

@@ -23,7 +23,7 @@ use Rattle.constraint_set.proofs.Checking.{crossed-flagged}
 use Rattle.constraint_normal.specs.Ready.{Ready}
 use Rattle.constraint_normal.specs.ReadyPlaces.{blank_scalar, ready_holder, blank_bound, ready_entry, quiet_place, ready_place, ready_at, ready_of}
 use Rattle.constraint_normal.proofs.Floats.{zero_bits}
-use Rattle.constraint_normal.proofs.SetTyped.{Held}
+use Rattle.constraint_normal.specs.Held.{Held}
 use Rattle.constraint_normal.proofs.Contents.{holder-away, holder-same, holder-back, entry-away, entry-same, entry-bounded, entry-back}
 use Rattle.constraint_normal.proofs.Contents.{same-empty, Parts, parts, whole, null-away, null-back, flagged, uncrossed, quiet-back}
 

@@ -2,106 +2,101 @@
 // left out. Nothing is asked of the set, so that whoever applies can ask.
 #![tactic(auto)]
 
-ghost use Rattle.std.specs.Prelude.{◌≡◌, true};
+ghost use Rattle.std.specs.Prelude.{◌≡◌, ◌<◌, true};
+ghost use Rattle.constraint_spec.specs.Sets.{non_null_at, literal_at, entry_at};
+ghost use Rattle.constraint_normal.specs.Held.{FitsEntry, HeldAt};
 ghost use Rattle.constraint_normal.specs.Ready.{Ready};
 ghost use Rattle.constraint_normal.specs.ReadyPlaces.{blank_scalar, ready_holder, blank_bound, ready_bound, ready_entry, quiet_place, ready_place, ready_of};
 
 use constraint_spec::{ConstraintSet, Entry, Holder};
-use scalar::ScalarValue;
+use scalar::{Kind, ScalarValue};
 use value_range::Bound;
 
+#[tactic(auto, unfolding(crate::specs::ReadyPlaces::blank_scalar))]
 fn is_blank_scalar(v: ScalarValue) -> bool
     ensures { result ≡ blank_scalar v }
 {
-    let null = scalar::is_null(v);
-    let code = scalar::code_of(v);
-    null & (code == 1)
+    matches!(v, ScalarValue::Null(Kind::Boolean))
 }
 
+#[tactic(auto, unfolding(crate::specs::ReadyPlaces::ready_holder))]
 fn is_ready_holder(root: bool, h: Holder) -> bool
     ensures { result ≡ ready_holder root h }
 {
     if h.present {
         return root;
     }
-    let v = h.value;
-    is_blank_scalar(v)
+    is_blank_scalar(h.value)
 }
 
+// The bits are looked at, since -0.0 is no empty bound and equals 0.0.
+#[tactic(auto, unfolding(crate::specs::ReadyPlaces::blank_bound))]
 fn is_blank_bound(b: Bound) -> bool
     ensures { result ≡ blank_bound b }
 {
-    let bits = scalar::bits_of_float(b.value);
-    !b.present & (!b.inclusive & (bits == 0))
+    !b.present && !b.inclusive && scalar::bits_of_float(b.value) == 0
 }
 
+#[tactic(auto, unfolding(crate::specs::ReadyPlaces::ready_bound))]
 fn is_ready_bound(b: Bound) -> bool
     ensures { result ≡ ready_bound b }
 {
     if b.present {
-        let x = b.value;
-        return x == x;
+        !b.value.is_nan()
+    } else {
+        is_blank_bound(b)
     }
-    is_blank_bound(b)
 }
 
+// That the bounds are floats of 64 bits is said for those who have the entry only as part of a set.
+#[tactic(auto, unfolding(crate::specs::ReadyPlaces::ready_entry))]
 fn is_ready_entry(root: bool, e: Entry) -> bool
-    ensures { result ≡ ready_entry root e }
+    ensures value { result ≡ ready_entry root e }
+    ensures fit { FitsEntry e }
 {
-    let range = e.range;
-    let lower = range.lower;
-    let upper = range.upper;
     if e.present {
-        let low = is_ready_bound(lower);
-        let high = is_ready_bound(upper);
-        return root & (low & high);
+        root && is_ready_bound(e.range.lower) && is_ready_bound(e.range.upper)
+    } else {
+        is_blank_bound(e.range.lower) && is_blank_bound(e.range.upper)
     }
-    let low = is_blank_bound(lower);
-    let high = is_blank_bound(upper);
-    low & high
 }
 
+#[tactic(auto, unfolding(crate::specs::ReadyPlaces::quiet_place))]
 fn is_quiet_place(h: Holder, e: Entry) -> bool
     ensures { result ≡ quiet_place h e }
 {
-    let range = e.range;
-    let empty = range.is_empty();
-    let crossed = constraint_set::is_crossed(h, e);
-    !(e.present & empty) & !crossed
+    !(e.present && e.range.is_empty()) && !constraint_set::is_crossed(h, e)
 }
 
-fn is_ready_place(root: bool, flag: bool, n: bool, h: Holder, e: Entry) -> bool
-    ensures { result ≡ ready_place root flag n h e }
+#[tactic(auto, unfolding(crate::specs::ReadyPlaces::ready_place))]
+fn is_ready_place(s: &ConstraintSet, i: usize, root: bool) -> bool
+    requires { i < 128 }
+    ensures value { result ≡ ready_place root s.now.contradictory (non_null_at s.now i) (literal_at s.now i) (entry_at s.now i) }
+    ensures held { HeldAt s.now i }
 {
-    let holder = is_ready_holder(root, h);
-    let entry = is_ready_entry(root, e);
-    let quiet = is_quiet_place(h, e);
-    (!n | root) & (holder & (entry & (flag | quiet)))
+    let holder = s.literal_equalities[i];
+    let entry = s.ranges[i];
+    // first and always, so that what the entry's type says is known whatever is found
+    let ready = is_ready_entry(root, entry);
+    ready
+        && is_ready_holder(root, holder)
+        && (root || !s.non_null_values[i])
+        && (s.contradictory || is_quiet_place(holder, entry))
 }
 
-// A set is 9 KB: it is read where it lies, and only what stands at one place is handed on.
-pub fn is_ready(s: ConstraintSet) -> bool
-    ensures value { result ≡ ready_of s }
-    ensures ready { result ≡ true → Ready s }
+#[tactic(auto, unfolding(crate::specs::ReadyPlaces::ready_of), using(lists::proofs::RangeLaws::all_loop, crate::proofs::PlaceAnswers::place_here))]
+pub fn is_ready(s: &ConstraintSet) -> bool
+    ensures value { result ≡ ready_of s.now }
+    ensures ready { result ≡ true → Ready s.now }
 {
-    let classes = s.equivalence_classes;
-    let ok = classes.parents_ok();
-    if !ok {
+    if !s.equivalence_classes.parents_ok() {
         return false;
     }
-    let roots = classes.roots();
-    let flag = s.contradictory;
-    let mut i: usize = 0;
-    while i < 128 {
-        let r = roots.of[i] as usize;
-        let n = s.non_null_values[i];
-        let h = s.literal_equalities[i];
-        let e = s.ranges[i];
-        let good = is_ready_place(r == i, flag, n, h, e);
-        if !good {
+    let roots = s.equivalence_classes.roots();
+    for i in 0..ConstraintSet::IDENTITIES {
+        if !is_ready_place(s, i, usize::from(roots.of[i]) == i) {
             return false;
         }
-        i += 1;
     }
     true
 }
