@@ -7,7 +7,7 @@ use mathlib.Core.List.{List}
 use native.Mathlib.Decide.{ℕ_discrete}
 use native.Mathlib.Omega.{arith}
 use lib.Ieee.{Float}
-use lib.ListN.{length, get_or, set}
+use lib.ListN.{get_or, set}
 use lib.Seq.{set-get_or, get_or-set_same, get_or-set_other}
 use borrow.Author.Tests.{lt-ltb}
 use Rattle.lists.specs.Ranges.{any_from}
@@ -18,28 +18,23 @@ use Rattle.value_range.specs.Ranges.{unbounded_range, empty_range}
 use Rattle.value_range.specs.declared.ValueRange.{ValueRange}
 use Rattle.comparison.specs.Operators.{bounding}
 use Rattle.comparison.specs.declared.BinaryOp.{BinaryOp}
-use Rattle.constraint_spec.specs.Sets.{none, blank, held, entry_of, classes_of, non_nulls, literals, handles, non_null_at, literal_at, entry_at}
+use Rattle.constraint_spec.specs.Sets.{none, blank, held, entry_of, classes_of, non_nulls, literals, non_null_at, literal_at, entry_at}
 use Rattle.constraint_spec.specs.Sets.{with_values, with_flag}
-use Rattle.constraint_spec.specs.Sets.{with_residuals, flag_if, clashes, range_in, tighten_by, outside, crossed, crossed_at, cross_check, canonical_at}
+use Rattle.constraint_spec.specs.Sets.{flag_if, clashes, range_in, tighten_by, outside, crossed, crossed_at, cross_check, canonical_at}
 use Rattle.constraint_spec.specs.Sets.{put_non_null, put_literal, put_range, lay_range, bounds_by, union_values, add_non_null, add_literal, add_bound}
-use Rattle.constraint_spec.specs.Sets.{add_residual, applied_of, done}
+use Rattle.constraint_spec.specs.Sets.{add_residual, done}
+use Rattle.constraint_spec.specs.Answers.{Applied}
 use Rattle.constraint_spec.specs.declared.Holder.{Holder}
 use Rattle.constraint_spec.specs.declared.Entry as En
 use Rattle.constraint_spec.specs.declared.ConstraintSet.{ConstraintSet}
 use Rattle.constraint_spec.proofs.Operations.{union_one}
 use Rattle.constraint_set.specs.Checked.{Checked}
-use Rattle.constraint_set.specs.Kept.{kept_by}
-use Rattle.constraint_set.specs.Kept.{Kept}
 use Rattle.constraint_set.proofs.Checking.{just_checked, unchecked, one-place_only, check_again}
-use Rattle.constraint_set.proofs.Residuals.{residual-added}
-use Rattle.apply_action.specs.Actions.{acted, first_of, second_of, is_checking, is_residual, Proper}
-use Rattle.apply_action.specs.Cells.{cell_of, with_cell, flagged_cell, non_null_cell, literal_cell, bound_cell, entry_cell, cell_after}
+use Rattle.apply_action.specs.Actions.{acted, first_of, second_of, is_checking, is_residual, recorded_in, Proper}
+use Rattle.apply_action.specs.Cells.{Long, cell_of, with_cell, flagged_cell, non_null_cell, literal_cell, bound_cell, entry_cell, cell_after}
+use Rattle.apply_action.specs.declared.Cell.{Cell}
 use Rattle.apply_action.specs.declared.Action.{Action}
 use Rattle.apply_action.specs.declared.Action.TheVariants.{Nothing, Contradiction, Residual, Same, Literal, Bound, Entry}
-
--- the lists of a set have an entry for each identity
-abbrev pub Long : ConstraintSet → Type 0
-Long s = (length (literals s) ≡ 128) × (length s.ranges ≡ 128)
 
 -- ---- the set after the classes are one, and after the rest of what is recorded
 abbrev pub joined_by : Action → ConstraintSet → ConstraintSet
@@ -50,16 +45,6 @@ joined_by (Same i j both) q = union_values q i j
 joined_by (Literal i v) q = q
 joined_by (Bound i op x) q = q
 joined_by (Entry i) q = q
-
--- u is the set after the join
-abbrev pub recorded_in : Action → ConstraintSet → ConstraintSet
-recorded_in Nothing u = u
-recorded_in Contradiction u = with_flag u true
-recorded_in Residual u = u
-recorded_in (Same i j both) u = cond both (add_non_null u i) u
-recorded_in (Literal i v) u = add_literal u i v
-recorded_in (Bound i op x) u = add_bound u i op x
-recorded_in (Entry i) u = lay_range (put_non_null u (canonical_at u i)) (canonical_at u i) unbounded_range
 
 pub acted-is : (act : Action) (q : ConstraintSet) (h : ℕ)
     → acted act q h ≡ cond (is_residual act) (add_residual (recorded_in act (joined_by act q)) h) (done (recorded_in act (joined_by act q)))
@@ -242,6 +227,28 @@ module _ (checked : Bool) (u : ConstraintSet) (long : Long u) (c : checked ≡ t
       ∙ bound_in_lem i r op x p.0 p.1 e
   written_is (Entry i) r p low e = unchanged _ ∙ cell-entry u r ∙ ap (λ (k : ℕ). lay_range (put_non_null u k) k unbounded_range) e
 
+-- the two ways through `record`: the check of all literals, or none, as all are checked or nothing of them changed
+module _ (u v w : ConstraintSet) (old new : Cell) (act : Action) (r : ℕ) (checked : Bool) (er : r ≡ canonical_at u (first_of act)) (low : r < 128)
+    (p : Proper act) (c : checked ≡ true → Checked u) (long : Long u) (eo : old ≡ cell_of u r) (en : new ≡ cell_after old act)
+    (ev : v ≡ with_cell u r new) where
+  by_test : (b : Bool) → (not checked && is_checking act) ≡ b → w ≡ cond b (cross_check v) v → w ≡ recorded_in act u
+  by_test b e ew =
+      ew ∙ sym (ap (λ (t : Bool). cond t (cross_check v) v) e)
+      ∙ ap (written checked act) (ev ∙ ap (with_cell u r) (en ∙ ap (λ (o : Cell). cell_after o act) eo))
+      ∙ written_is checked u long c act r p low er
+
+  pub when_all_checked : checked ≡ false → is_checking act ≡ true → w ≡ cross_check v → w ≡ recorded_in act u
+  when_all_checked e f = by_test true (λ i. not (e i) && f i)
+
+  pub when_checked : checked ≡ true → w ≡ v → w ≡ recorded_in act u
+  when_checked e = by_test false (ap (λ (b : Bool). not b && is_checking act) e)
+
+  pub when_nothing_to_check : is_checking act ≡ false → w ≡ v → w ≡ recorded_in act u
+  when_nothing_to_check e = by_test false (ap (λ (b : Bool). not checked && b) e ∙ no_check checked)
+
+-- the ways through `record`
+pub ruleset record_cases = (when_all_checked, when_checked, when_nothing_to_check)
+
 -- ---- a set that was checked stays so
 none-outside : (n : Option Float) → outside n unbounded_range ≡ false
 none-outside None = refl
@@ -286,25 +293,17 @@ module _ (u : ConstraintSet) (long : Long u) where
       subst Checked (bound_in_lem false u long (unchecked u) i (canonical_at u i) op x p.0 p.1 refl) (just_checked _)
   recorded-checked checked (Entry i) p low c e = entry-checked (canonical_at u i) low (c (sym (or-false checked) ∙ e))
 
--- ---- one conjunct, as the loop over conjuncts goes: the classes joined, a cell written, a check where it is wanted, the handle kept
-module _ (act : Action) (p : Proper act) (h : ℕ) (checked : Bool) (q u w : ConstraintSet) (r : ℕ) (k : Kept) (long : Long u) (c : checked ≡ true →
-    Checked u)
-    (eu : u ≡ joined_by act q) (er : r ≡ canonical_at u (first_of act)) (low : r < 128) (ew : w ≡ written checked act (with_cell u r (cell_after
-    (cell_of u r) act)))
-    (ek : k ≡ cond (is_residual act) (kept_by (handles w) w.residuals h) (record { list = handles w; count = w.residuals; refused = false })) where
-  w_is : w ≡ recorded_in act u
-  w_is = ew ∙ written_is checked u long c act r p low er
+-- ---- one conjunct: its classes joined, what it records at the representative, and its handle kept where it is residual
+module _ (act : Action) (h : ℕ) (q u w : ConstraintSet) (eu : u ≡ joined_by act q) (ew : w ≡ recorded_in act u) where
+  w_is : w ≡ recorded_in act (joined_by act q)
+  w_is = ew ∙ ap (recorded_in act) eu
 
-  pub turned : applied_of (with_residuals w k.list k.count) k.refused ≡ acted act q h
-  turned = go (is_residual act) refl ∙ sym (acted-is act q h)
-    where
-      go : (b : Bool) → is_residual act ≡ b
-          → applied_of (with_residuals w k.list k.count) k.refused
-          ≡ cond (is_residual act) (add_residual (recorded_in act (joined_by act q)) h) (done (recorded_in act (joined_by act q)))
-      go true e = rw e (residual-added w h k (ek ∙ rw e) ∙ ap (λ (t : ConstraintSet). add_residual t h) (w_is ∙ ap (recorded_in act) eu))
-      go false e = rw e
-          (ap (λ (x : Kept). applied_of (with_residuals w x.list x.count) x.refused) (ek ∙ rw e) ∙ ap done
-          (w_is ∙ ap (recorded_in act) eu))
+  pub when_residual : is_residual act ≡ true → (a : Applied) → a ≡ add_residual w h → a ≡ acted act q h
+  when_residual e a ea =
+      ea ∙ ap (λ (t : ConstraintSet). add_residual t h) w_is
+      ∙ sym (acted-is act q h ∙ ap (λ (b : Bool). cond b (add_residual (recorded_in act (joined_by act q)) h) (done (recorded_in act (joined_by act q)))) e)
 
-  pub turned-checked : (checked || is_checking act) ≡ true → Checked (with_residuals w k.list k.count)
-  turned-checked e = subst Checked (sym w_is) (recorded-checked u long checked act p (omega (arith, er)) c e)
+  pub when_not_residual : is_residual act ≡ false → done w ≡ acted act q h
+  when_not_residual e =
+      ap done w_is
+      ∙ sym (acted-is act q h ∙ ap (λ (b : Bool). cond b (add_residual (recorded_in act (joined_by act q)) h) (done (recorded_in act (joined_by act q)))) e)

@@ -14,18 +14,18 @@ use Rattle.value_range.specs.Ranges.{unbounded_range}
 use Rattle.value_range.specs.declared.ValueRange.{ValueRange}
 use Rattle.value_classes.proofs.ClassLaws.{falling, canonical_idempotent}
 use Rattle.constraint_spec.specs.Sets.{none, held, no_entry, blank, entry_of, classes_of, non_nulls, literals, literal_at, entry_at, canonical_at}
-use Rattle.constraint_spec.specs.Sets.{with_residuals, range_in, bounds_by}
+use Rattle.constraint_spec.specs.Sets.{range_in, bounds_by}
 use Rattle.constraint_spec.specs.declared.Entry as En
 use Rattle.constraint_spec.specs.declared.ConstraintSet.{ConstraintSet}
 use Rattle.constraint_set.specs.Checked.{Checked}
 use Rattle.constraint_set.specs.Settled.{null_on, literal_on, range_on, range_bad, Stands, Settled}
 use Rattle.constraint_set.proofs.Contents.{null-same, literal-again, range-again, range_tells}
-use Rattle.apply_action.specs.Actions.{first_of, Proper}
-use Rattle.apply_action.specs.Cells.{cell_of, with_cell, non_null_cell, literal_cell, bound_cell, entry_cell, cell_after}
+use Rattle.apply_action.specs.Actions.{first_of, recorded_in, Proper}
+use Rattle.apply_action.specs.Cells.{Long, cell_of, with_cell, non_null_cell, literal_cell, bound_cell, entry_cell, cell_after}
 use Rattle.apply_action.specs.declared.Action.{Action}
 use Rattle.apply_action.specs.declared.Action.TheVariants.{Nothing, Contradiction, Residual, Same, Literal, Bound, Entry}
 use Rattle.apply_action.specs.declared.Cell.{Cell}
-use Rattle.apply_action.proofs.CellLaws.{Long, recorded_in, written, written_is, recorded-checked}
+use Rattle.apply_action.proofs.CellLaws.{written_is, recorded-checked}
 
 -- ---- a content put at a representative, in the form in which a pass puts it at an empty place
 stands_set : {A : Type 0} (n : A) (put : A → A → A) (root : ℕ → ℕ) (d : A) (l : List A) → Stands n put root d l → (r : ℕ) → r < 128 → root r ≡ r → (x
@@ -138,12 +138,3 @@ module _ (u : ConstraintSet) (g : Settled u) (act : Action) (p : Proper act) (r 
       subst Settled is
       (cell-settled u g r low (cell_after (cell_of u r) act) own (fit-after u g r low act)
       (subst Checked (sym is) (recorded-checked u long true act p (omega (arith, er)) (λ e. g.checked) refl)))
-
-  -- and so does the turn of the loop, with its residual
-  pub turned-settled : (checked : Bool) (w : ConstraintSet) (l : List ℕ) (n : ℕ) → w ≡ written checked act (with_cell u r (cell_after (cell_of u r)
-      act))
-      → Settled (with_residuals w l n)
-  turned-settled checked w l n ew = kept (subst Settled (sym (ew ∙ written_is checked u long (λ e. g.checked) act r p low er)) recorded-settled)
-    where
-      kept : Settled w → Settled (with_residuals w l n)
-      kept k = record { many = k.many; ok = k.ok; nulls = k.nulls; equal = k.equal; within = k.within; quiet = k.quiet; checked = k.checked }

@@ -116,6 +116,16 @@ is_residual (Literal i v) = false
 is_residual (Bound i op x) = false
 is_residual (Entry i) = true
 
+-- what an action records in u, in which its two identities are in one class already
+abbrev pub recorded_in : Action → ConstraintSet → ConstraintSet
+recorded_in Nothing u = u
+recorded_in Contradiction u = with_flag u true
+recorded_in Residual u = u
+recorded_in (Same i j both) u = cond both (add_non_null u i) u
+recorded_in (Literal i v) u = add_literal u i v
+recorded_in (Bound i op x) u = add_bound u i op x
+recorded_in (Entry i) u = lay_range (put_non_null u (canonical_at u i)) (canonical_at u i) unbounded_range
+
 -- as `action_of` makes them: every number is an identity's, no literal is NULL, and a bound bounds
 abbrev pub Proper : Action → Type 0
 Proper Nothing = 0 < 128

@@ -1,5 +1,5 @@
 -- What is recorded of one representative, and what each action makes of it where the rest of the set was held against its literals before. Assumes nothing.
-use Rattle.std.specs.Prelude.{ℕ, true, cond, ◌||◌, Float, set}
+use Rattle.std.specs.Prelude.{ℕ, true, cond, ◌≡◌, ◌||◌, Float, length, set}
 use Rattle.scalar.specs.declared.ScalarValue.{ScalarValue}
 use Rattle.value_range.specs.Ranges.{empty_range}
 use Rattle.value_range.specs.declared.ValueRange.{ValueRange}
@@ -11,6 +11,10 @@ use Rattle.constraint_spec.specs.declared.ConstraintSet.{ConstraintSet}
 use Rattle.apply_action.specs.declared.Action.{Action}
 use Rattle.apply_action.specs.declared.Action.TheVariants.{Nothing, Contradiction, Residual, Same, Literal, Bound, Entry}
 use Rattle.apply_action.specs.declared.Cell.{Cell}
+
+-- the lists of a set have an entry for each identity
+abbrev pub Long : ConstraintSet → Type 0
+Long s = (length (literals s) ≡ 128) × (length s.ranges ≡ 128)
 
 -- what s has at r, with the flag
 abbrev pub cell_of : ConstraintSet → ℕ → Cell

@@ -1,23 +1,22 @@
 // What one conjunct of a predicate records, after the arms of the Rust's `apply_predicate`, in two halves: which action it is, read out of the
-// plan without a set, and what that makes of the one representative that it is about. A set is 9 KB, so none is passed here.
+// plan without a set, and what that makes of a set at the one representative that it is about.
 #![tactic(auto)]
 
-ghost use Rattle.std.specs.Prelude.{◌≡◌, false, cond};
-ghost use Rattle.constraint_set.specs.Kept.{kept_by};
-ghost use Rattle.plan_data.specs.Nodes.{node_of};
+ghost use Rattle.std.specs.Prelude.{◌≡◌, ◌<◌, true};
+ghost use Rattle.constraint_spec.specs.Sets.{canonical_at};
+ghost use Rattle.constraint_set.specs.Checked.{Checked};
+ghost use Rattle.plan_data.specs.Nodes.{node_from};
 ghost use Rattle.apply_spec.specs.Apply.{seen_of, is_null_literal};
-ghost use Rattle.apply_action.specs.Actions.{same_action, pair_action, bounded_by, range_action, literal_action, bound_action, reversed_action};
-ghost use Rattle.apply_action.specs.Actions.{operands_action, comparison_action, constant_action, action_of, first_of, second_of, is_checking};
-ghost use Rattle.apply_action.specs.Actions.{is_residual};
-ghost use Rattle.apply_action.specs.Cells.{non_null_cell, flagged_cell, literal_cell, bound_cell, entry_cell, cell_after};
+ghost use Rattle.apply_action.specs.Actions.{same_action, pair_action, range_action, literal_action, bound_action, reversed_action, operands_action};
+ghost use Rattle.apply_action.specs.Actions.{comparison_action, constant_action, action_of, first_of, second_of, is_checking, is_residual, recorded_in, Proper};
+ghost use Rattle.apply_action.specs.Cells.{Long, cell_of, with_cell, literal_cell, bound_cell, entry_cell, cell_after};
 
 use apply_spec::Seen;
 use comparison::BinaryOp;
-use constraint_set::Kept;
-use constraint_spec::{Entry, Holder};
-use plan::Column;
+use constraint_spec::{ConstraintSet, Entry, Holder};
+use plan::{Column, Expressions};
 use plan_data::ExprData;
-use scalar::{Number, ScalarValue};
+use scalar::ScalarValue;
 
 // What a conjunct asks: nothing, the flag, to be kept as a residual, two identities in one class (not NULL where the flag says so), a literal,
 // a bound, or an entry without a bound and a residual.
@@ -26,7 +25,11 @@ pub enum Action {
     Nothing,
     Contradiction,
     Residual,
-    Same(usize, usize, bool),
+    Same {
+        left: usize,
+        right: usize,
+        non_null: bool,
+    },
     Literal(usize, ScalarValue),
     Bound(usize, BinaryOp, f64),
     Entry(usize),
@@ -43,29 +46,22 @@ pub struct Cell {
 
 // ---- what an operand of a comparison is
 
-fn column_seen(lineage: &[u8], column: Column) -> Seen
+fn column_seen(lineage: &[u8; 64], column: Column) -> Seen
     ensures { result ≡ seen_of lineage.now (ExprData.ColumnRef column) }
 {
-    let v = lists::at8(lineage, column.0 as usize);
-    if v == 0 {
-        return Seen::Unseen;
+    match lists::at(lineage, usize::from(column.0), 0) {
+        0 => Seen::Unseen,
+        value => Seen::Identity(usize::from(value) - 1),
     }
-    Seen::Identity(v as usize - 1)
 }
 
-fn seen(lineage: &[u8], node: ExprData) -> Seen
+fn seen(lineage: &[u8; 64], node: ExprData) -> Seen
     ensures { result ≡ seen_of lineage.now node }
 {
     match node {
         ExprData::Literal(v) => Seen::Constant(v),
         ExprData::ColumnRef(column) => column_seen(lineage, column),
-        ExprData::Unary { op: _, expr: _ } => Seen::Unseen,
-        ExprData::Binary {
-            op: _,
-            left: _,
-            right: _,
-        } => Seen::Unseen,
-        ExprData::Nary { op: _, exprs: _ } => Seen::Unseen,
+        _ => Seen::Unseen,
     }
 }
 
@@ -73,25 +69,27 @@ fn is_null_literal(x: Seen) -> bool
     ensures { result ≡ is_null_literal x }
 {
     match x {
-        Seen::Identity(_) => false,
-        Seen::Constant(v) => scalar::is_null(v),
-        Seen::Unseen => false,
+        Seen::Constant(v) => v.is_null(),
+        _ => false,
     }
 }
 
 // ---- which action a conjunct is
 
 // Two columns with lineage are equal: their classes are one, and under the ordinary equality they are not NULL.
-fn same(left: usize, right: usize, ordinary: bool) -> Action
-    ensures { result ≡ same_action left right ordinary }
+#[tactic(auto, unfolding(crate::specs::Actions::same_action))]
+fn same(left: usize, right: usize, non_null: bool) -> Action
+    ensures { result ≡ same_action left right non_null }
 {
     if 128 <= left {
-        return Action::Nothing;
+        Action::Nothing
+    } else {
+        Action::Same {
+            left,
+            right: if right < 128 { right } else { left },
+            non_null,
+        }
     }
-    if 128 <= right {
-        return Action::Same(left, left, ordinary);
-    }
-    Action::Same(left, right, ordinary)
 }
 
 // Two columns with lineage.
@@ -100,53 +98,38 @@ fn pair_action(op: BinaryOp, left: usize, right: usize) -> Action
 {
     match op {
         BinaryOp::Eq => same(left, right, true),
-        BinaryOp::NotEq => Action::Residual,
-        BinaryOp::Lt => Action::Residual,
-        BinaryOp::LtEq => Action::Residual,
-        BinaryOp::Gt => Action::Residual,
-        BinaryOp::GtEq => Action::Residual,
         BinaryOp::IsNotDistinctFrom => same(left, right, false),
+        _ => Action::Residual,
     }
 }
 
-// A comparison that bounds is recorded, any other makes an entry and is residual.
-fn number_action(op: BinaryOp, value: usize, x: f64) -> Action
-    ensures { result ≡ bounded_by op value (Number.Of x) }
-{
-    let bounds = comparison::is_bounding(op);
-    if 128 <= value {
-        return if bounds {
-            Action::Nothing
-        } else {
-            Action::Residual
-        };
-    }
-    if bounds {
-        return Action::Bound(value, op, x);
-    }
-    Action::Entry(value)
-}
-
+// A comparison that bounds is recorded, any other with a number makes an entry and is residual.
+#[tactic(auto, unfolding(crate::specs::Actions::bounded_by))]
 fn range_action(op: BinaryOp, value: usize, literal: ScalarValue) -> Action
     ensures { result ≡ range_action op value literal }
 {
-    let number = scalar::scalar_to_f64(literal);
-    match number {
-        Number::Of(x) => number_action(op, value, x),
-        Number::Nothing => Action::Residual,
+    let Some(x) = scalar::scalar_to_f64(literal) else {
+        return Action::Residual;
+    };
+    match (op.is_bounding(), value < 128) {
+        (true, true) => Action::Bound(value, op, x),
+        (true, false) => Action::Nothing,
+        (false, true) => Action::Entry(value),
+        (false, false) => Action::Residual,
     }
 }
 
+#[tactic(auto, unfolding(crate::specs::Actions::literal_action))]
 fn literal_action(value: usize, literal: ScalarValue) -> Action
     ensures { result ≡ literal_action value literal }
 {
     if 128 <= value {
-        return Action::Nothing;
+        Action::Nothing
+    } else if literal.is_null() {
+        Action::Contradiction
+    } else {
+        Action::Literal(value, literal)
     }
-    if scalar::is_null(literal) {
-        return Action::Contradiction;
-    }
-    Action::Literal(value, literal)
 }
 
 // A column with lineage on the left of a literal.
@@ -155,12 +138,7 @@ fn bound_action(op: BinaryOp, value: usize, literal: ScalarValue) -> Action
 {
     match op {
         BinaryOp::Eq => literal_action(value, literal),
-        BinaryOp::NotEq => range_action(BinaryOp::NotEq, value, literal),
-        BinaryOp::Lt => range_action(BinaryOp::Lt, value, literal),
-        BinaryOp::LtEq => range_action(BinaryOp::LtEq, value, literal),
-        BinaryOp::Gt => range_action(BinaryOp::Gt, value, literal),
-        BinaryOp::GtEq => range_action(BinaryOp::GtEq, value, literal),
-        BinaryOp::IsNotDistinctFrom => range_action(BinaryOp::IsNotDistinctFrom, value, literal),
+        _ => range_action(op, value, literal),
     }
 }
 
@@ -168,60 +146,34 @@ fn bound_action(op: BinaryOp, value: usize, literal: ScalarValue) -> Action
 fn reversed_action(op: BinaryOp, value: usize, literal: ScalarValue) -> Action
     ensures { result ≡ reversed_action op value literal }
 {
-    let turned = comparison::reversed(op);
     match op {
         BinaryOp::Eq => literal_action(value, literal),
-        BinaryOp::NotEq => Action::Residual,
-        BinaryOp::Lt => range_action(turned, value, literal),
-        BinaryOp::LtEq => range_action(turned, value, literal),
-        BinaryOp::Gt => range_action(turned, value, literal),
-        BinaryOp::GtEq => range_action(turned, value, literal),
-        BinaryOp::IsNotDistinctFrom => Action::Residual,
-    }
-}
-
-// An identity on the left.
-fn left_action(op: BinaryOp, left: usize, r: Seen) -> Action
-    ensures { result ≡ operands_action op (Seen.Identity left) r }
-{
-    match r {
-        Seen::Identity(right) => pair_action(op, left, right),
-        Seen::Constant(literal) => bound_action(op, left, literal),
-        Seen::Unseen => Action::Residual,
-    }
-}
-
-// A literal on the left.
-fn right_action(op: BinaryOp, literal: ScalarValue, r: Seen) -> Action
-    ensures { result ≡ operands_action op (Seen.Constant literal) r }
-{
-    match r {
-        Seen::Identity(right) => reversed_action(op, right, literal),
-        Seen::Constant(_) => Action::Residual,
-        Seen::Unseen => Action::Residual,
+        BinaryOp::NotEq | BinaryOp::IsNotDistinctFrom => Action::Residual,
+        _ => range_action(op.reversed(), value, literal),
     }
 }
 
 fn operands_action(op: BinaryOp, l: Seen, r: Seen) -> Action
     ensures { result ≡ operands_action op l r }
 {
-    match l {
-        Seen::Identity(left) => left_action(op, left, r),
-        Seen::Constant(literal) => right_action(op, literal, r),
-        Seen::Unseen => Action::Residual,
+    match (l, r) {
+        (Seen::Identity(left), Seen::Identity(right)) => pair_action(op, left, right),
+        (Seen::Identity(value), Seen::Constant(literal)) => bound_action(op, value, literal),
+        (Seen::Constant(literal), Seen::Identity(value)) => reversed_action(op, value, literal),
+        _ => Action::Residual,
     }
 }
 
 // One of the six ordinary comparisons with a NULL literal never is TRUE.
+#[tactic(auto, unfolding(apply_spec::specs::Apply::comparison_by))]
 fn comparison_action(op: BinaryOp, l: Seen, r: Seen) -> Action
     ensures { result ≡ comparison_action op l r }
 {
-    let ordinary = comparison::is_ordinary(op);
-    let null = is_null_literal(l) | is_null_literal(r);
-    if ordinary & null {
-        return Action::Contradiction;
+    if op.is_ordinary() && (is_null_literal(l) || is_null_literal(r)) {
+        Action::Contradiction
+    } else {
+        operands_action(op, l, r)
     }
-    operands_action(op, l, r)
 }
 
 // A literal as a predicate.
@@ -229,207 +181,174 @@ fn constant_action(v: ScalarValue) -> Action
     ensures { result ≡ constant_action v }
 {
     match v {
-        ScalarValue::Null(_) => Action::Contradiction,
-        ScalarValue::Boolean(b) => {
-            if b {
-                return Action::Nothing;
-            }
-            Action::Contradiction
-        }
-        ScalarValue::Int32(_) => Action::Residual,
-        ScalarValue::Int64(_) => Action::Residual,
-        ScalarValue::Float64(_) => Action::Residual,
-        ScalarValue::Date32(_) => Action::Residual,
+        ScalarValue::Null(_) | ScalarValue::Boolean(false) => Action::Contradiction,
+        ScalarValue::Boolean(true) => Action::Nothing,
+        _ => Action::Residual,
     }
 }
 
-// The conjunct h. The tables of the plan are lent one by one.
-pub fn action_of<'a>(
-    kind: &'a [u8],
-    code: &'a [u8],
-    a: &'a [u16],
-    b: &'a [u16],
-    bits: &'a [u64],
-    start: &'a [u16],
-    lineage: &'a [u8],
-    h: u16,
-) -> Action
-    ensures { result ≡ action_of lineage.now (node_of kind.now code.now a.now b.now bits.now
-        start.now) h }
+// The conjunct h.
+#[tactic(auto, unfolding(crate::specs::Actions::action_of))]
+pub fn action_of(exprs: &Expressions, lineage: &[u8; 64], h: u16) -> Action
+    ensures { result ≡ action_of lineage.now (node_from exprs.now) h }
 {
-    let node = plan_data::node_at(kind, code, a, b, bits, start, h as usize);
-    match node {
+    match plan_data::node_at(exprs, usize::from(h)) {
         ExprData::Literal(v) => constant_action(v),
-        ExprData::ColumnRef(_) => Action::Residual,
-        ExprData::Unary { op: _, expr: _ } => Action::Residual,
         ExprData::Binary { op, left, right } => {
-            let x = plan_data::node_at(kind, code, a, b, bits, start, left.0 as usize);
-            let y = plan_data::node_at(kind, code, a, b, bits, start, right.0 as usize);
-            let l = seen(lineage, x);
-            let r = seen(lineage, y);
+            let l = seen(lineage, plan_data::node_at(exprs, usize::from(left.0)));
+            let r = seen(lineage, plan_data::node_at(exprs, usize::from(right.0)));
             comparison_action(op, l, r)
         }
-        ExprData::Nary { op: _, exprs: _ } => Action::Residual,
+        _ => Action::Residual,
     }
 }
 
 // ---- what an action is about
 
-// The identity that it is about; 0 where there is none.
-pub fn first_of(action: Action) -> usize
-    ensures { result ≡ first_of action }
-{
-    match action {
-        Action::Nothing => 0,
-        Action::Contradiction => 0,
-        Action::Residual => 0,
-        Action::Same(i, _, _) => i,
-        Action::Literal(i, _) => i,
-        Action::Bound(i, _, _) => i,
-        Action::Entry(i) => i,
+impl Action {
+    // The identity that it is about; 0 where there is none.
+    pub fn first(self) -> usize
+        ensures { result ≡ first_of self }
+    {
+        match self {
+            Action::Same { left, .. } => left,
+            Action::Literal(value, _) | Action::Bound(value, _, _) | Action::Entry(value) => value,
+            Action::Nothing | Action::Contradiction | Action::Residual => 0,
+        }
     }
-}
 
-// The one that is to be in its class.
-pub fn second_of(action: Action) -> usize
-    ensures { result ≡ second_of action }
-{
-    match action {
-        Action::Nothing => 0,
-        Action::Contradiction => 0,
-        Action::Residual => 0,
-        Action::Same(_, j, _) => j,
-        Action::Literal(i, _) => i,
-        Action::Bound(i, _, _) => i,
-        Action::Entry(i) => i,
+    // The one that is to be in its class.
+    pub fn second(self) -> usize
+        ensures { result ≡ second_of self }
+    {
+        match self {
+            Action::Same { right, .. } => right,
+            _ => self.first(),
+        }
     }
-}
 
-// Whether literals are held against ranges after it.
-pub fn is_checking(action: Action) -> bool
-    ensures { result ≡ is_checking action }
-{
-    match action {
-        Action::Nothing => false,
-        Action::Contradiction => false,
-        Action::Residual => false,
-        Action::Same(_, _, _) => false,
-        Action::Literal(_, _) => true,
-        Action::Bound(_, _, _) => true,
-        Action::Entry(_) => false,
+    // Whether literals are held against ranges after it.
+    pub fn is_checking(self) -> bool
+        ensures { result ≡ is_checking self }
+    {
+        matches!(self, Action::Literal(_, _) | Action::Bound(_, _, _))
     }
-}
 
-// Whether the conjunct is residual.
-pub fn is_residual(action: Action) -> bool
-    ensures { result ≡ is_residual action }
-{
-    match action {
-        Action::Nothing => false,
-        Action::Contradiction => false,
-        Action::Residual => true,
-        Action::Same(_, _, _) => false,
-        Action::Literal(_, _) => false,
-        Action::Bound(_, _, _) => false,
-        Action::Entry(_) => true,
+    // Whether the conjunct is residual.
+    pub fn is_residual(self) -> bool
+        ensures { result ≡ is_residual self }
+    {
+        matches!(self, Action::Residual | Action::Entry(_))
     }
 }
 
 // ---- what it makes of a representative
 
-fn flagged(c: Cell) -> Cell
-    ensures { result ≡ flagged_cell c }
-{
-    let mut d = c;
-    d.contradictory = true;
-    d
+impl Cell {
+    fn of(s: &ConstraintSet, root: usize) -> Cell
+        requires { root < 128 }
+        ensures cell { result ≡ cell_of s.now root }
+        ensures long { Long s.now }
+    {
+        Cell {
+            non_null: s.non_null_values[root],
+            literal: s.literal_equalities[root],
+            entry: s.ranges[root],
+            contradictory: s.contradictory,
+        }
+    }
+
+    #[tactic(auto, unfolding(crate::specs::Cells::with_cell))]
+    fn put(self, s: &mut ConstraintSet, root: usize)
+        requires { root < 128 }
+        ensures { s.new ≡ with_cell s.old root self }
+    {
+        s.non_null_values[root] = self.non_null;
+        s.literal_equalities[root] = self.literal;
+        s.ranges[root] = self.entry;
+        s.contradictory = self.contradictory;
+    }
+
+    #[tactic(auto, unfolding(crate::specs::Cells::literal_cell))]
+    fn with_literal(self, value: ScalarValue) -> Cell
+        ensures { result ≡ literal_cell self value }
+    {
+        let clash = constraint_set::literal_clashes(self.literal, value);
+        let literal = constraint_set::literal_kept(clash, self.literal, value);
+        Cell {
+            non_null: true,
+            literal,
+            entry: self.entry,
+            contradictory: self.contradictory
+                || clash
+                || constraint_set::is_crossed(literal, self.entry),
+        }
+    }
+
+    #[tactic(auto, unfolding(crate::specs::Cells::bound_cell))]
+    fn with_bound(self, op: BinaryOp, x: f64) -> Cell
+        ensures { result ≡ bound_cell self op x }
+    {
+        let range = constraint_set::tightened(self.entry, constraint_set::bounds_by(op, x));
+        let entry = constraint_set::entry_of(range);
+        Cell {
+            non_null: true,
+            literal: self.literal,
+            entry,
+            contradictory: self.contradictory
+                || range.is_empty()
+                || constraint_set::is_crossed(self.literal, entry),
+        }
+    }
+
+    #[tactic(auto, unfolding(crate::specs::Cells::entry_cell))]
+    fn with_entry(self) -> Cell
+        ensures { result ≡ entry_cell self }
+    {
+        Cell {
+            non_null: true,
+            entry: constraint_set::entry_of(constraint_set::range_in(self.entry)),
+            ..self
+        }
+    }
+
+    pub fn after(self, action: Action) -> Cell
+        ensures { result ≡ cell_after self action }
+    {
+        match action {
+            Action::Nothing
+            | Action::Residual
+            | Action::Same {
+                non_null: false,
+                ..
+            } => self,
+            Action::Contradiction => Cell {
+                contradictory: true,
+                ..self
+            },
+            Action::Same { non_null: true, .. } => Cell {
+                non_null: true,
+                ..self
+            },
+            Action::Literal(_, value) => self.with_literal(value),
+            Action::Bound(_, op, x) => self.with_bound(op, x),
+            Action::Entry(_) => self.with_entry(),
+        }
+    }
 }
 
-fn not_null(c: Cell, so: bool) -> Cell
-    ensures { result ≡ cond so (non_null_cell c) c }
+// What an action records in a set whose classes are joined for it already, at the representative `root` of its identity. Where the set is known
+// to be checked, only that place can have come to be crossed.
+#[tactic(auto, using(crate::proofs::CellLaws::record_cases))]
+pub fn record(s: &mut ConstraintSet, root: usize, action: Action, checked: bool)
+    requires root { root ≡ canonical_at s.old (first_of action) }
+    requires root_bound { root < 128 }
+    requires proper { Proper action }
+    requires checked { checked ≡ true → Checked s.old }
+    ensures { s.new ≡ recorded_in action s.old }
 {
-    let mut d = c;
-    if so {
-        d.non_null = true;
-    }
-    d
-}
-
-fn with_literal(c: Cell, value: ScalarValue) -> Cell
-    ensures { result ≡ literal_cell c value }
-{
-    let old = c.literal;
-    let entry = c.entry;
-    let clash = constraint_set::literal_clashes(old, value);
-    let literal = constraint_set::literal_kept(clash, old, value);
-    let crossed = constraint_set::is_crossed(literal, entry);
-    let was = c.contradictory;
-    Cell {
-        non_null: true,
-        literal,
-        entry,
-        contradictory: (was | clash) | crossed,
-    }
-}
-
-fn with_bound(c: Cell, op: BinaryOp, x: f64) -> Cell
-    ensures { result ≡ bound_cell c op x }
-{
-    let old = c.entry;
-    let literal = c.literal;
-    let new = constraint_set::bounds_by(op, x);
-    let range = constraint_set::tightened(old, new);
-    let empty = range.is_empty();
-    let entry = constraint_set::entry_of(range);
-    let crossed = constraint_set::is_crossed(literal, entry);
-    let was = c.contradictory;
-    Cell {
-        non_null: true,
-        literal,
-        entry,
-        contradictory: (was | empty) | crossed,
-    }
-}
-
-fn with_entry(c: Cell) -> Cell
-    ensures { result ≡ entry_cell c }
-{
-    let old = c.entry;
-    let literal = c.literal;
-    let range = constraint_set::range_in(old);
-    let entry = constraint_set::entry_of(range);
-    Cell {
-        non_null: true,
-        literal,
-        entry,
-        contradictory: c.contradictory,
-    }
-}
-
-pub fn cell_after(c: Cell, action: Action) -> Cell
-    ensures { result ≡ cell_after c action }
-{
-    match action {
-        Action::Nothing => c,
-        Action::Contradiction => flagged(c),
-        Action::Residual => c,
-        Action::Same(_, _, both) => not_null(c, both),
-        Action::Literal(_, value) => with_literal(c, value),
-        Action::Bound(_, op, x) => with_bound(c, op, x),
-        Action::Entry(_) => with_entry(c),
-    }
-}
-
-// The residual handles with h, where it is one.
-pub fn residuals_after(list: [u16; 64], count: usize, h: u16, residual: bool) -> Kept
-    ensures { result ≡ cond residual (kept_by list count h) (record { list = list; count = count; refused = false }) }
-{
-    if residual {
-        return constraint_set::push_handle(list, count, h);
-    }
-    Kept {
-        list,
-        count,
-        refused: false,
+    Cell::of(s, root).after(action).put(s, root);
+    if !checked && action.is_checking() {
+        constraint_set::cross_check_literals_and_ranges(s);
     }
 }
