@@ -6,7 +6,7 @@
 ghost use Rattle.std.specs.Prelude.{◌≤◌};
 
 use plan::{Items, Operator, Plan};
-use plan_kinds::{Record, Row};
+use plan_kinds::{Field, Record, Row};
 use simplify_spec::{Rewrite, SimplifyError};
 
 const NAN: u64 = 0x7ff8_0000_0000_0000;
@@ -15,8 +15,8 @@ fn code(n: u8) {
     io::print_hex(1, u64::from(n), 2);
 }
 
-fn number(sort: u8, n: u16) {
-    if sort != plan_kinds::NONE {
+fn number(field: Field, n: u16) {
+    if field != Field::None {
         io::print_hex(1, u64::from(n), 4);
     }
 }
@@ -81,7 +81,7 @@ fn listed(p: &Plan) {
     for i in 0..usize::from(p.columns.count) {
         let x = p.columns.record(i);
         code(x.kind);
-        number(plan_kinds::NUMBER, x.a);
+        number(Field::Number, x.a);
         code(x.code);
     }
     for i in 0..usize::from(p.expressions.count) {
