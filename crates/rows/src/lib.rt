@@ -305,7 +305,7 @@ fn value_on(p: &Plan, e: Expr, row: &Row) -> ScalarValue
 }
 
 // The value of an expression of a plan on a row; or NoSuch, Untyped or BadRow, tested in that order.
-#[tactic(auto, using(rows_spec::proofs::AnswerLaws::few_exprs), unfolding(rows_spec::specs::Evaluate::evaluate_of))]
+#[tactic(auto, using(rows_spec::proofs::FewExpressions::few_exprs), unfolding(rows_spec::specs::Evaluate::evaluate_of))]
 pub fn evaluate(p: &Plan, e: Expr, row: &Row) -> Result<ScalarValue, EvaluationError>
     ensures { result ≡ evaluate_of p.now e row.now }
 {

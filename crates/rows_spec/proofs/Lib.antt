@@ -1,6 +1,6 @@
 pub mod InOrderLaws
 pub mod ValueLaws
 pub mod TypingLaws
-pub mod AnswerLaws
+pub mod FewExpressions
 pub mod CompareLaws
 pub mod SqlExamples
