@@ -125,18 +125,10 @@ fn derived(p: &Plan, h: u16) -> Result<LogicalFacts, DeriveError> {
 }
 
 fn answer(p: &Plan, h: u16) {
-    match derived(p, h) {
-        Ok(f) => {
-            number(0);
-            number(0);
-            facts(p, &f);
-        }
-        Err(e) => {
-            number(u64::from(refusals::derive_number(e)));
-            number(u64::from(refusals::derive_place(e)));
-            facts(p, &LogicalFacts::empty());
-        }
-    }
+    let d = derived(p, h);
+    number(u64::from(refusals::number(&d)));
+    number(refusals::place(&d) as u64);
+    facts(p, &d.unwrap_or(LogicalFacts::empty()));
 }
 
 fn one(s: &[u8], last: bool, asked: u16) {
