@@ -19,7 +19,8 @@ use Rattle.plan_kinds.specs.declared.Record.{Record}
 use Rattle.plan_data.specs.Nodes.{run_of, record_of_expr}
 use Rattle.plan_data.specs.declared.ExprData.TheVariants.{Binary, Nary}
 use Rattle.simplify_spec.specs.Shapes.{is_literal, nary_op_for}
-use Rattle.simplify_spec.specs.OneExpression.{handle, shape_in, kept, failed, add_record, add_node, add_nary, not_of, compare_of, enter_of, Operands, no_operands, joined_by}
+use Rattle.simplify_spec.specs.OneExpression.{handle, shape_in, kept, failed, add_record, add_node, add_nary, not_of, compare_of, enter_of}
+use Rattle.simplify_spec.specs.OneExpression.{Operands, no_operands, joined_by}
 use Rattle.simplify_spec.specs.OneExpression.{joined, operands_from, item_set, items_put, counted, with_items, room_for, rebuilt, nary_of}
 use Rattle.simplify_spec.specs.OneExpression.{simplify_at}
 use Rattle.simplify_spec.specs.declared.Tables.{Tables}
@@ -30,7 +31,8 @@ use Rattle.simplify_spec.proofs.StepLaws.{simplify_at_lem}
 use Rattle.simplify_expr.specs.declared.Became.{Became}
 use Rattle.simplify_expr.specs.declared.Became.TheVariants.{Same, Literal, One, Listed}
 use Rattle.simplify_expr.specs.declared.Tally.{Tally}
-use Rattle.simplify_expr.specs.Passage.{Passed, passed, refused, no_tally, next_tally, last_of, tallied, reserved, settled, with_operand, with_list, written, placed, closed}
+use Rattle.simplify_expr.specs.Passage.{Passed, passed, refused, no_tally, next_tally, last_of, tallied, reserved, settled, with_operand}
+use Rattle.simplify_expr.specs.Passage.{with_list, written, placed, closed}
 
 -- ---- one expression e, before h
 module _ (h e : ℕ) (st : Tables) (lt : e < h) where
@@ -127,16 +129,16 @@ place-one : (all : Bool) (t : Tally) (e v : ℕ) (neutral deciding : Bool) (q : 
 unfolding placed
 place-one all t e v neutral deciding q = go neutral q.ok
   where
-    to : Bool → Tally → Passed
-    to n x = settled all q.st x
+    end : Tally → Passed
+    end x = settled all q.st x
 
     go : (n ok : Bool)
-        → with_back n t.kept v (cond ok (written (settled all q.st (tallied (next_tally t e v n deciding) q)) (cond n t.kept (t.kept + 1)) q.kept) (refused q.st))
-        ≡ cond ok (written (settled all q.st (tallied t (joined_by n deciding e v q))) t.kept (cond n q.kept (v ∷ q.kept))) (refused q.st)
-    go true true = ap (λ (x : Tally). written (settled all q.st x) t.kept q.kept) (tally_one t e v true deciding q)
+        → with_back n t.kept v (cond ok (written (end (tallied (next_tally t e v n deciding) q)) (cond n t.kept (t.kept + 1)) q.kept) (refused q.st))
+        ≡ cond ok (written (end (tallied t (joined_by n deciding e v q))) t.kept (cond n q.kept (v ∷ q.kept))) (refused q.st)
+    go true true = ap (λ (x : Tally). written (end x) t.kept q.kept) (tally_one t e v true deciding q)
     go false true =
-        back_keep (settled all q.st (tallied (next_tally t e v false deciding) q)) t.kept v q.kept
-        ∙ ap (λ (x : Tally). written (settled all q.st x) t.kept (v ∷ q.kept)) (tally_one t e v false deciding q)
+        back_keep (end (tallied (next_tally t e v false deciding) q)) t.kept v q.kept
+        ∙ ap (λ (x : Tally). written (end x) t.kept (v ∷ q.kept)) (tally_one t e v false deciding q)
     go true false = refl
     go false false = refl
 

@@ -5,7 +5,8 @@ ghost use Rattle.std.specs.Prelude.{◌≡◌, true, false, ◌+◌, ◌<◌};
 ghost use Rattle.plan_data.specs.Nodes.{record_of_expr};
 ghost use Rattle.simplify_spec.specs.Shapes.{nary_op_for};
 ghost use Rattle.simplify_spec.specs.Answers.{simplified};
-ghost use Rattle.simplify_spec.specs.OneExpression.{shape_in, kept, add_record, add_node, add_literal, took, not_of, enter_of, operands_from, nary_of, simplify_at};
+ghost use Rattle.simplify_spec.specs.OneExpression.{shape_in, kept, add_record, add_node, add_literal, took, not_of};
+ghost use Rattle.simplify_spec.specs.OneExpression.{enter_of, operands_from, nary_of, simplify_at};
 ghost use Rattle.simplify_expr.specs.Passage.{next_tally, passed, settled, placed, with_operand, node_of};
 
 use plan::{AppendError, Expr};
@@ -170,10 +171,10 @@ fn nary_op_for(all: bool) -> NaryOp
     if all { NaryOp::And } else { NaryOp::Or }
 }
 
-// Simplifies the operand e of h. Handles fall on the way down.
-#[tactic(auto, using(simplify_spec::proofs::StepLaws::simplify_step), unfolding(simplify_spec::specs::OneExpression::not_of, simplify_spec::specs::OneExpression::compare_of))]
+// Simplifies the operand e of h, or the expression e of tables in which there are h. Handles fall on the way down.
+#[tactic(auto, using(simplify_spec::proofs::StepLaws::simplify_step))]
 #[cycle(simplify_expr)]
-fn simplify_expr(t: &mut Tables, e: u16, h: u16) -> Result<u16, AppendError>
+pub fn simplify_in(t: &mut Tables, e: u16, h: u16) -> Result<u16, AppendError>
     ensures { simplified t.new result ≡ enter_of simplify_at h true t.old e }
 {
     if h <= e {
@@ -182,12 +183,12 @@ fn simplify_expr(t: &mut Tables, e: u16, h: u16) -> Result<u16, AppendError>
     match shape_in(t, e) {
         Shape::Boolean(_) | Shape::Other => Ok(e),
         Shape::Not(x) => {
-            let i = simplify_expr(t, x.0, e)?;
+            let i = simplify_in(t, x.0, e)?;
             not_of(t, i, x.0, e)
         }
         Shape::Compare { op, left, right } => {
-            let l = simplify_expr(t, left.0, e)?;
-            let r = simplify_expr(t, right.0, e)?;
+            let l = simplify_in(t, left.0, e)?;
+            let r = simplify_in(t, right.0, e)?;
             if l == left.0 && r == right.0 {
                 return Ok(e);
             }
@@ -237,7 +238,7 @@ fn simplify_operands(
         return settle(t, all, tally);
     }
     let e = lists::at(&t.items.a, at, 0);
-    let v = simplify_expr(t, e, h)?;
+    let v = simplify_in(t, e, h)?;
     let shape = shape_in(t, v);
     let neutral = simplify_shape::is_literal(shape, all);
     let deciding = simplify_shape::is_literal(shape, !all);
@@ -258,11 +259,4 @@ fn put_operand(t: &mut Tables, became: Became, k: u16, v: u16)
         lists::put(&mut t.items.a, i, v);
         lists::put(&mut t.items.b, i, 0);
     }
-}
-
-// The expression e of tables in which there are n.
-pub fn simplify_in(t: &mut Tables, e: u16, n: u16) -> Result<u16, AppendError>
-    ensures { simplified t.new result ≡ enter_of simplify_at n true t.old e }
-{
-    simplify_expr(t, e, n)
 }

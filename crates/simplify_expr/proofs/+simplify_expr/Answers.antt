@@ -1,4 +1,5 @@
-use Rattle.simplify_expr.proofs.Runs.{simplified_err, passed_err, back-refused, compare-stays, compare-new, not_refused, compare_way, run_none, run_refused, run_some, nary_way}
+use Rattle.simplify_expr.proofs.Runs.{simplified_err, passed_err, not_refused, compare_way, compare-stays, compare-new}
+use Rattle.simplify_expr.proofs.Runs.{back-refused, run_none, run_refused, run_some, nary_way}
 use Rattle.simplify_spec.specs.OneExpression.{kept, failed, compare_of}
 use Rattle.std.proofs.Common.{Ok}
 use Rattle.simplify_expr.specs.Passage.{passed, refused, with_operand}
@@ -6,48 +7,48 @@ use mathlib.Core.Path.{◌∙◌, sym, refl}
 use mathlib.Core.Bool.{true, cond}
 use Rattle.simplify_expr.proofs.+simplify_expr.Goals as goal
 
-pub simplify_expr-returns-in_err-i-in-Not : goal.simplify_expr-returns-in_err-i-in-Not
-simplify_expr-returns-in_err-i-in-Not t c =
+pub simplify_in-returns-in_err-i-in-Not : goal.simplify_in-returns-in_err-i-in-Not
+simplify_in-returns-in_err-i-in-Not t c =
     let a = c.args in
     simplified_err _ _ c.from_residual.ensures.0
-    ∙ not_refused a.h a.e a.t.now c.if-h-e.false c.in-Not.x c.in-Not.ensures c.simplify_expr.new.t c.in_err-i-in-Not.ensures
+    ∙ not_refused a.h a.e a.t.now c.if-h-e.false c.in-Not.x c.in-Not.ensures c.simplify_in.new.t c.in_err-i-in-Not.ensures
 
-pub simplify_expr-returns-in_err-l-in-Compare : goal.simplify_expr-returns-in_err-l-in-Compare
+pub simplify_in-returns-in_err-l-in-Compare : goal.simplify_in-returns-in_err-l-in-Compare
 unfolding compare_of
-simplify_expr-returns-in_err-l-in-Compare t c =
+simplify_in-returns-in_err-l-in-Compare t c =
     let a = c.args in
-    let u = c.simplify_expr-in-Compare.new.t in
+    let u = c.simplify_in-in-Compare.new.t in
     simplified_err _ _ c.from_residual-in_err-l-in-Compare.ensures.0
     ∙ compare_way a.h a.e a.t.now c.if-h-e.false c.in-Compare.op c.in-Compare.left c.in-Compare.right c.in-Compare.ensures (failed u) (failed u)
     c.in_err-l-in-Compare.ensures refl
 
-pub simplify_expr-returns-in_err-r-in-Compare : goal.simplify_expr-returns-in_err-r-in-Compare
+pub simplify_in-returns-in_err-r-in-Compare : goal.simplify_in-returns-in_err-r-in-Compare
 unfolding compare_of
-simplify_expr-returns-in_err-r-in-Compare t c =
+simplify_in-returns-in_err-r-in-Compare t c =
     let a = c.args in
     simplified_err _ _ c.from_residual-in_err-r-in-Compare.ensures.0
     ∙ compare_way a.h a.e a.t.now c.if-h-e.false c.in-Compare.op c.in-Compare.left c.in-Compare.right c.in-Compare.ensures
-    (kept c.simplify_expr-in-Compare.new.t c.in_ok-l-in-Compare.l) (failed c.simplify_expr-in-Compare-2.new.t)
+    (kept c.simplify_in-in-Compare.new.t c.in_ok-l-in-Compare.l) (failed c.simplify_in-in-Compare-2.new.t)
     c.in_ok-l-in-Compare.ensures c.in_err-r-in-Compare.ensures
 
-pub simplify_expr-returns-then-r-right : goal.simplify_expr-returns-then-r-right
-simplify_expr-returns-then-r-right t c =
+pub simplify_in-returns-then-r-right : goal.simplify_in-returns-then-r-right
+simplify_in-returns-then-r-right t c =
     let a = c.args in
-    let v = c.simplify_expr-in-Compare-2.new.t in
+    let v = c.simplify_in-in-Compare-2.new.t in
     compare-stays a.e c.in-Compare.op c.in-Compare.left.0 c.in-Compare.right.0 v c.in_ok-l-in-Compare.l c.in_ok-r-in-Compare.r c.if-l-left.true
     c.if-r-right.true
     ∙ compare_way a.h a.e a.t.now c.if-h-e.false c.in-Compare.op c.in-Compare.left c.in-Compare.right c.in-Compare.ensures
-    (kept c.simplify_expr-in-Compare.new.t c.in_ok-l-in-Compare.l) (kept v c.in_ok-r-in-Compare.r)
+    (kept c.simplify_in-in-Compare.new.t c.in_ok-l-in-Compare.l) (kept v c.in_ok-r-in-Compare.r)
     c.in_ok-l-in-Compare.ensures c.in_ok-r-in-Compare.ensures
 
-pub simplify_expr-returns-else-l-left : goal.simplify_expr-returns-else-l-left
-simplify_expr-returns-else-l-left t c =
+pub simplify_in-returns-else-l-left : goal.simplify_in-returns-else-l-left
+simplify_in-returns-else-l-left t c =
     let a = c.args in
-    let v = c.simplify_expr-in-Compare-2.new.t in
+    let v = c.simplify_in-in-Compare-2.new.t in
     c.add_node.ensures
     ∙ compare-new a.e c.in-Compare.op c.in-Compare.left.0 c.in-Compare.right.0 v c.in_ok-l-in-Compare.l c.in_ok-r-in-Compare.r c.else-l-left.either
     ∙ compare_way a.h a.e a.t.now c.if-h-e.false c.in-Compare.op c.in-Compare.left c.in-Compare.right c.in-Compare.ensures
-    (kept c.simplify_expr-in-Compare.new.t c.in_ok-l-in-Compare.l) (kept v c.in_ok-r-in-Compare.r)
+    (kept c.simplify_in-in-Compare.new.t c.in_ok-l-in-Compare.l) (kept v c.in_ok-r-in-Compare.r)
     c.in_ok-l-in-Compare.ensures c.in_ok-r-in-Compare.ensures
 
 pub simplify_nary-returns-in_err-became : goal.simplify_nary-returns-in_err-became
@@ -72,14 +73,14 @@ pub simplify_operands-returns-in_err-v : goal.simplify_operands-returns-in_err-v
 simplify_operands-returns-in_err-v t c =
     let a = c.args in
     passed_err _ _ c.from_residual.ensures.0
-    ∙ run_refused a.all a.h a.t.now a.at a.left a.tally c.if-left-eq0.false c.at-e.result c.at-e.ensures c.simplify_expr.new.t c.in_err-v.ensures
+    ∙ run_refused a.all a.h a.t.now a.at a.left a.tally c.if-left-eq0.false c.at-e.result c.at-e.ensures c.simplify_in.new.t c.in_err-v.ensures
 
 pub simplify_operands-returns-in_err-became : goal.simplify_operands-returns-in_err-became
 simplify_operands-returns-in_err-became t c =
     let a = c.args in
     passed_err _ _ c.from_residual-in_err-became.ensures.0
     ∙ sym (back-refused c.is_literal-neutral.result a.tally.kept c.in_ok-v.v c.simplify_operands.new.t)
-    ∙ run_some a.all a.h a.t.now a.at a.left a.tally c.if-left-eq0.false c.at-e.result c.at-e.ensures c.simplify_expr.new.t c.in_ok-v.v c.in_ok-v.ensures
+    ∙ run_some a.all a.h a.t.now a.at a.left a.tally c.if-left-eq0.false c.at-e.result c.at-e.ensures c.simplify_in.new.t c.in_ok-v.v c.in_ok-v.ensures
     c.shape_in-shape.result c.shape_in-shape.ensures c.is_literal-neutral.result c.is_literal-deciding.result c.is_literal-neutral.ensures
     c.is_literal-deciding.ensures c.with-more.result c.with-more.ensures (refused c.simplify_operands.new.t) c.in_err-became.ensures
 
@@ -88,8 +89,12 @@ simplify_operands-returns-then-not-neutral t c =
     let a = c.args in
     let u = c.simplify_operands.new.t in
     let b = c.in_ok-became.became in
-    (λ i. record { st = (c.put_operand.ensures ∙ sym (λ j. cond (c.if-not-neutral.true j) u (with_operand b u a.tally.kept c.in_ok-v.v))) i; became = b; ok = true })
-    ∙ run_some a.all a.h a.t.now a.at a.left a.tally c.if-left-eq0.false c.at-e.result c.at-e.ensures c.simplify_expr.new.t c.in_ok-v.v c.in_ok-v.ensures
+    (λ i. record {
+      st = (c.put_operand.ensures ∙ sym (λ j. cond (c.if-not-neutral.true j) u (with_operand b u a.tally.kept c.in_ok-v.v))) i;
+      became = b;
+      ok = true;
+    })
+    ∙ run_some a.all a.h a.t.now a.at a.left a.tally c.if-left-eq0.false c.at-e.result c.at-e.ensures c.simplify_in.new.t c.in_ok-v.v c.in_ok-v.ensures
     c.shape_in-shape.result c.shape_in-shape.ensures c.is_literal-neutral.result c.is_literal-deciding.result c.is_literal-neutral.ensures
     c.is_literal-deciding.ensures c.with-more.result c.with-more.ensures (passed u (Ok b)) c.in_ok-became.ensures
 
@@ -99,6 +104,6 @@ simplify_operands-returns-else-not-neutral t c =
     let u = c.simplify_operands.new.t in
     let b = c.in_ok-became.became in
     (λ i. record { st = sym (λ j. cond (c.if-not-neutral.false j) u (with_operand b u a.tally.kept c.in_ok-v.v)) i; became = b; ok = true })
-    ∙ run_some a.all a.h a.t.now a.at a.left a.tally c.if-left-eq0.false c.at-e.result c.at-e.ensures c.simplify_expr.new.t c.in_ok-v.v c.in_ok-v.ensures
+    ∙ run_some a.all a.h a.t.now a.at a.left a.tally c.if-left-eq0.false c.at-e.result c.at-e.ensures c.simplify_in.new.t c.in_ok-v.v c.in_ok-v.ensures
     c.shape_in-shape.result c.shape_in-shape.ensures c.is_literal-neutral.result c.is_literal-deciding.result c.is_literal-neutral.ensures
     c.is_literal-deciding.ensures c.with-more.result c.with-more.ensures (passed u (Ok b)) c.in_ok-became.ensures

@@ -2,8 +2,8 @@
 use Prim.Native.Nat.{◌+◌, ◌*◌}
 use Rattle.simplify_expr.proofs.+simplify_expr.Given as goal
 
-abbrev pub decreases-simplify_expr : goal.decreases-simplify_expr
-decreases-simplify_expr l = l.h * 1048576
+abbrev pub decreases-simplify_in : goal.decreases-simplify_in
+decreases-simplify_in l = l.h * 1048576
 
 abbrev pub decreases-simplify_nary : goal.decreases-simplify_nary
 decreases-simplify_nary l = l.h * 1048576 + 65536
