@@ -245,11 +245,13 @@ module _ (all : Bool) (h : ℕ) (st : Tables) where
       let z : 0 + length (x ∷ y ∷ l) ≡ length (x ∷ y ∷ l) = omega arith in
       rw (z, ne_eqb (length (x ∷ y ∷ l)) 0 (omega arith), ne_eqb (length (x ∷ y ∷ l)) 1 (omega arith)) (nary_more x y l)
 
-pub nary_way : (all : Bool) (h : ℕ) (st : Tables) (p start m : ℕ) → p ≡ start → (t : Tally) → t ≡ no_tally
+pub nary_way : (all : Bool) (h : ℕ) (st : Tables) (p start m : ℕ) → p ≡ start
+    → (t : Tally) → (t.kept ≡ 0) × ((t.last ≡ 0) × ((t.dirty ≡ false) × (t.absorbed ≡ false)))
     → (o : Passed) → o ≡ placed all t (operands_from simplify_at all h true st p m)
     → closed all h o ≡ nary_of all h (operands_from simplify_at all h true st start m)
 unfolding placed
-nary_way all h st p start m ep t et o eo =
+nary_way all h st p start m ep t (ek, (el, (ed, ea))) o eo =
     let q : Operands = operands_from simplify_at all h true st start m in
-    ap (closed all h) (eo ∙ (λ i. placed all (et i) (operands_from simplify_at all h true st (ep i) m)))
+    let none : t ≡ no_tally = λ i. record { kept = ek i; last = el i; dirty = ed i; absorbed = ea i } in
+    ap (closed all h) (eo ∙ (λ i. placed all (none i) (operands_from simplify_at all h true st (ep i) m)))
     ∙ nary_ways all h q.st q.ok q.absorbed q.dirty q.kept

@@ -9,13 +9,13 @@ ghost use Rattle.simplify_spec.specs.OneExpression.{shape_in, kept, add_record, 
 ghost use Rattle.simplify_spec.specs.OneExpression.{enter_of, operands_from, nary_of, simplify_at};
 ghost use Rattle.simplify_expr.specs.Passage.{next_tally, passed, settled, placed, with_operand, node_of};
 
-use plan::{AppendError, Expr};
+use plan::{AppendError, Expr, Plan};
 use plan_data::{ExprData, NaryOp, Run, UnaryOp};
 use scalar::ScalarValue;
 use simplify_spec::{Shape, Tables};
 
 // The operands of an And or Or that are done: how many are kept, the last of those, whether one was dropped or changed, whether one decides.
-#[derive(Clone, Copy)]
+#[derive(Clone, Copy, Default)]
 struct Tally {
     kept: u16,
     last: u16,
@@ -85,30 +85,18 @@ fn not_of(t: &mut Tables, i: u16, e: u16, h: u16) -> Result<u16, AppendError>
 }
 
 impl Tally {
-    fn empty() -> Tally
-        ensures { result ≡ record { kept = 0; last = 0; dirty = false; absorbed = false } }
-    {
-        Tally {
-            kept: 0,
-            last: 0,
-            dirty: false,
-            absorbed: false,
-        }
-    }
-
     // One operand more: e, which became v.
-    fn with(self, e: u16, v: u16, neutral: bool, deciding: bool) -> Tally
+    fn with(mut self, e: u16, v: u16, neutral: bool, deciding: bool) -> Tally
         requires { self.kept < 65535 }
         ensures { result ≡ next_tally self e v neutral deciding }
     {
-        let mut t = self;
-        t.absorbed |= deciding;
-        t.dirty |= neutral | (v != e);
+        self.absorbed |= deciding;
+        self.dirty |= neutral || v != e;
         if !neutral {
-            t.kept += 1;
-            t.last = v;
+            self.kept += 1;
+            self.last = v;
         }
-        t
+        self
     }
 }
 
@@ -128,7 +116,7 @@ fn settle(t: &mut Tables, all: bool, tally: Tally) -> Result<Became, AppendError
         1 => Ok(Became::One(tally.last)),
         count => {
             let start = t.items.count;
-            if 2048 < usize::from(start) + usize::from(count) {
+            if usize::from(Plan::ITEMS) < usize::from(start) + usize::from(count) {
                 return Err(AppendError::Room);
             }
             t.items.count += count;
@@ -217,7 +205,7 @@ fn simplify_nary(
 ) -> Result<u16, AppendError>
     ensures { simplified t.new result ≡ nary_of all h (operands_from simplify_at all h true t.old start count) }
 {
-    let became = simplify_operands(t, h, all, usize::from(start), count, Tally::empty())?;
+    let became = simplify_operands(t, h, all, usize::from(start), count, Tally::default())?;
     node_of(t, h, all, became)
 }
 

@@ -55,14 +55,14 @@ pub simplify_nary-returns-in_err-became : goal.simplify_nary-returns-in_err-beca
 simplify_nary-returns-in_err-became t c =
     let a = c.args in
     simplified_err _ _ c.from_residual.ensures.0
-    ∙ nary_way a.all a.h a.t.now c.from.result a.start a.count c.from.ensures c.empty.result c.empty.ensures
+    ∙ nary_way a.all a.h a.t.now c.from.result a.start a.count c.from.ensures c.default.result c.default.ensures
     (refused c.simplify_operands.new.t) c.in_err-became.ensures
 
 pub simplify_nary-returns : goal.simplify_nary-returns
 simplify_nary-returns t c =
     let a = c.args in
     c.node_of.ensures
-    ∙ nary_way a.all a.h a.t.now c.from.result a.start a.count c.from.ensures c.empty.result c.empty.ensures
+    ∙ nary_way a.all a.h a.t.now c.from.result a.start a.count c.from.ensures c.default.result c.default.ensures
     (record { st = c.simplify_operands.new.t; became = c.in_ok-became.became; ok = true }) c.in_ok-became.ensures
 
 pub simplify_operands-returns-then-left-eq0 : goal.simplify_operands-returns-then-left-eq0
