@@ -30,14 +30,6 @@ truth_bare (S.Date32 n) = refl
 pub same_truth : (v w : ScalarValue) → Alike v w → truth_of v ≡ truth_of w
 same_truth v w e = sym (truth_bare v) ∙ ap truth_of e ∙ truth_bare w
 
-null-bare : (v : ScalarValue) → is_null (bare v) ≡ is_null v
-null-bare (S.Null k) = refl
-null-bare (S.Boolean b) = refl
-null-bare (S.Int32 n) = refl
-null-bare (S.Int64 n) = refl
-null-bare (S.Float64 x) = refl
-null-bare (S.Date32 n) = refl
-
 -- a NULL's kind does not matter to a comparison
 right-bare : (op : BinaryOp) (v w : ScalarValue) → compare_of op v (bare w) ≡ compare_of op v w
 unfolding compare_of
