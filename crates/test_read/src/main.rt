@@ -5,98 +5,77 @@
 use plan::Plan;
 use plan_file::ReadError;
 use plan_kinds::Record;
+use std::io;
 
-fn number(n: u64) {
-    io::print_decimal(1, n);
-    io::write_all(1, b" ");
+fn refusal_line(rt: &impl Print, e: ReadError) -> io::Result<()> {
+    match e {
+        ReadError::Short(at) => print!(rt; "1 {at} "),
+        ReadError::Unknown(at) => print!(rt; "2 {at} "),
+        ReadError::Room(at) => print!(rt; "3 {at} "),
+        ReadError::Handle(at) => print!(rt; "4 {at} "),
+        ReadError::ScannedTwice(at) => print!(rt; "5 {at} "),
+    }
 }
 
-fn end_line() {
-    io::write_all(1, b"\n");
+fn record_line(rt: &impl Print, x: Record, start: u16) -> io::Result<()> {
+    let Record {
+        kind,
+        code,
+        a,
+        b,
+        c,
+        d,
+        bits,
+    } = x;
+    println!(rt; "{kind} {code} {a} {b} {c} {d} {bits} {start} ")
 }
 
-fn refused(e: ReadError) {
-    let (refusal, at) = match e {
-        ReadError::Short(at) => (1, at),
-        ReadError::Unknown(at) => (2, at),
-        ReadError::Room(at) => (3, at),
-        ReadError::Handle(at) => (4, at),
-        ReadError::ScannedTwice(at) => (5, at),
-    };
-    number(refusal);
-    number(at as u64);
-}
-
-fn record_line(x: Record, start: u16) {
-    number(u64::from(x.kind));
-    number(u64::from(x.code));
-    number(u64::from(x.a));
-    number(u64::from(x.b));
-    number(u64::from(x.c));
-    number(u64::from(x.d));
-    number(x.bits);
-    number(u64::from(start));
-    end_line();
-}
-
-fn tables(p: &Plan) {
-    number(u64::from(p.columns.count));
-    number(u64::from(p.expressions.count));
-    number(u64::from(p.operators.count));
-    number(u64::from(p.items.count));
-    end_line();
+fn tables(rt: &impl Print, p: &Plan) -> io::Result<()> {
+    println!(rt;
+        "{} {} {} {} ",
+        p.columns.count, p.expressions.count, p.operators.count, p.items.count
+    )?;
     for i in 0..usize::from(p.columns.count) {
         let x = p.columns.record(i);
-        number(u64::from(x.a));
-        number(u64::from(x.code));
-        end_line();
+        println!(rt; "{} {} ", x.a, x.code)?;
     }
     for i in 0..usize::from(p.expressions.count) {
-        record_line(p.expressions.record(i), p.expressions.start(i));
+        record_line(rt, p.expressions.record(i), p.expressions.start(i))?;
     }
     for i in 0..usize::from(p.operators.count) {
-        record_line(p.operators.record(i), p.operators.start(i));
+        record_line(rt, p.operators.record(i), p.operators.start(i))?;
     }
     for i in 0..usize::from(p.items.count) {
         let x = p.items.record(i);
-        number(u64::from(x.a));
-        number(u64::from(x.b));
-        end_line();
+        println!(rt; "{} {} ", x.a, x.b)?;
     }
+    Ok(())
 }
 
-fn one(s: &[u8]) {
+fn one(rt: &impl Print, s: &[u8]) -> io::Result<()> {
     match plan_file::read(s) {
         Ok(p) => {
-            number(0);
-            number(0);
-            tables(&p);
+            print!(rt; "0 0 ")?;
+            tables(rt, &p)
         }
         Err(e) => {
-            refused(e);
-            tables(&Plan::empty());
+            refusal_line(rt, e)?;
+            tables(rt, &Plan::empty())
         }
     }
 }
 
-// The next file, if there is a whole one.
-fn next() -> bool {
+// More files than any input of the tests has.
+const FILES: u32 = 1000000;
+
+fn main(rt: HostRuntime) -> io::Result<()> {
     let mut head = [0; 4];
     let mut room = [0; 24576];
-    match test_input::next(&mut head, 0, &mut room) {
-        Some(body) => {
-            one(body);
-            true
-        }
-        None => false,
+    for _ in 0..FILES {
+        let Some(s) = test_input::next(&mut head, 0, &mut room) else {
+            break;
+        };
+        one(&rt, s)?;
     }
-}
-
-// The bound stands in for the end of the input, which no contract speaks of.
-fn main() {
-    for _ in 0..1000000 {
-        if !next() {
-            return;
-        }
-    }
+    Ok(())
 }
