@@ -21,12 +21,12 @@ use Rattle.constraint_spec.specs.declared.Entry as En
 use Rattle.constraint_spec.specs.declared.ConstraintSet.{ConstraintSet}
 use Rattle.constraint_set.proofs.Passes.{or_keeps}
 use Rattle.constraint_normal.specs.Ready.{Ready}
-use Rattle.apply_action.specs.Actions.{first_of, Proper}
+use Rattle.apply_action.specs.Actions.{first_of, recorded_in, Proper}
 use Rattle.apply_action.specs.Cells.{cell_of, with_cell, flagged_cell, literal_cell, cell_after}
 use Rattle.apply_action.specs.declared.Action.{Action}
 use Rattle.apply_action.specs.declared.Action.TheVariants.{Literal}
 use Rattle.apply_action.specs.declared.Cell.{Cell}
-use Rattle.apply_action.proofs.CellLaws.{recorded_in, cell-flagged}
+use Rattle.apply_action.proofs.CellLaws.{cell-flagged}
 use Rattle.apply_shared_laws.proofs.CellTwice.{Told}
 use Rattle.apply_shared_laws.proofs.Recording.{recorded-is, recorded-told}
 use Rattle.apply_shared_laws.proofs.SameLiterals.{laid_cell, crossed-same, cell-passes}

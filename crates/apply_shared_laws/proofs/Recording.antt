@@ -15,11 +15,11 @@ use Rattle.constraint_spec.specs.declared.Entry as En
 use Rattle.constraint_set.specs.Settled.{range_on, range_bad, Settled}
 use Rattle.constraint_set.proofs.Checking.{crossed-flagged}
 use Rattle.constraint_normal.specs.Ready.{Bounded, Ready}
-use Rattle.apply_action.specs.Actions.{first_of, Proper}
+use Rattle.apply_action.specs.Actions.{first_of, recorded_in, Proper}
 use Rattle.apply_action.specs.Cells.{cell_of, with_cell, cell_after}
 use Rattle.apply_action.specs.declared.Action.{Action}
 use Rattle.apply_action.specs.declared.Cell.{Cell}
-use Rattle.apply_action.proofs.CellLaws.{recorded_in, written_is, first-low, cell_same}
+use Rattle.apply_action.proofs.CellLaws.{written_is, first-low, cell_same}
 use Rattle.apply_action.proofs.Settles.{recorded-settled}
 use Rattle.apply_shared_laws.specs.Has.{Numbered, HasCell}
 use Rattle.apply_shared_laws.proofs.Growing.{Grows, grows-flag, grows-after, bounded-after}
