@@ -1,4 +1,4 @@
 pub mod Collecting
+pub mod Starting
 pub mod Walking
-pub mod Handing
 pub mod Answering

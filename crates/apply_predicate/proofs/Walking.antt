@@ -1,89 +1,97 @@
 -- The conjuncts of a walk applied as they are found, from its start to its end. Assumes nothing.
-use Prim.Native.Nat.{ℕ, suc, ◌<◌}
-use mathlib.Core.Path.{◌≡◌, refl, sym, ap, subst, ◌∙◌}
-use mathlib.Core.Bool.{Bool, true, false, not, ◌&&◌}
-use mathlib.Core.List.{List, [], ◌++◌}
+use Rattle.std.proofs.Common.{Ok, Err, Result}
+use Prim.Native.Nat.{ℕ, suc, ◌<◌, ◌≤◌}
+use mathlib.Core.Path.{◌≡◌, refl, sym, ap, ◌∙◌}
+use mathlib.Core.Bool.{Bool, true, false, cond}
+use mathlib.Core.List.{List, [], ◌∷◌, ◌++◌, append-nil}
 use native.Mathlib.Omega.{arith}
-use lib.Dec.{ltb}
-use lib.ListN.{length}
-use borrow.Author.Tests.{ltb-true, ltb-false, not-true}
-use Rattle.constraint_spec.specs.Sets.{applied_of, done}
-use Rattle.laws.proofs.Bools.{and_left, and_right}
+use Rattle.constraint_spec.specs.Answers.{Applied, applied, is_refused}
+use Rattle.constraint_spec.specs.Sets.{done}
+use Rattle.constraint_spec.specs.declared.ConstraintError.{ConstraintError}
 use Rattle.constraint_spec.specs.declared.ConstraintSet.{ConstraintSet}
-use Rattle.constraint_spec.specs.Answers.{Applied}
-use Rattle.plan_data.specs.Nodes.{node_of}
+use Rattle.constraint_normal.specs.Ready.{Ready}
+use Rattle.plan.specs.declared.Expressions.{Expressions}
+use Rattle.plan_data.specs.Nodes.{node_from}
 use Rattle.plan_data.specs.declared.ExprData.{ExprData}
 use Rattle.apply_spec.specs.Conjuncts.{conjuncts_to, conjuncts_of}
 use Rattle.apply_spec.specs.Apply.{conjunct_applied, all_applied}
 use Rattle.apply_spec.proofs.Readings.{conjuncts_at}
 use Rattle.apply_spec.proofs.Applications.{refused-stays}
-use Rattle.apply_walk.specs.Walks.{is_and, empty_walk, entered}
+use Rattle.apply_walk.specs.Walks.{and_in}
 use Rattle.apply_walk.specs.declared.Walk.{Walk}
 use Rattle.apply_walk.proofs.Entries.{other-entry}
-use Rattle.apply_walk.proofs.Rests.{rest_of, Good}
-use Rattle.apply_walk.proofs.Stepping.{nothing_left, and-within, start-good, start-rest}
-use Rattle.apply_conjuncts.proofs.Applying.{applied_append}
+use Rattle.apply_walk.specs.Rests.{rest_of}
+use Rattle.apply_walk.proofs.Stepping.{nothing_left}
+use Rattle.apply_shared.specs.Thinned.{Thinned}
+use Rattle.apply_shared_laws.specs.Given.{or_given}
+use Rattle.apply_shared_laws.proofs.EndsEnough.{ends_are_enough}
 
-module _ (apply : ConstraintSet → ℕ → Applied) where
-  accepted : (a : Applied) → a.refused ≡ false → a ≡ done a.constraints
-  accepted a e = λ i. applied_of a.constraints (e i)
-
-  -- some conjuncts more
-  pub some_more : (rest hs rest2 : List ℕ) (a next : Applied) → a.refused ≡ false → rest ≡ hs ++ rest2 → next ≡ all_applied apply hs (done a.constraints)
-      → all_applied apply rest a ≡ all_applied apply rest2 next
-  some_more rest hs rest2 a next go e en =
-      ap (λ (l : List ℕ). all_applied apply l a) e
-      ∙ applied_append apply hs rest2 a
-      ∙ ap (λ (x : Applied). all_applied apply rest2 (all_applied apply hs x)) (accepted a go)
-      ∙ ap (all_applied apply rest2) (sym en)
-
-  -- the walk is done, or there was a refusal
-  pub walk_ends : (rest : List ℕ) (d : ℕ) (a : Applied) → (ltb 0 d && not a.refused) ≡ false → (d ≡ 0 → rest ≡ []) → all_applied apply rest a ≡ a
-  unfolding all_applied
-  walk_ends rest d a e none = go (ltb 0 d) a.refused refl refl e
-    where
-      go : (t r : Bool) → ltb 0 d ≡ t → a.refused ≡ r → (t && not r) ≡ false → all_applied apply rest a ≡ a
-      go false r p q f = let z : d ≡ 0 = omega (arith, ltb-false 0 d p) in rw (none z)
-      go true true p q f = refused-stays apply rest a q
-      go true false p q f = cc
-
--- the test of the loop
-pub walk_some : (d : ℕ) (refused : Bool) → (ltb 0 d && not refused) ≡ true → 0 < d
-walk_some d refused e = ltb-true 0 d (and_left (ltb 0 d) (not refused) e)
-
-pub walk_accepted : (d : ℕ) (refused : Bool) → (ltb 0 d && not refused) ≡ true → refused ≡ false
-walk_accepted d refused e = not-true refused (and_right (ltb 0 d) (not refused) e)
-
-module _ (kind code a b bits start items lineage : List ℕ) (long : length items ≡ 2048) where
+module _ (t : Expressions) (items lineage : List ℕ) where
   abbrev node : ℕ → ExprData
-  node = node_of kind code a b bits start
+  node = node_from t
 
   abbrev conjunct : ConstraintSet → ℕ → Applied
   conjunct = conjunct_applied lineage node
 
-  pub walk_done : (w v : Walk) (x y : Applied) → (ltb 0 v.depth && not x.refused) ≡ false
-      → all_applied conjunct (rest_of node items w) y ≡ all_applied conjunct (rest_of node items v) x → x ≡ all_applied conjunct (rest_of node items w) y
-  walk_done w v x y ended inv = sym (walk_ends conjunct (rest_of node items v) v.depth x ended (nothing_left kind code a b bits start items long v)) ∙ sym inv
+  abbrev rest : Walk → List ℕ
+  rest = rest_of node items
 
-  -- ---- the start: the walk over an And's operands has its conjuncts to come
-  module _ (short : length kind ≡ 1024) (e : ℕ) (y : is_and kind code e ≡ true) (v w : Walk) (p : v ≡ empty_walk) (q : w ≡ entered a start v e) where
-    same_start : w ≡ entered a start empty_walk e
-    same_start = q ∙ ap (λ (u : Walk). entered a start u e) p
+  abbrev whole : ℕ → List ℕ
+  whole e = conjuncts_of node items e
 
-    pub start_ready : Good w
-    start_ready = subst Good (sym same_start) (start-good kind code a b bits start items long e (and-within kind code a b bits start items long short e y))
+  -- the conjuncts of two lists, one after the other
+  after : (xs ys : List ℕ) (a : Applied) → all_applied conjunct (xs ++ ys) a ≡ all_applied conjunct ys (all_applied conjunct xs a)
+  unfolding all_applied
+  after [] ys a = refl
+  after (h ∷ hs) ys a = after hs ys (cond a.refused a (conjunct a.constraints h))
 
-    pub start-whole : rest_of node items w ≡ conjuncts_of node items e
-    start-whole =
-        ap (rest_of node items) same_start ∙ sym (start-rest kind code a b bits start items long e (and-within kind code a b bits start items long short e y) y)
+  -- ---- a loop over a walk, by what it has of the whole list hs so far
+  abbrev pub Left : List ℕ → ConstraintSet → Walk → ConstraintSet → Type 0
+  Left hs s w q = all_applied conjunct hs (done s) ≡ all_applied conjunct (rest w) (done q)
 
--- an expression that is no And is its own conjunct
-pub alone-applied : (kind code a b bits start items lineage : List ℕ) (e : ℕ) → is_and kind code e ≡ false → (s : ConstraintSet)
-    → conjunct_applied lineage (node_of kind code a b bits start) s e
-    ≡ all_applied (conjunct_applied lineage (node_of kind code a b bits start)) (conjuncts_of (node_of kind code a b bits start) items e) (done s)
-unfolding all_applied
-alone-applied kind code a b bits start items lineage e f s =
-    sym
-    (ap (λ (l : List ℕ). all_applied (conjunct_applied lineage (node_of kind code a b bits start)) l (done s))
-    (conjuncts_at (node_of kind code a b bits start) items (suc e) e (omega arith)
-    ∙ other-entry (conjuncts_to (node_of kind code a b bits start) items e) items e kind code a b bits start f))
+  module _ {hs : List ℕ} {s : ConstraintSet} {w v : Walk} {q z : ConstraintSet} {found : List ℕ} (had : Left hs s w q) (some : rest w ≡ found ++ rest v) where
+    split : all_applied conjunct hs (done s) ≡ all_applied conjunct (rest v) (all_applied conjunct found (done q))
+    split = had ∙ ap (λ (l : List ℕ). all_applied conjunct l (done q)) some ∙ after found (rest v) (done q)
+
+    pub some_more : done z ≡ all_applied conjunct found (done q) → Left hs s v z
+    some_more e = split ∙ ap (all_applied conjunct (rest v)) (sym e)
+
+    pub refused_on : (a : Applied) → a.refused ≡ true → a ≡ all_applied conjunct found (done q) → a ≡ all_applied conjunct hs (done s)
+    refused_on a r e = sym (split ∙ ap (all_applied conjunct (rest v)) (sym e) ∙ refused-stays conjunct (rest v) a r)
+
+  pub walk_done : {hs : List ℕ} {s : ConstraintSet} {w : Walk} {q : ConstraintSet} → Left hs s w q → w.depth ≡ 0 → done q ≡ all_applied conjunct hs (done s)
+  unfolding all_applied
+  walk_done {w = w} {q = q} had e = sym (had ∙ ap (λ (l : List ℕ). all_applied conjunct l (done q)) (nothing_left t items w e))
+
+  -- an expression that is no And is its own conjunct
+  pub alone_applied : (e : ℕ) → and_in t e ≡ false → (s : ConstraintSet) → conjunct s e ≡ all_applied conjunct (whole e) (done s)
+  unfolding all_applied
+  alone_applied e f s =
+      sym
+      (ap (λ (l : List ℕ). all_applied conjunct l (done s))
+      (conjuncts_at node items (suc e) e (omega arith) ∙ other-entry (conjuncts_to node items e) items e t.kind t.code t.a t.b t.bits t.start f))
+
+  -- ---- what is given back, whichever way the conjuncts were applied
+  module _ (e : ℕ) (s : ConstraintSet) where
+    abbrev pub Handed : Applied → Type 0
+    Handed r = or_given s r ≡ or_given s (all_applied conjunct (whole e) (done s))
+
+    -- those that were found, where nothing is left of the walk
+    pub found_all : (w v : Walk) (hs : List ℕ) → rest w ≡ whole e → rest w ≡ hs ++ rest v → v.depth ≡ 0 → (r : Applied)
+        → r ≡ all_applied conjunct hs (done s) → Handed r
+    found_all w v hs all some none r er =
+        ap (or_given s)
+        (er
+        ∙ ap (λ (l : List ℕ). all_applied conjunct l (done s))
+        (sym (some ∙ ap (λ (l : List ℕ). hs ++ l) (nothing_left t items v none) ∙ append-nil hs) ∙ all))
+
+    -- all that a walk has to come
+    pub walked : (w : Walk) → rest w ≡ whole e → (r : Applied) → r ≡ all_applied conjunct (rest w) (done s) → Handed r
+    walked w all r er = ap (or_given s) (er ∙ ap (λ (l : List ℕ). all_applied conjunct l (done s)) all)
+
+    -- a ready set, and only some of the conjuncts that repeat left out
+    pub thinned_all : (ks : List ℕ) → Ready s → Thinned [] (whole e) ks → (r : Applied) → r ≡ all_applied conjunct ks (done s) → Handed r
+    thinned_all ks ready thin r er =
+        ap (or_given s) er ∙ sym (ends_are_enough lineage t.kind t.code t.a t.b t.bits t.start (whole e) ks s ready thin)
+
+pub ruleset walk_loop = (some_more, refused_on, walk_done)

@@ -1,283 +1,185 @@
 // Applying a predicate to facts, after the Rust's `apply_predicate`: its conjuncts are collected some at a time, or all of them without those that repeat,
-// and then applied to the set. A walk is 6 KB, so it is not handed on for a single conjunct.
+// and then applied to the set where it lies.
 #![tactic(auto)]
 
-ghost use Rattle.std.specs.Prelude.{◌≡◌, true, List, ◌++◌, ℕ, ◌<◌, ◌≤◌, length, take};
+ghost use Rattle.std.specs.Prelude.{◌≡◌, ◌++◌, ◌<◌, ◌≤◌, true, take};
+ghost use Rattle.constraint_spec.specs.Answers.{applied};
 ghost use Rattle.constraint_spec.specs.Sets.{done};
-ghost use Rattle.plan_data.specs.Nodes.{node_of};
+ghost use Rattle.plan_data.specs.Nodes.{node_from, node_at};
 ghost use Rattle.apply_spec.specs.Conjuncts.{conjuncts_of};
 ghost use Rattle.apply_spec.specs.Apply.{conjunct_applied, all_applied};
-ghost use Rattle.apply_spec.specs.Entries.{applied_to, apply_predicate};
-ghost use Rattle.apply_walk.specs.Walks.{is_and};
-ghost use Rattle.apply_walk.proofs.Rests.{Good, rest_of, steps_left};
+ghost use Rattle.apply_spec.specs.Entries.{predicate_applied, applied_to, apply_predicate};
+ghost use Rattle.apply_spec.specs.Told.{told};
+ghost use Rattle.apply_walk.specs.Walks.{and_in};
+ghost use Rattle.apply_walk.specs.Rests.{Good, rest_of, steps_left};
 ghost use Rattle.apply_shared_laws.specs.Given.{or_given};
 
-use apply_spec::{FactsAnswer, LogicalFacts};
+use apply_spec::{FactsError, LogicalFacts};
 use apply_walk::{Move, Walk};
-use constraint_spec::{Applied, ConstraintSet};
-use plan::{Expr, Plan};
+use constraint_spec::{ConstraintError, ConstraintSet};
+use plan::{Expr, Expressions, Items, Plan};
 
-// Conjuncts that a walk found in at most 1,024 turns, and what is left of it.
+const TURNS: usize = 1024;
+
+// The first `count` handles are the conjuncts that a walk found in at most 1,024 turns.
 #[derive(Clone, Copy)]
 struct Found {
-    walk: Walk,
-    handles: [u16; 2048],
+    handles: [u16; TURNS],
     count: usize,
 }
 
-// The walk goes on in its place until it ends or 1,024 turns are done: a walk is too big to be handed on for each conjunct, and Ands that hold nothing,
-// shared, could take any number of turns.
-fn next_conjuncts<'a>(
-    kind: &'a [u8],
-    code: &'a [u8],
-    a: &'a [u16],
-    start: &'a [u16],
-    items: &'a [u16],
-    w: Walk,
-) -> Found
-    requires len { length items.now ≡ 2048 }
-    requires good { Good w }
-    ensures good_2 { Good result.walk }
-    ensures count_bound { result.count ≤ 1024 }
-    ensures by_index { (b bits : List ℕ) → rest_of (node_of kind.now code.now a.now b bits start.now) items.now w
-        ≡ take result.count result.handles ++ rest_of (node_of kind.now code.now a.now b bits start.now)
-        items.now result.walk }
-    ensures walk_bound { 0 < w.depth → steps_left kind.now code.now a.now start.now items.now result.walk < steps_left
-        kind.now code.now a.now start.now items.now w }
+impl Found {
+    fn handles(&self) -> &[u16]
+        ensures { result.now ≡ take self.now.count self.now.handles }
+    {
+        &self.handles[..self.count.min(TURNS)]
+    }
+}
+
+// The walk goes on in its place until it ends or 1,024 turns are done: Ands that hold nothing, shared, could take any number of turns.
+fn next_conjuncts(exprs: &Expressions, items: &Items, walk: &mut Walk) -> Found
+    requires good { Good walk.old }
+    ensures good { Good walk.new }
+    ensures few { result.count ≤ 1024 }
+    ensures to_come { rest_of (node_from exprs.now) items.now.a walk.old
+        ≡ take result.count result.handles ++ rest_of (node_from exprs.now) items.now.a walk.new }
+    ensures less { 0 < walk.old.depth → steps_left exprs.now items.now.a walk.new < steps_left exprs.now items.now.a walk.old }
 {
-    let mut walk = w;
-    let mut handles = [0u16; 2048];
-    let mut count: usize = 0;
-    let mut turns: usize = 0;
-    while (0 < walk.depth) & (turns < 1024) {
-        turns += 1;
-        let depth = walk.depth;
-        let k = depth - 1;
-        let owner = walk.owner[k];
-        let at = walk.at[k];
-        let left = walk.left[k];
-        let turn = apply_walk::turn(kind, code, items, owner, at, left);
-        match turn {
-            Move::Pop => {
-                walk.depth = k;
-            }
-            Move::Skip => {
-                walk.at[k] = at + 1;
-                walk.left[k] = left - 1;
-            }
-            Move::Enter(e) => {
-                walk.at[k] = at + 1;
-                walk.left[k] = left - 1;
-                walk.owner[depth] = e;
-                walk.at[depth] = lists::at16(start, e as usize);
-                walk.left[depth] = lists::at16(a, e as usize);
-                walk.depth = depth + 1;
-            }
+    let mut found = Found {
+        handles: [0; TURNS],
+        count: 0,
+    };
+    for turn in 0..TURNS {
+        if walk.depth == 0 {
+            return found;
+        }
+        match walk.turn(exprs, items) {
+            Move::Pop | Move::Skip => {}
+            Move::Enter(e) => walk.enter(exprs, e),
             Move::Found(e) => {
-                walk.at[k] = at + 1;
-                walk.left[k] = left - 1;
-                handles[count] = e;
-                count += 1;
+                found.handles[found.count] = e;
+                found.count += 1;
             }
         }
     }
-    Found {
-        walk,
-        handles,
-        count,
-    }
+    found
+}
+
+// The walk over the operands of the And e.
+fn walk_of(exprs: &Expressions, items: &Items, e: u16) -> Walk
+    requires is_and { and_in exprs.now e ≡ true }
+    requires within { e < 1024 }
+    ensures good { Good result }
+    ensures whole { rest_of (node_from exprs.now) items.now.a result ≡ conjuncts_of (node_from exprs.now) items.now.a e }
+{
+    let mut walk = Walk::empty();
+    walk.enter(exprs, e);
+    walk
 }
 
 // What is to come in a walk.
-fn apply_walk<'a>(
-    kind: &'a [u8],
-    code: &'a [u8],
-    a: &'a [u16],
-    b: &'a [u16],
-    bits: &'a [u64],
-    start: &'a [u16],
-    items: &'a [u16],
-    lineage: &'a [u8],
-    w: Walk,
-    s: ConstraintSet,
-) -> Applied
-    requires len { length items.now ≡ 2048 }
-    requires good { Good w }
-    ensures { result ≡ all_applied
-        (conjunct_applied lineage.now (node_of kind.now code.now a.now b.now bits.now
-        start.now))
-        (rest_of (node_of kind.now code.now a.now b.now bits.now start.now)
-        items.now w) (done s) }
+#[tactic(auto, using(crate::proofs::Walking::walk_loop))]
+fn apply_walk(
+    exprs: &Expressions,
+    items: &Items,
+    lineage: &[u8; 64],
+    walk: &mut Walk,
+    s: &mut ConstraintSet,
+) -> Result<(), ConstraintError>
+    requires good { Good walk.old }
+    ensures { applied s.new result ≡ all_applied (conjunct_applied lineage.now (node_from exprs.now))
+        (rest_of (node_from exprs.now) items.now.a walk.old) (done s.old) }
 {
-    let mut walk = w;
-    let mut applied = Applied {
-        constraints: s,
-        refused: false,
-    };
-    while (0 < walk.depth) & !applied.refused {
-        let found = next_conjuncts(kind, code, a, start, items, walk);
-        let next = found.walk;
-        let handles = found.handles;
-        let t = applied.constraints;
-        walk = next;
-        applied = apply_conjuncts::apply_handles(
-            kind,
-            code,
-            a,
-            b,
-            bits,
-            start,
-            lineage,
-            t,
-            handles,
-            found.count,
-        );
+    while 0 < walk.depth {
+        let found = next_conjuncts(exprs, items, walk);
+        apply_conjuncts::apply_handles(exprs, lineage, s, found.handles())?;
     }
-    applied
+    Ok(())
 }
 
-// A refusal hands back the set that was given.
-fn given_back(s: ConstraintSet, a: Applied) -> Applied
-    ensures { result ≡ or_given s a }
-{
-    let refused = a.refused;
-    if refused {
-        return Applied {
-            constraints: s,
-            refused: true,
-        };
-    }
-    a
-}
-
-// An And whose walk takes more than 1,024 turns, all of them to come in w. Of 1,024 conjuncts or more some repeat, as no other than 1,023 expressions can be
-// among them; it may also be an And of few conjuncts, or none, that lie deep or are reached by many paths. In a ready set those between two of the same are
-// left out. A refusal may then leave another set, so the answer is only told up to what `given_back` hands on.
-fn apply_many<'a>(
-    kind: &'a [u8; 1024],
-    code: &'a [u8; 1024],
-    a: &'a [u16; 1024],
-    b: &'a [u16; 1024],
-    bits: &'a [u64; 1024],
-    start: &'a [u16; 1024],
-    items: &'a [u16; 2048],
-    lineage: &'a [u8; 64],
-    w: Walk,
-    s: ConstraintSet,
+// An And whose walk takes more than 1,024 turns. Of 1,024 conjuncts or more some repeat, as no other than 1,023 expressions can be among them; it
+// may also be an And of few conjuncts, or none, that lie deep or are reached by many paths. In a ready set those between two of the same are left
+// out. A refusal may then leave another set, so the answer is only told up to what is given back.
+fn apply_many(
+    exprs: &Expressions,
+    items: &Items,
+    lineage: &[u8; 64],
+    s: &mut ConstraintSet,
     e: u16,
-) -> Applied
-    requires good { Good w }
-    requires w_value { rest_of (node_of kind.now code.now a.now b.now bits.now start.now) items.now w ≡ conjuncts_of
-        (node_of kind.now code.now a.now b.now bits.now start.now) items.now e }
-    ensures { or_given s result ≡ or_given s
-        (all_applied
-        (conjunct_applied lineage.now (node_of kind.now code.now a.now b.now bits.now
-        start.now))
-        (conjuncts_of (node_of kind.now code.now a.now b.now bits.now start.now)
-        items.now e) (done s)) }
+) -> Result<(), ConstraintError>
+    requires is_and { and_in exprs.now e ≡ true }
+    requires within { e < 1024 }
+    ensures { or_given s.old (applied s.new result) ≡ or_given s.old
+        (all_applied (conjunct_applied lineage.now (node_from exprs.now)) (conjuncts_of (node_from exprs.now) items.now.a e) (done s.old)) }
 {
     if constraint_normal::is_ready(s) {
-        let t = apply_shared::thinned_conjuncts(kind, code, a, start, items, e);
-        if t.whole {
-            let handles = t.handles;
-            return apply_conjuncts::apply_handles(
-                kind, code, a, b, bits, start, lineage, s, handles, t.count,
-            );
+        if let Some(thin) = apply_shared::thinned_conjuncts(exprs, items, e) {
+            return apply_conjuncts::apply_handles(exprs, lineage, s, thin.kept());
         }
     }
-    apply_walk(kind, code, a, b, bits, start, items, lineage, w, s)
+    apply_walk(exprs, items, lineage, &mut walk_of(exprs, items, e), s)
 }
 
 // An And's conjuncts. Where the walk is short, nothing else is looked at.
-fn apply_and<'a>(
-    kind: &'a [u8; 1024],
-    code: &'a [u8; 1024],
-    a: &'a [u16; 1024],
-    b: &'a [u16; 1024],
-    bits: &'a [u64; 1024],
-    start: &'a [u16; 1024],
-    items: &'a [u16; 2048],
-    lineage: &'a [u8; 64],
-    s: ConstraintSet,
+fn apply_and(
+    exprs: &Expressions,
+    items: &Items,
+    lineage: &[u8; 64],
+    s: &mut ConstraintSet,
     e: u16,
-) -> Applied
-    requires { is_and kind.now code.now e ≡ true }
-    ensures { or_given s result ≡ or_given s
-        (all_applied
-        (conjunct_applied lineage.now (node_of kind.now code.now a.now b.now bits.now
-        start.now))
-        (conjuncts_of (node_of kind.now code.now a.now b.now bits.now start.now)
-        items.now e) (done s)) }
+) -> Result<(), ConstraintError>
+    requires is_and { and_in exprs.now e ≡ true }
+    requires within { e < 1024 }
+    ensures { or_given s.old (applied s.new result) ≡ or_given s.old
+        (all_applied (conjunct_applied lineage.now (node_from exprs.now)) (conjuncts_of (node_from exprs.now) items.now.a e) (done s.old)) }
 {
-    let w = apply_walk::enter(a, start, Walk::empty(), e);
-    let found = next_conjuncts(kind, code, a, start, items, w);
-    let left = found.walk.depth;
-    if left == 0 {
-        let handles = found.handles;
-        let count = found.count;
-        return apply_conjuncts::apply_handles(
-            kind, code, a, b, bits, start, lineage, s, handles, count,
-        );
+    let mut walk = walk_of(exprs, items, e);
+    let found = next_conjuncts(exprs, items, &mut walk);
+    if 0 < walk.depth {
+        apply_many(exprs, items, lineage, s, e)
+    } else {
+        apply_conjuncts::apply_handles(exprs, lineage, s, found.handles())
     }
-    apply_many(kind, code, a, b, bits, start, items, lineage, w, s, e)
 }
 
-// All conjuncts of the expression e.
-fn apply_to<'a>(
-    kind: &'a [u8; 1024],
-    code: &'a [u8; 1024],
-    a: &'a [u16; 1024],
-    b: &'a [u16; 1024],
-    bits: &'a [u64; 1024],
-    start: &'a [u16; 1024],
-    items: &'a [u16; 2048],
-    lineage: &'a [u8; 64],
-    s: ConstraintSet,
+// All conjuncts of the expression e. A refusal leaves the set as it was.
+fn apply_to(
+    exprs: &Expressions,
+    items: &Items,
+    lineage: &[u8; 64],
+    s: &mut ConstraintSet,
     e: u16,
-) -> Applied
-    ensures { result ≡ or_given s
-        (all_applied
-        (conjunct_applied lineage.now (node_of kind.now code.now a.now b.now bits.now
-        start.now))
-        (conjuncts_of (node_of kind.now code.now a.now b.now bits.now start.now)
-        items.now e) (done s)) }
+) -> Result<(), ConstraintError>
+    ensures { applied s.new result ≡ or_given s.old
+        (all_applied (conjunct_applied lineage.now (node_from exprs.now)) (conjuncts_of (node_from exprs.now) items.now.a e) (done s.old)) }
 {
-    if apply_walk::is_and(kind, code, e) {
-        let all = apply_and(kind, code, a, b, bits, start, items, lineage, s, e);
-        return given_back(s, all);
+    let given = *s;
+    let answer = if apply_walk::is_and(exprs, e) {
+        apply_and(exprs, items, lineage, s, e)
+    } else {
+        apply_conjuncts::apply_one(exprs, lineage, s, e)
+    };
+    if answer.is_err() {
+        *s = given;
     }
-    let one = apply_conjuncts::apply_one(kind, code, a, b, bits, start, lineage, s, e);
-    given_back(s, one)
+    answer
 }
 
-// All conjuncts of an expression of the plan, applied to facts that keep the rules of facts.
-pub fn apply_to_facts(p: Plan, f: LogicalFacts, e: Expr) -> FactsAnswer
-    ensures { result ≡ applied_to p f e }
+// All conjuncts of an expression of the plan, applied to facts that keep the rules of facts. A refusal leaves the facts as they were.
+pub fn apply_to_facts(p: &Plan, f: &mut LogicalFacts, e: Expr) -> Result<(), FactsError>
+    ensures { told f.new result ≡ applied_to p.now f.old e }
 {
-    let x = p.expressions;
-    let t = p.items;
-    let s = f.constraints;
-    let a = apply_to(
-        &x.kind, &x.code, &x.a, &x.b, &x.bits, &x.start, &t.a, &f.lineage, s, e.0,
-    );
-    logical_facts::answer(f, f, a)
+    apply_to(&p.expressions, &p.items, &f.lineage, &mut f.constraints, e.0)?;
+    Ok(())
 }
 
 // The same for a plan, a handle and facts from outside, which are tested first.
-pub fn apply_predicate(p: Plan, f: LogicalFacts, e: Expr) -> FactsAnswer
-    ensures { result ≡ apply_predicate p f e }
+#[tactic(auto, unfolding(apply_spec::specs::Entries::apply_predicate))]
+pub fn apply_predicate(p: &Plan, f: &mut LogicalFacts, e: Expr) -> Result<(), FactsError>
+    ensures { told f.new result ≡ apply_predicate p.now f.old e }
 {
-    let x = p.expressions;
-    let n = x.count;
-    let h = e.0;
-    if !plan_rules::plan_ok(p) {
-        return logical_facts::no_such(f);
-    }
-    if n <= h {
-        return logical_facts::no_such(f);
-    }
-    if !logical_facts::facts_ok(p, f) {
-        return logical_facts::no_such(f);
+    if !plan_rules::plan_ok(p) || p.expressions.count <= e.0 || !logical_facts::facts_ok(p, f) {
+        return Err(FactsError::NoSuch);
     }
     apply_to_facts(p, f, e)
 }
