@@ -6,7 +6,7 @@ ghost use Rattle.std.specs.Prelude.{◌≡◌, true, cond, ◌<◌, Some};
 ghost use Rattle.lists.specs.Ranges.{any_from};
 ghost use Rattle.value_classes.specs.Classes.{same_class};
 ghost use Rattle.constraint_spec.specs.Answers.{applied};
-ghost use Rattle.constraint_spec.specs.Sets.{held, set_ok, canonical_at, entry_of, clashes, range_in, lower_by, upper_by, tighten_by, outside, crossed};
+ghost use Rattle.constraint_spec.specs.Sets.{held, set_ok, canonical_at, entry_of, clashes, range_in, tighten_by, outside, crossed};
 ghost use Rattle.constraint_spec.specs.Sets.{crossed_at, cross_check, non_nulls_moved, literals_moved, ranges_moved, normalized, put_literal, lay_range, put_range};
 ghost use Rattle.constraint_spec.specs.Sets.{union_values, add_literal, bounds_by, merge_literals, add_residual};
 ghost use Rattle.constraint_set.specs.Checked.{Checked};
@@ -15,7 +15,7 @@ ghost use Rattle.constraint_set.specs.Settled.{null_on, literal_on, literal_bad,
 use comparison::BinaryOp;
 use constraint_spec::{ConstraintError, ConstraintSet, Entry, Holder};
 use scalar::ScalarValue;
-use value_range::{Bound, ValueRange};
+use value_range::ValueRange;
 
 // The literal and the range of two representatives that become one, and whether they contradict.
 #[derive(Clone, Copy)]
@@ -77,31 +77,18 @@ pub fn range_in(e: Entry) -> ValueRange
     }
 }
 
-fn lower_by(t: ValueRange, b: Bound) -> ValueRange
-    ensures { result ≡ lower_by t b }
-{
-    if b.present {
-        t.tighten_lower(b.value, b.inclusive)
-    } else {
-        t
-    }
-}
-
-fn upper_by(t: ValueRange, b: Bound) -> ValueRange
-    ensures { result ≡ upper_by t b }
-{
-    if b.present {
-        t.tighten_upper(b.value, b.inclusive)
-    } else {
-        t
-    }
-}
-
 // The range of an entry, or the one without bounds, with the bounds of another.
 pub fn tightened(e: Entry, new: ValueRange) -> ValueRange
     ensures { result ≡ tighten_by (range_in e) new }
 {
-    upper_by(lower_by(range_in(e), new.lower), new.upper)
+    let mut range = range_in(e);
+    if new.lower.present {
+        range = range.tighten_lower(new.lower.value, new.lower.inclusive);
+    }
+    if new.upper.present {
+        range = range.tighten_upper(new.upper.value, new.upper.inclusive);
+    }
+    range
 }
 
 pub fn entry_of(range: ValueRange) -> Entry
@@ -170,10 +157,14 @@ fn put_literal(s: &mut ConstraintSet, root: usize, literal: ScalarValue)
     requires { root < 128 }
     ensures { s.new ≡ put_literal s.old root literal }
 {
-    let old = s.literal_equalities[root];
-    let clash = literal_clashes(old, literal);
-    s.literal_equalities[root] = literal_kept(clash, old, literal);
-    s.contradictory |= clash;
+    if literal_clashes(s.literal_equalities[root], literal) {
+        s.contradictory = true;
+    } else {
+        s.literal_equalities[root] = Holder {
+            present: true,
+            value: literal,
+        };
+    }
 }
 
 #[tactic(auto, unfolding(constraint_spec::specs::Sets::lay_range))]
