@@ -1,9 +1,11 @@
 -- What the tests of a record leave. Assumes nothing.
-use Rattle.std.proofs.Common.{Ok, Err, Result}
+use Rattle.std.proofs.Common.{Ok, Err, Result, Option, List}
+use Rattle.std.proofs.lemmas.List.{map-set}
 use Prim.Native.Nat.{ℕ, ◌≤◌}
 use mathlib.Core.Path.{◌≡◌, refl, sym, ap}
 use mathlib.Core.Bool.{Bool, true, false, cond, ◌&&◌}
 use lib.Dec.{ltb, leb}
+use lib.ListN.{set}
 use native.Mathlib.Omega.{arith}
 use native.Mathlib.Decide.{dec_lt}
 use borrow.Author.Tests.{eq-eqb, le-ltb, leb-true}
@@ -11,7 +13,7 @@ use Rattle.plan_kinds.specs.Rows.{Row}
 use Rattle.plan_kinds.specs.declared.Record.{Record}
 use Rattle.plan_kinds.specs.Records.{code_ok, handles_ok}
 use Rattle.plan_file.specs.declared.Wanted.{Wanted}
-use Rattle.plan_file.specs.State.{State}
+use Rattle.plan_file.specs.State.{mark, marks, State}
 use Rattle.plan_file.specs.declared.ReadError.{ReadError}
 use Rattle.plan_file.specs.declared.ReadError.TheVariants.{Short, Unknown, Handle, ScannedTwice}
 use Rattle.plan_file.specs.Answers.{is_whole}
@@ -30,6 +32,13 @@ wanted_item r x w e k z =
     let g : (ltb 0 4 && ltb 4 4) ≡ true = rw e at h in
     let b : ◌≡◌ {A = ℕ} 0 1 = ap (λ (t : Bool). cond t 0 1) (sym g) in
     omega arith
+
+-- A column that is given to a Scan has that Scan's mark. Assumes nothing.
+pub marks_set : (scans : List (Option ℕ)) (i : ℕ) (v : Option ℕ) → marks (set scans i v) ≡ set (marks scans) i (mark v)
+marks_set scans i v = map-set mark scans i v
+
+-- what taking a record needs
+pub ruleset taking = (wanted_item, marks_set)
 
 -- A record that passes the tests but the last. Assumes nothing.
 pub record Passed (r : Row) (x : Record) (n : ℕ) (q : State) : Type 0 where

@@ -6,7 +6,7 @@ ghost use Rattle.plan_kinds.specs.Coding.{field_code, numbered};
 ghost use Rattle.plan.specs.Append.{appended};
 ghost use Rattle.plan_file.specs.Answer.{answer};
 ghost use Rattle.plan_file.specs.Bytes.{word_from, bits_from, record_from};
-ghost use Rattle.plan_file.specs.State.{state};
+ghost use Rattle.plan_file.specs.State.{mark, marks, state};
 ghost use Rattle.plan_file.specs.Steps.{kind_wanted, kind_ok, scanned_twice, fault_of, append_of, list_of, less_one};
 ghost use Rattle.plan_file.specs.Steps.{taken_by, record_step, done_at, is_done, step_of, start_state, read_of};
 
@@ -32,13 +32,13 @@ pub struct Wanted {
     pub scan: bool,
 }
 
-// What a reading knows between two records; public only for the theorems of the crates above. `scans` has for each column the Scan operator that
-// has it and one, 0 for none: with it the test for a second Scan takes one look.
+// What a reading knows between two records. `scans` has for each column the Scan operator that has it: with it the test for a second Scan takes one
+// look.
 #[derive(Clone, Copy)]
 struct Reader {
     at: usize,
     wanted: Wanted,
-    scans: [u16; 64],
+    scans: [Option<u16>; 64],
     plan: Plan,
 }
 
@@ -179,17 +179,24 @@ impl Reader {
                 more: 0,
                 scan: false,
             },
-            scans: [0; 64],
+            scans: [None; 64],
             plan: Plan::empty(),
         }
     }
 
+    // The last operator: where a Scan's columns are read, that is the Scan.
+    fn last_operator(&self) -> Option<u16>
+        ensures { mark result ≡ self.now.plan.operators.count }
+    {
+        self.plan.operators.count.checked_sub(1)
+    }
+
     // Whether the item is a column of a Scan, and another Scan has it.
     fn scanned_twice(&self, r: Row, x: Record) -> bool
-        ensures { result ≡ scanned_twice (numbered r) x self.now.wanted self.now.scans self.now.plan.operators.count }
+        ensures { result ≡ scanned_twice (numbered r) x self.now.wanted (marks self.now.scans) self.now.plan.operators.count }
     {
-        let by = lists::at(&self.scans, usize::from(x.a), 0);
-        r.sort == Sort::Items && self.wanted.scan && by != 0 && by != self.plan.operators.count
+        let by = lists::at(&self.scans, usize::from(x.a), None);
+        r.sort == Sort::Items && self.wanted.scan && by.is_some() && by != self.last_operator()
     }
 
     // The tests of a record of which n bytes are left, but the one for room, which appending makes.
@@ -221,7 +228,7 @@ impl Reader {
     }
 
     // The record is taken: what is wanted after it, and which Scan a column of a Scan's list belongs to.
-    #[tactic(auto, unfolding(crate::specs::Steps::wanted_after, crate::specs::Steps::scans_after), using(crate::proofs::RecordTests::wanted_item))]
+    #[tactic(auto, unfolding(crate::specs::Steps::wanted_after, crate::specs::Steps::scans_after), using(crate::proofs::RecordTests::taking))]
     fn take(&mut self, r: Row, x: Record)
         requires { (self.old.at + r.length < 18446744073709551616) × (kind_ok (numbered r) x self.old.wanted ≡ true) }
         ensures { state self.new (Ok tt) ≡ taken_by (state self.old (Ok tt)) (numbered r) x self.old.plan }
@@ -232,7 +239,8 @@ impl Reader {
             return;
         }
         if self.wanted.scan {
-            lists::put(&mut self.scans, usize::from(x.a), self.plan.operators.count);
+            let scan = self.last_operator();
+            lists::put(&mut self.scans, usize::from(x.a), scan);
         }
         self.wanted.less_one();
     }
