@@ -5,6 +5,7 @@
 use plan::{Operator, Plan};
 use plan_kinds::Record;
 use simplify_spec::{Rewrite, SimplifyError};
+use std::io;
 
 fn record(kind: u8, code: u8, a: u16, b: u16) -> Record {
     Record {
@@ -84,44 +85,28 @@ fn wide(n: u16) -> Plan {
     p
 }
 
-fn number(n: u16) {
-    io::write_all(1, b" ");
-    io::print_decimal(1, u64::from(n));
-}
-
-fn said(r: Result<Rewrite, SimplifyError>) {
+fn said(rt: &impl Print, r: Result<Rewrite, SimplifyError>) -> io::Result<()> {
     match r {
-        Ok(Rewrite::Keep) => {
-            io::write_all(1, b"keep");
-        }
-        Ok(Rewrite::Replace(o)) => {
-            io::write_all(1, b"replace");
-            number(o.0);
-        }
-        Err(SimplifyError::Room) => {
-            io::write_all(1, b"refused 3");
-        }
-        Err(SimplifyError::NoSuch) => {
-            io::write_all(1, b"refused 8");
-        }
+        Ok(Rewrite::Keep) => print!(rt; "keep"),
+        Ok(Rewrite::Replace(o)) => print!(rt; "replace {}", o.0),
+        Err(SimplifyError::Room) => print!(rt; "refused 3"),
+        Err(SimplifyError::NoSuch) => print!(rt; "refused 8"),
     }
 }
 
 // The answer for a Selection on the expression e, and how many expressions and items there are then.
-fn answer(mut p: Plan, e: u16) {
+fn answer(rt: &impl Print, mut p: Plan, e: u16) -> io::Result<()> {
     p.operators.push(record(0x31, 0, 0, 0), 0);
     p.operators.push(record(0x33, 0, e, 0), 0);
-    said(expr_simplify::simplify(&mut p, Operator(1)));
-    number(p.expressions.count);
-    number(p.items.count);
-    io::write_all(1, b"\n");
+    said(rt, expr_simplify::simplify(&mut p, Operator(1)))?;
+    println!(rt; " {} {}", p.expressions.count, p.items.count)
 }
 
-fn main() {
-    answer(nots(1023), 1023);
-    answer(nots(682), 682);
-    answer(ands(500), 500);
-    answer(ands(1023), 1023);
-    answer(changing_ands(500), 500);
-    answer(wide(2048), 1);
+fn main(rt: HostRuntime) -> io::Result<()> {
+    answer(&rt, nots(1023), 1023)?;
+    answer(&rt, nots(682), 682)?;
+    answer(&rt, ands(500), 500)?;
+    answer(&rt, ands(1023), 1023)?;
+    answer(&rt, changing_ands(500), 500)?;
+    answer(&rt, wide(2048), 1)
 }
