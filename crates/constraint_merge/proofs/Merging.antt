@@ -16,8 +16,10 @@ use Rattle.value_classes.specs.declared.Members.{Members}
 use Rattle.value_classes.proofs.MemberLaws.{first-at, next-at, first-at-least, first-at_most, first_member_lem, first_skips}
 use Rattle.value_classes.proofs.Unions.{left_out}
 use Rattle.constraint_spec.specs.Sets.{blank, non_nulls, non_null_at, literals, handles, canonical_at, with_non_nulls, lay_range}
-use Rattle.constraint_spec.specs.Sets.{put_non_null, merge_range, merge_non_null, flag_if, union_values, room_for, push_residual, add_residual, applied_of, done, refused_with, steps_to}
-use Rattle.constraint_spec.specs.Sets.{join_member, join_class, merge_residual, merge_residuals, merge_classes, merge_literals, merge_ranges, merge_non_nulls, merge_values}
+use Rattle.constraint_spec.specs.Sets.{put_non_null, merge_range, merge_non_null, flag_if, union_values, room_for}
+use Rattle.constraint_spec.specs.Sets.{push_residual, add_residual, applied_of, done, refused_with, steps_to}
+use Rattle.constraint_spec.specs.Sets.{join_member, join_class, merge_residual, merge_residuals, merge_classes, merge_literals, merge_ranges}
+use Rattle.constraint_spec.specs.Sets.{merge_non_nulls, merge_values}
 use Rattle.constraint_spec.specs.Sets.{normalized, merged_set, room_to, merge_room, merge_from}
 use Rattle.constraint_spec.specs.declared.Entry.{Entry}
 use Rattle.constraint_spec.specs.declared.ConstraintSet.{ConstraintSet}

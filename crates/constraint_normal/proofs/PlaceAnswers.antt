@@ -51,4 +51,5 @@ pub read-ready : (s : ConstraintSet) (i : ℕ) → Whole (classes_of s) → leng
     → classes_ok (classes_of s) ≡ true → all_from (ready_at s) 0 128 ≡ all_from (ready_at s) i (128 - i) → ((k : ℕ) → k < i → HeldAt s k)
     → 128 ≤ i → Ready s
 read-ready s i many nulls room ok v at h =
-    ready_set s (all-held s many nulls room (λ k l. at k (omega arith))) (unfold ready_of in and_both (classes_ok (classes_of s)) _ ok (v ∙ all_done (ready_at s) i 128 h))
+    ready_set s (all-held s many nulls room (λ k l. at k (omega arith)))
+    (unfold ready_of in and_both (classes_ok (classes_of s)) _ ok (v ∙ all_done (ready_at s) i 128 h))

@@ -1,6 +1,7 @@
 -- What each operation makes of a set, as the Rust's ConstraintSet does: its maps are lists with an entry for each of the 128 identities,
 -- gone through from the first to the last. Assumes nothing.
-use Rattle.std.specs.Prelude.{Bool, true, false, not, ◌&&◌, ◌||◌, cond, List, ℕ, zero, suc, ◌+◌, min, eqb, ltb, leb, get_or, set, replicate, Float, Some, None, Option}
+use Rattle.std.specs.Prelude.{Bool, true, false, not, ◌&&◌, ◌||◌, cond, List, ℕ, zero, suc, ◌+◌, min, eqb, ltb, leb, get_or, set, replicate}
+use Rattle.std.specs.Prelude.{Float, Option, Some, None}
 use Rattle.std.specs.Float.{nan}
 use Rattle.std.specs.Float.Ieee.{lt, eq}
 use Rattle.lists.specs.Ranges.{any_from}
