@@ -21,7 +21,8 @@ use Rattle.apply_walk.specs.Walks.{and_in, empty_walk, frame_at, top_of, passed,
 use Rattle.apply_walk.specs.Rests.{Good, rest_of, steps_left, Turned}
 use Rattle.apply_walk.proofs.RestLaws.{passed-depth, passed-good}
 use Rattle.apply_walk.proofs.Stepping.{nothing_left, start-good, start-rest}
-use Rattle.apply_walk.proofs.WalkTurns.{top, owner_within, turn_said, turn_leaves, enter_low, found_low, pop_turn, skip-turn, found_turn, enter_turn, enter_within}
+use Rattle.apply_walk.proofs.WalkTurns.{top, owner_within, turn_said, turn_leaves, enter_low, found_low, pop_turn, skip-turn, found_turn, enter_turn}
+use Rattle.apply_walk.proofs.WalkTurns.{enter_within}
 use Rattle.apply_shared.specs.Thinned.{Thinned}
 use Rattle.apply_shared.specs.declared.Mark.{Mark}
 use Rattle.apply_shared.specs.declared.Thin.{Thin}
@@ -42,7 +43,8 @@ is_owed m = m.owed
 module _ (own : ℕ → List ℕ) where
   module _ (whole there rest : List ℕ) (marks : List Mark) (x : ℕ) (m : Mark) where
     -- all of x is passed over
-    so_dropped : x < length marks → m.owed ≡ true → Within (own x) there → SoFar own whole there (own x ++ rest) marks → SoFar own whole there rest (set marks x m)
+    so_dropped : x < length marks → m.owed ≡ true → Within (own x) there → SoFar own whole there (own x ++ rest) marks
+        → SoFar own whole there rest (set marks x m)
     so_dropped l o known was comes ks t =
         was (λ h q i j. within-right (own x) rest i (comes h (mark-stays is_owed marks x m l o h q) i j)) ks
         (thin_drop there (own x) rest ks known (comes x (ap is_owed (get_or-set_same marks x m no_mark l) ∙ o)) t)

@@ -152,12 +152,14 @@ pub read-said : (a b : Answer) → a ≡ b → head_of (Files.refusal_of a.readi
 unfolding read_reply
 read-said a b e = ap read_reply e
 
-pub evaluate_said : (p : Plan) (e : ℕ) (row : Row) (v : Result ScalarValue EvaluationError) (n t : ℕ) → v ≡ Evaluating.evaluate_of p (record { 0 = e }) row → n ≡
+pub evaluate_said : (p : Plan) (e : ℕ) (row : Row) (v : Result ScalarValue EvaluationError) (n t : ℕ)
+    → v ≡ Evaluating.evaluate_of p (record { 0 = e }) row → n ≡
     Evaluating.refusal_of
     v → t ≡ truth_found v
     → head_of n t ≡ evaluate_reply e row p
 unfolding evaluate_reply
-evaluate_said p e row v n t ev en et = (λ i. head_of (en i) (et i)) ∙ ap (λ (w : Result ScalarValue EvaluationError). head_of (Evaluating.refusal_of w) (truth_found w)) ev
+evaluate_said p e row v n t ev en et = (λ i. head_of (en i) (et i)) ∙ ap (λ (w : Result ScalarValue EvaluationError). head_of
+    (Evaluating.refusal_of w) (truth_found w)) ev
 
 pub simplify_said : (p : Plan) (o : ℕ) (r : Rewritten) (n s : ℕ) → r ≡ Simplifying.simplify_of p (record { 0 = o }) → n ≡ Simplifying.refusal_of
     r.rewrite

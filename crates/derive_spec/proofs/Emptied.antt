@@ -112,4 +112,5 @@ module _ (p : Plan) where
   -- every refusal has empty facts
   pub refused-empty : (h : ℕ) → Clean (derive_of p h)
   unfolding derive_of
-  refused-empty h = clean-cond (plan_ok p && ltb h p.operators.count) _ _ (clean-below (suc h) h (omega arith)) (clean-refused (Err (NoSuch (record { 0 = h }))))
+  refused-empty h = clean-cond (plan_ok p && ltb h p.operators.count) _ _ (clean-below (suc h) h (omega arith)) (clean-refused (Err (NoSuch
+      (record { 0 = h }))))

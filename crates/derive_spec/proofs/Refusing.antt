@@ -68,9 +68,11 @@ module _ (p : Plan) (h : ℕ) where
       → (d.outcome ≡ Ok tt → Roomy d.facts.constraints → Told p h (make d.facts)) → Told p h (given d make)
   unfolding given
   given-told d make i u (facts e r fine up) f = subst (λ (o : Result (Unit {0}) DeriveError). Told p h (cond (is_accepted o) (make d.facts) d)) (sym e) (f e r)
-  given-told d make i u (full q w e n) f = subst (λ (o : Result (Unit {0}) DeriveError). Told p h (cond (is_accepted o) (make d.facts) d)) (sym e) (full q (through u
+  given-told d make i u (full q w e n) f = subst (λ (o : Result (Unit {0}) DeriveError). Told p h (cond (is_accepted o) (make d.facts) d)) (sym e)
+      (full q (through u
       w) e n)
-  given-told d make i u (key q w e n) f = subst (λ (o : Result (Unit {0}) DeriveError). Told p h (cond (is_accepted o) (make d.facts) d)) (sym e) (key q (through u w)
+  given-told d make i u (key q w e n) f = subst (λ (o : Result (Unit {0}) DeriveError). Told p h (cond (is_accepted o) (make d.facts) d)) (sym e)
+      (key q (through u w)
       e n)
 
   -- an input's answer is used as it is by Sort, Limit and Output

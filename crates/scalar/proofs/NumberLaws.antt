@@ -92,7 +92,8 @@ whole-value (S.Int64 n) h = refl
 whole-value (S.Float64 x) h = absurd (false≢true h)
 whole-value (S.Date32 n) h = refl
 
-module _ (v w : ScalarValue) (x y : Float) (hv : Typed v) (hw : Typed w) (ev : scalar_to_f64 v ≡ Some x) (ew : scalar_to_f64 w ≡ Some y) (wv : is_whole v ≡ true)
+module _ (v w : ScalarValue) (x y : Float) (hv : Typed v) (hw : Typed w) (ev : scalar_to_f64 v ≡ Some x) (ew : scalar_to_f64 w ≡ Some y)
+    (wv : is_whole v ≡ true)
     (ww : is_whole w ≡ true) where
   pub wholes_lt : lt x y ≡ lt_z (whole_of v) (whole_of w)
   wholes_lt =
