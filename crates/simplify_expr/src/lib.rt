@@ -209,7 +209,8 @@ fn simplify_nary(
     node_of(t, h, all, became)
 }
 
-// Simplifies the operands of h that are left, from an item on, finds what h becomes, and writes its list on the way back.
+// Simplifies the operands of h that are left, from an item on, finds what h becomes, and writes its list on the way back. A loop would need a list of its
+// own at each level, as long as the item table, and there is no heap.
 #[cycle(simplify_expr)]
 fn simplify_operands(
     t: &mut Tables,
