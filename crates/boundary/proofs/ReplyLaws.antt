@@ -1,189 +1,177 @@
--- Replies, from the answers that were had. Assumes nothing.
-use Rattle.std.proofs.Common.{Ok, Result}
+-- Replies, from what reading, deriving and applying answer. Assumes nothing.
 use Prim.Native.Nat.{ℕ, suc, ◌+◌, ◌<◌, ◌≤◌}
 use native.Mathlib.Numerals.{add-one}
 use mathlib.Core.Path.{◌≡◌, refl, sym, ap, ◌∙◌}
-use mathlib.Core.Bool.{Bool, true, false, cond}
-use mathlib.Core.List.{List, ◌++◌}
-use lib.Dec.{eqb}
+use mathlib.Core.List.{List, [], ◌++◌, append-nil, append_assoc}
 use lib.ListN.{get_or, set, replicate, length, drop, drop_of_length-le}
 use lib.Seq.{drop-cons}
-use borrow.Author.Tests.{ne_eqb, eq-eqb}
+use Rattle.std.proofs.Common.{Result, Ok, Err}
 use Rattle.plan.specs.declared.Plan.{Plan}
+use Rattle.plan.specs.Plans.{empty_plan}
 use Rattle.plan_file.specs.Answers as Files
-use Rattle.plan_file.specs.Answer.{Answer}
-use Rattle.plan_identities.specs.declared.Identities.{Identities}
-use Rattle.listing.specs.Listing.{listing_text}
-use Rattle.file_facts.specs.Known.{nothing_known, plan_known, answer_known}
+use Rattle.plan_file.specs.Answer.{Answer, answer}
+use Rattle.plan_file.specs.declared.ReadError.{ReadError}
+use Rattle.plan_file.specs.declared.ReadError.TheVariants as R
+use Rattle.plan_file_write.specs.Written.{written_of, columns_bytes}
+use Rattle.writing.specs.Text.{lines}
+use Rattle.scalar.specs.declared.ScalarValue.{ScalarValue}
+use Rattle.rows_spec.specs.Evaluate as Evaluating
+use Rattle.rows_spec.specs.declared.EvaluationError.{EvaluationError}
+use Rattle.simplify_spec.specs.OneOperator as Simplifying
+use Rattle.simplify_spec.specs.declared.Rewrite.{Rewrite}
+use Rattle.simplify_spec.specs.declared.Rewrite.TheVariants as W
+use Rattle.simplify_spec.specs.declared.SimplifyError.{SimplifyError}
+use Rattle.derive_spec.specs.Deriving.{derive_of}
+use Rattle.derive_spec.specs.declared.DeriveError.{DeriveError}
+use Rattle.derive_spec.specs.declared.DeriveError.TheVariants as D
+use Rattle.refusals.specs.Numbers.{number_of, last_of}
+use Rattle.file_facts.specs.Known.{derived_known, plan_known, read_known, answer_known}
 use Rattle.file_facts.specs.declared.Known.{Known}
-use Rattle.apply_spec.specs.Facts as Applying
+use Rattle.file_facts.specs.declared.Refusal.{Refusal}
 use Rattle.apply_spec.specs.Entries.{apply_predicate}
 use Rattle.apply_spec.specs.declared.LogicalFacts.{LogicalFacts}
-use Rattle.apply_spec.specs.Told.{FactsAnswer}
-use Rattle.apply_spec.specs.declared.FactsError.TheVariants as O
-use Rattle.refusals.specs.Numbers.{last_of, standing_of, truth_found}
-use Rattle.plan_file_write.specs.Written.{written_of}
-use Rattle.rows_spec.specs.Evaluate as Evaluating
-use Rattle.rows_spec.specs.declared.Row.{Row}
-use Rattle.rows_spec.specs.declared.EvaluationError.{EvaluationError}
-use Rattle.scalar.specs.declared.ScalarValue.{ScalarValue}
-use Rattle.simplify_spec.specs.OneOperator as Simplifying
-use Rattle.simplify_spec.specs.Answers.{Rewritten}
-use Rattle.boundary.specs.Replies.{head_of, read_reply, on_plan, evaluate_reply, rewrite_reply, simplify_reply, cells_to, known_reply, derived_reply}
-use Rattle.boundary.specs.Replies.{derive_reply}
-use Rattle.boundary.specs.Replies.{facts_reply, turn_by, in_turn, turn_reply, applied_reply, apply_reply}
-use Rattle.boundary.specs.declared.InTurn.{InTurn}
+use Rattle.apply_spec.specs.declared.FactsError.{FactsError}
+use Rattle.apply_spec.specs.declared.FactsError.TheVariants as F
+use Rattle.apply_spec.specs.Told.{FactsAnswer, told}
+use Rattle.writing.proofs.Writings.{written_then}
+use Rattle.boundary.specs.Replies.{head_of, read_reply, on_plan, known_reply, derived_reply, derive_reply, facts_reply, turned, turn_by, in_turn}
+use Rattle.boundary.specs.Replies.{turn_reply, applied_reply, apply_reply, cells_to}
 
 -- ---- reading first
-module _ (f : Plan → List ℕ) (a b : Answer) (ea : a ≡ b) (n : ℕ) (en : n ≡ Files.refusal_of a.reading) where
-  pub plan-refused : (n ≡ 0 → ⊥) → head_of (Files.refusal_of a.reading) (Files.place_of a.reading) ≡ on_plan f b
-  unfolding on_plan
-  plan-refused z = sym chosen ∙ ap (on_plan f) ea
-    where
-      chosen : on_plan f a ≡ head_of (Files.refusal_of a.reading) (Files.place_of a.reading)
-      chosen = rw (ne_eqb (Files.refusal_of a.reading) 0 (λ y. z (en ∙ y)))
+pub on_read : (f : Plan → List ℕ) (p : Plan) → on_plan f (answer (Ok p)) ≡ f p
+unfolding on_plan
+on_read f p = refl
 
-  pub plan-read : n ≡ 0 → f a.plan ≡ on_plan f b
-  unfolding on_plan
-  plan-read z = sym chosen ∙ ap (on_plan f) ea
-    where
-      chosen : on_plan f a ≡ f a.plan
-      chosen = let e : Files.refusal_of a.reading ≡ 0 = sym en ∙ z in rw e
+pub on-refused : (f : Plan → List ℕ) (e : ReadError) → on_plan f (answer (Err e)) ≡ head_of (Files.refusal_of (Err e)) (Files.place_of (Err e))
+unfolding on_plan
+on-refused f (R.Short at) = refl
+on-refused f (R.Unknown at) = refl
+on-refused f (R.Room at) = refl
+on-refused f (R.Handle at) = refl
+on-refused f (R.ScannedTwice at) = refl
+
+pub read-whole : (p : Plan) → read_reply (answer (Ok p)) ≡ head_of 0 0 ++ written_of p
+unfolding read_reply
+read-whole p = refl
+
+-- an empty plan has no bytes
+written-none : written_of empty_plan ≡ []
+unfolding written_of columns_bytes lines empty_plan
+written-none = refl
+
+pub read-refused : (e : ReadError) → read_reply (answer (Err e)) ≡ head_of (Files.refusal_of (Err e)) (Files.place_of (Err e))
+unfolding read_reply
+read-refused e = rw (written-none, append-nil) refl
 
 -- ---- what is known of an operator
-module _ (k : Known) where
-  pub known-refused : (k.number ≡ 0 → ⊥) → head_of k.number k.place ≡ known_reply k
-  unfolding known_reply
-  known-refused z = rw (ne_eqb k.number 0 z)
+derived_same : (p : Plan) (h : ℕ) (f : LogicalFacts) (o : Result (Unit {0}) DeriveError)
+    → known_reply (derived_known h p f o) ≡ derived_reply p h (record { facts = f; outcome = o })
+unfolding derived_reply
+derived_same p h f (Ok tt) = refl
+derived_same p h f (Err (D.UnsupportedKey o)) = refl
+derived_same p h f (Err (D.Residuals o)) = refl
+derived_same p h f (Err (D.NoSuch o)) = refl
 
-  pub known-listed : k.number ≡ 0 → head_of k.number k.place ++ listing_text k.operator k.identities k.facts ≡ known_reply k
-  unfolding known_reply
-  known-listed z = sym chosen
-    where
-      chosen : known_reply k ≡ head_of k.number k.place ++ listing_text k.operator k.identities k.facts
-      chosen = ap
-          (λ (b : Bool). cond b (head_of k.number k.place ++ listing_text k.operator k.identities k.facts) (head_of k.number k.place))
-          (eq-eqb k.number 0 z)
+plan_same : (h : ℕ) (p : Plan) → known_reply (plan_known h p) ≡ derive_reply h p
+unfolding plan_known derive_reply
+plan_same h p = derived_same p h (derive_of p h).facts (derive_of p h).outcome
 
--- reading first: f is the reply for a plan
-known_on : (f : Plan → List ℕ) (h : ℕ) (a : Answer) → known_reply (plan_known h a.plan) ≡ f a.plan → known_reply (answer_known h a) ≡ on_plan f a
-unfolding on_plan answer_known nothing_known known_reply
-known_on f h a e = go (eqb (Files.refusal_of a.reading) 0) refl
-  where
-    go : (b : Bool) → eqb (Files.refusal_of a.reading) 0 ≡ b
-        → known_reply (cond b (plan_known h a.plan) (nothing_known (Files.refusal_of a.reading) (Files.place_of a.reading)))
-        ≡ cond b (f a.plan) (head_of (Files.refusal_of a.reading) (Files.place_of a.reading))
-    go true z = e
-    go false z =
-        ap
-        (λ (b : Bool). cond b
-        (head_of (Files.refusal_of a.reading) (Files.place_of a.reading) ++ listing_text 0 (nothing_known 0 0).identities (nothing_known 0 0).facts)
-        (head_of (Files.refusal_of a.reading) (Files.place_of a.reading))) z
+answer_same : (f : Plan → List ℕ) (h : ℕ) (p : Plan) (r : Result (Unit {0}) ReadError) → known_reply (plan_known h p) ≡ f p
+    → known_reply (read_known h p r) ≡ on_plan f (record { plan = p; reading = r })
+unfolding on_plan
+answer_same f h p (Ok tt) e = e
+answer_same f h p (Err (R.Short at)) e = refl
+answer_same f h p (Err (R.Unknown at)) e = refl
+answer_same f h p (Err (R.Room at)) e = refl
+answer_same f h p (Err (R.Handle at)) e = refl
+answer_same f h p (Err (R.ScannedTwice at)) e = refl
 
-derived_known : (h : ℕ) (p : Plan) → known_reply (plan_known h p) ≡ derive_reply h p
-unfolding known_reply plan_known derive_reply derived_reply
-derived_known h p = refl
+pub derive_said : (h : ℕ) (a : Answer) → known_reply (answer_known h a) ≡ on_plan (derive_reply h) a
+unfolding answer_known
+derive_said h a = answer_same (derive_reply h) h a.plan a.reading (plan_same h a.plan)
 
-pub derive_said : (h : ℕ) (a : Answer) (k : Known) → k ≡ answer_known h a → known_reply k ≡ on_plan (derive_reply h) a
-derive_said h a k e = ap known_reply e ∙ known_on (derive_reply h) h a (derived_known h a.plan)
-
-pub facts-said : (a : Answer) (k : Known) → k ≡ answer_known (last_of a.plan) a → known_reply k ≡ on_plan facts_reply a
-unfolding facts_reply
-facts-said a k e = ap known_reply e ∙ known_on facts_reply (last_of a.plan) a (derived_known (last_of a.plan) a.plan)
+pub facts-said : (a : Answer) → known_reply (answer_known (last_of a.plan) a) ≡ on_plan facts_reply a
+unfolding answer_known facts_reply
+facts-said a = answer_same facts_reply (last_of a.plan) a.plan a.reading (plan_same (last_of a.plan) a.plan)
 
 -- ---- from what is known of the operator h on
-module _ (p : Plan) (h : ℕ) (es : List ℕ) (k : Known) (ek : k ≡ plan_known h p) where
-  abbrev by : Known → List ℕ
-  by d = cond (eqb d.number 0) (turn_reply d.identities h (in_turn p d.facts es 0)) (head_of d.number d.place)
+module _ (p : Plan) (h : ℕ) (es : List ℕ) where
+  abbrev from_known : Result Known Refusal → List ℕ
+  from_known (Ok k) = turn_reply k.identities h (in_turn p k.facts es 0)
+  from_known (Err r) = head_of r.number r.place
 
-  told : by k ≡ apply_reply h es p
-  unfolding plan_known apply_reply applied_reply
-  told = ap by ek
+  apply_same : (f : LogicalFacts) (o : Result (Unit {0}) DeriveError)
+      → applied_reply p h es (record { facts = f; outcome = o }) ≡ from_known (derived_known h p f o)
+  unfolding applied_reply
+  apply_same f (Ok tt) = refl
+  apply_same f (Err (D.UnsupportedKey o)) = refl
+  apply_same f (Err (D.Residuals o)) = refl
+  apply_same f (Err (D.NoSuch o)) = refl
 
-  pub apply-refused : (k.number ≡ 0 → ⊥) → head_of k.number k.place ≡ apply_reply h es p
-  apply-refused z = sym chosen ∙ told
-    where
-      chosen : by k ≡ head_of k.number k.place
-      chosen = rw (ne_eqb k.number 0 z)
+  apply_said : apply_reply h es p ≡ from_known (plan_known h p)
+  unfolding plan_known apply_reply
+  apply_said = apply_same (derive_of p h).facts (derive_of p h).outcome
 
-  pub apply-listed : (t : InTurn) → t ≡ in_turn p k.facts es 0 → k.number ≡ 0 → turn_reply k.identities h t ≡ apply_reply h es p
-  apply-listed t et z = ap (turn_reply k.identities h) et ∙ sym chosen ∙ told
-    where
-      chosen : by k ≡ turn_reply k.identities h (in_turn p k.facts es 0)
-      chosen = ap (λ (b : Bool). cond b (turn_reply k.identities h (in_turn p k.facts es 0)) (head_of k.number k.place)) (eq-eqb k.number 0 z)
+  pub apply-known : (k : Known) → Ok k ≡ plan_known h p → apply_reply h es p ≡ turn_reply k.identities h (in_turn p k.facts es 0)
+  apply-known k e = apply_said ∙ ap from_known (sym e)
+
+  pub apply-refused : (r : Refusal) → Err r ≡ plan_known h p → apply_reply h es p ≡ head_of r.number r.place
+  apply-refused r e = apply_said ∙ ap from_known (sym e)
+
+-- ---- the numbers of answers
+pub rewrite_number : (r : Result Rewrite SimplifyError)
+    → number_of (λ (e : SimplifyError). Simplifying.refusal_of (Err e)) r ≡ Simplifying.refusal_of r
+rewrite_number (Ok W.Keep) = refl
+rewrite_number (Ok (W.Replace o)) = refl
+rewrite_number (Err e) = refl
+
+pub evaluation_number : (r : Result ScalarValue EvaluationError)
+    → number_of (λ (e : EvaluationError). Evaluating.refusal_of (Err e)) r ≡ Evaluating.refusal_of r
+evaluation_number (Ok v) = refl
+evaluation_number (Err e) = refl
 
 -- ---- predicates in turn: those from the k-th on
 module _ (p : Plan) (l : List ℕ) where
-  pub turn-done : (f : LogicalFacts) (k : ℕ) → length l ≤ k → record { facts = f; outcome = (Ok tt); place = 0 } ≡ in_turn p f (drop k l) k
+  pub turn-done : (f : LogicalFacts) (k : ℕ) → length l ≤ k → in_turn p f (drop k l) k ≡ turned f (Ok tt)
   unfolding in_turn
-  turn-done f k h = rw (drop_of_length-le l {i = k} h)
+  turn-done f k h = rw (drop_of_length-le l {i = k} h) refl
 
-  module _ (f : LogicalFacts) (k : ℕ) (h : k < length l) (e : ℕ) (ee : e ≡ get_or l k 0) (a : FactsAnswer) (ea : a ≡ apply_predicate p f (record {
-    0 =
-        e;
-  }))
-      (n : ℕ) (en : n ≡ Applying.refusal_of a.outcome) where
-    told-turn : in_turn p f (drop k l) k ≡ turn_by a k (λ g. in_turn p g (drop (suc k) l) (suc k))
-    unfolding in_turn
-    told-turn =
-        ap (λ (m : List ℕ). in_turn p f m k) (drop-cons l k 0 h)
-        ∙ ap (λ (b : FactsAnswer). turn_by b k (λ g. in_turn p g (drop (suc k) l) (suc k))) (sym (ea ∙ ap (λ (x : ℕ). apply_predicate p f (record {
-          0
-              = x;
-        })) ee))
+  told-turn : (f : LogicalFacts) (k : ℕ) (a : FactsAnswer) → k < length l → a ≡ apply_predicate p f (record { 0 = get_or l k 0 })
+      → in_turn p f (drop k l) k ≡ turn_by a k (λ g. in_turn p g (drop (suc k) l) (suc k))
+  unfolding in_turn
+  told-turn f k a h e =
+      ap (λ (m : List ℕ). in_turn p f m k) (drop-cons l k 0 h)
+      ∙ ap (λ (b : FactsAnswer). turn_by b k (λ g. in_turn p g (drop (suc k) l) (suc k))) (sym e)
 
-    pub turn-refused : (n ≡ 0 → ⊥) → record { facts = a.facts; outcome = a.outcome; place = k } ≡ in_turn p f (drop k l) k
-    turn-refused z = sym (told-turn ∙ chosen)
-      where
-        chosen : turn_by a k (λ g. in_turn p g (drop (suc k) l) (suc k)) ≡ record { facts = a.facts; outcome = a.outcome; place = k }
-        chosen = rw (ne_eqb (Applying.refusal_of a.outcome) 0 (λ y. z (en ∙ y)))
+  pub turn-refused : (f g : LogicalFacts) (e : FactsError) (k : ℕ) → k < length l
+      → told g (Err e) ≡ apply_predicate p f (record { 0 = get_or l k 0 }) → in_turn p f (drop k l) k ≡ turned g (Err (record { place = k; error = e }))
+  turn-refused f g F.Residuals k h q = told-turn f k _ h q
+  turn-refused f g F.NoSuch k h q = told-turn f k _ h q
 
-    pub turn-next : n ≡ 0 → in_turn p a.facts (drop (k + 1) l) (k + 1) ≡ in_turn p f (drop k l) k
-    turn-next z = ap (λ (m : ℕ). in_turn p a.facts (drop m l) m) (add-one k) ∙ sym (told-turn ∙ chosen)
-      where
-        chosen : turn_by a k (λ g. in_turn p g (drop (suc k) l) (suc k)) ≡ in_turn p a.facts (drop (suc k) l) (suc k)
-        chosen = let e : Applying.refusal_of a.outcome ≡ 0 = sym en ∙ z in rw e
-
--- ---- heads and what follows them
-pub head-same : (n m a b : ℕ) → n ≡ m → a ≡ b → head_of n a ≡ head_of m b
-head-same n m a b e f = λ i. head_of (e i) (f i)
-
-pub read-said : (a b : Answer) → a ≡ b → head_of (Files.refusal_of a.reading) (Files.place_of a.reading) ++ written_of a.plan ≡ read_reply b
-unfolding read_reply
-read-said a b e = ap read_reply e
-
-pub evaluate_said : (p : Plan) (e : ℕ) (row : Row) (v : Result ScalarValue EvaluationError) (n t : ℕ)
-    → v ≡ Evaluating.evaluate_of p (record { 0 = e }) row → n ≡
-    Evaluating.refusal_of
-    v → t ≡ truth_found v
-    → head_of n t ≡ evaluate_reply e row p
-unfolding evaluate_reply
-evaluate_said p e row v n t ev en et = (λ i. head_of (en i) (et i)) ∙ ap (λ (w : Result ScalarValue EvaluationError). head_of
-    (Evaluating.refusal_of w) (truth_found w)) ev
-
-pub simplify_said : (p : Plan) (o : ℕ) (r : Rewritten) (n s : ℕ) → r ≡ Simplifying.simplify_of p (record { 0 = o }) → n ≡ Simplifying.refusal_of
-    r.rewrite
-    → s ≡ standing_of r.rewrite
-    → head_of n s ++ written_of r.plan ≡ simplify_reply o p
-unfolding simplify_reply rewrite_reply
-simplify_said p o r n s er en es = (λ i. head_of (en i) (es i) ++ written_of r.plan) ∙ ap rewrite_reply er
-
-pub turn-said : (h : ℕ) (t : InTurn) (ids : Identities) (n : ℕ) → n ≡ Applying.refusal_of t.outcome
-    → head_of n t.place ++ listing_text h ids t.facts ≡ turn_reply ids h t
-unfolding turn_reply
-turn-said h t ids n en = λ i. head_of (en i) t.place ++ listing_text h ids t.facts
+  pub turn-next : (f g : LogicalFacts) (k : ℕ) → k < length l → told g (Ok tt) ≡ apply_predicate p f (record { 0 = get_or l k 0 })
+      → in_turn p g (drop (k + 1) l) (k + 1) ≡ in_turn p f (drop k l) k
+  turn-next f g k h q = ap (λ (m : ℕ). in_turn p g (drop m l) m) (add-one k) ∙ sym (told-turn f k _ h q)
 
 -- ---- cells
-pub cells-none : (s : List ℕ) → replicate 64 0 ≡ cells_to s 0
+pub cells-none : (case code bits : List ℕ) → cells_to case code bits 0 ≡ replicate 64 (record { case = 0; code = 0; bits = 0 })
 unfolding cells_to
-cells-none s = refl
+cells-none case code bits = refl
 
-more : (s : List ℕ) (n : ℕ) → cells_to s (suc n) ≡ set (cells_to s n) n (get_or s n 0)
+pub cells-next : (case code bits : List ℕ) (n : ℕ) → cells_to case code bits (n + 1)
+    ≡ set (cells_to case code bits n) n (record { case = get_or case n 0; code = get_or code n 0; bits = get_or bits n 0 })
 unfolding cells_to
-more s n = refl
+cells-next case code bits n = rw add-one refl
 
-pub cells-next : (s : List ℕ) (n v : ℕ) (a : List ℕ) → a ≡ cells_to s n → v ≡ get_or s n 0 → set a n v ≡ cells_to s (n + 1)
-cells-next s n v a ea ev = (λ i. set (ea i) n (ev i)) ∙ sym told
-  where
-    told : cells_to s (n + 1) ≡ set (cells_to s n) n (get_or s n 0)
-    told = ap (cells_to s) (add-one n) ∙ more s n
+pub ruleset apply_steps = (apply-known, apply-refused)
+
+pub ruleset simplify_steps = (written_then, rewrite_number)
+
+pub ruleset evaluate_steps = (written_then, evaluation_number)
+
+pub ruleset read_steps = (written_then, read-whole, read-refused)
+
+pub ruleset plan_steps = (written_then, on_read, on-refused)
+
+pub ruleset cells_loop = (cells-none, cells-next)
+
+pub ruleset turn_loop = (turn-done, turn-next)

@@ -1,7 +1,7 @@
 -- The replies of the boundary, as bytes: the number of the refusal in the rules (docs/FORMAT.md), 0 for none; a number of eight bytes, high byte
 -- first; and what is handed
 -- back. Assumes nothing.
-use Rattle.std.specs.Prelude.{ℕ, zero, suc, cond, List, [], ◌∷◌, ◌++◌, eqb, get_or, set, replicate, Ok}
+use Rattle.std.specs.Prelude.{ℕ, zero, suc, cond, List, [], ◌∷◌, ◌++◌, eqb, get_or, set, replicate, Result, Ok, Err}
 use Rattle.plan.specs.declared.Plan.{Plan}
 use Rattle.plan_file.specs.Answers as Files
 use Rattle.plan_file.specs.Answer.{Answer}
@@ -9,13 +9,14 @@ use Rattle.plan_file_laws.specs.Writing.{put8}
 use Rattle.plan_file_write.specs.Written.{written_of}
 use Rattle.plan_identities.specs.Identities.{identities_of}
 use Rattle.rows_spec.specs.Evaluate as Evaluating
+use Rattle.rows_spec.specs.declared.Cell.{Cell}
 use Rattle.rows_spec.specs.declared.Row.{Row}
 use Rattle.plan_identities.specs.declared.Identities.{Identities}
 use Rattle.apply_spec.specs.Facts as Applying
 use Rattle.apply_spec.specs.Entries.{apply_predicate}
 use Rattle.apply_spec.specs.declared.LogicalFacts.{LogicalFacts}
 use Rattle.apply_spec.specs.Told.{FactsAnswer}
-use Rattle.apply_spec.specs.declared.FactsError.TheVariants as O
+use Rattle.apply_spec.specs.declared.FactsError.{FactsError}
 use Rattle.listing.specs.Listing.{listing_text}
 use Rattle.derive_spec.specs.Operators as Deriving
 use Rattle.derive_spec.specs.Deriving.{derive_of}
@@ -23,8 +24,9 @@ use Rattle.derive_spec.specs.Answers.{DeriveAnswer}
 use Rattle.simplify_spec.specs.OneOperator as Simplifying
 use Rattle.simplify_spec.specs.Answers.{Rewritten}
 use Rattle.file_facts.specs.declared.Known.{Known}
+use Rattle.file_facts.specs.declared.Refusal.{Refusal}
 use Rattle.refusals.specs.Numbers.{last_of, standing_of, truth_found}
-use Rattle.boundary.specs.declared.InTurn.{InTurn}
+use Rattle.boundary.specs.declared.Turned.{Turned}
 
 -- the first nine bytes
 unfoldable pub head_of : ℕ → ℕ → List ℕ
@@ -40,10 +42,9 @@ on_plan f a =
     cond (eqb (Files.refusal_of a.reading) 0) (f a.plan) (head_of (Files.refusal_of a.reading) (Files.place_of a.reading))
 
 -- ---- what is known of an operator: the refusal and its place, or the listing
-unfoldable pub known_reply : Known → List ℕ
-known_reply k =
-    cond (eqb k.number 0) (head_of k.number k.place ++ listing_text k.operator k.identities k.facts)
-    (head_of k.number k.place)
+abbrev pub known_reply : Result Known Refusal → List ℕ
+known_reply (Ok k) = head_of 0 0 ++ listing_text k.operator k.identities k.facts
+known_reply (Err r) = head_of r.number r.place
 
 -- ---- deriving: the refusal and the operator that refused, or the listing
 unfoldable pub derived_reply : Plan → ℕ → DeriveAnswer → List ℕ
@@ -58,7 +59,18 @@ derive_reply h p = derived_reply p h (derive_of p h)
 unfoldable pub facts_reply : Plan → List ℕ
 facts_reply p = derive_reply (last_of p) p
 
--- ---- predicates applied in turn; the first that is refused, the k-th, ends it
+-- ---- predicates applied in turn: the facts, and what came of the last one that was applied
+pub record InTurn : Type 0 where
+  pub facts : LogicalFacts
+  pub outcome : Result (Unit {0}) FactsError
+  pub place : ℕ
+
+-- the facts after a run, and which of its predicates was refused
+abbrev pub turned : LogicalFacts → Result (Unit {0}) Turned → InTurn
+turned f (Ok tt) = record { facts = f; outcome = Ok tt; place = 0 }
+turned f (Err t) = record { facts = f; outcome = Err t.error; place = t.place }
+
+-- the first that is refused, the k-th, ends it
 abbrev pub turn_by : FactsAnswer → ℕ → (LogicalFacts → InTurn) → InTurn
 turn_by a k rest =
     cond (eqb (Applying.refusal_of a.outcome) 0) (rest a.facts) (record { facts = a.facts; outcome = a.outcome; place = k })
@@ -92,10 +104,11 @@ unfoldable pub evaluate_reply : ℕ → Row → Plan → List ℕ
 evaluate_reply e row p =
     head_of (Evaluating.refusal_of (Evaluating.evaluate_of p (record { 0 = e }) row)) (truth_found (Evaluating.evaluate_of p (record { 0 = e }) row))
 
--- the first n of 64 cells; a cell that is not given is of the case 0, which no literal has
-unfoldable pub cells_to : List ℕ → ℕ → List ℕ
-cells_to s zero = replicate 64 0
-cells_to s (suc n) = set (cells_to s n) n (get_or s n 0)
+-- the first n of 64 cells out of three runs of numbers; a cell that is not given is of the case 0, which no literal has
+unfoldable pub cells_to : List ℕ → List ℕ → List ℕ → ℕ → List Cell
+cells_to case code bits zero = replicate 64 (record { case = 0; code = 0; bits = 0 })
+cells_to case code bits (suc n) =
+    set (cells_to case code bits n) n (record { case = get_or case n 0; code = get_or code n 0; bits = get_or bits n 0 })
 
 abbrev pub row_in : List ℕ → List ℕ → List ℕ → Row
-row_in case code bits = record { case = cells_to case 64; code = cells_to code 64; bits = cells_to bits 64 }
+row_in case code bits = record { cells = cells_to case code bits 64 }

@@ -1,47 +1,56 @@
 -- What is written, from what is known. Assumes nothing.
 use Prim.Native.Nat.{ℕ}
 use mathlib.Core.Path.{◌≡◌, refl, sym, ap, ◌∙◌}
-use mathlib.Core.Bool.{Bool, true, false, cond}
 use mathlib.Core.List.{List}
-use lib.Dec.{eqb}
-use borrow.Author.Tests.{ne_eqb}
-use Rattle.plan_file.specs.Answers as Files
+use Rattle.std.proofs.Common.{Result, Ok, Err}
+use Rattle.plan.specs.declared.Plan.{Plan}
 use Rattle.plan_file.specs.Answer.{Answer}
+use Rattle.plan_file.specs.declared.ReadError.{ReadError}
+use Rattle.plan_file.specs.declared.ReadError.TheVariants as R
+use Rattle.apply_spec.specs.declared.LogicalFacts.{LogicalFacts}
+use Rattle.derive_spec.specs.Deriving.{derive_of}
+use Rattle.derive_spec.specs.declared.DeriveError.{DeriveError}
+use Rattle.derive_spec.specs.declared.DeriveError.TheVariants as D
 use Rattle.listing.specs.Listing.{listing_text, refused_line}
 use Rattle.refusals.specs.Numbers.{last_of}
-use Rattle.file_facts.specs.Known.{nothing_known, plan_known, answer_known}
+use Rattle.file_facts.specs.Known.{derived_known, plan_known, read_known, answer_known}
 use Rattle.file_facts.specs.declared.Known.{Known}
+use Rattle.file_facts.specs.declared.Refusal.{Refusal}
 use Rattle.facts_text.specs.FactsText.{derived_text, plan_text, facts_text}
 
-abbrev known_text : Known → List ℕ
-known_text k = cond (eqb k.number 0) (listing_text k.operator k.identities k.facts) (refused_line k.number k.place)
+abbrev known_text : Result Known Refusal → List ℕ
+known_text (Ok k) = listing_text k.operator k.identities k.facts
+known_text (Err r) = refused_line r.number r.place
 
-known_text_lem : (a : Answer) → known_text (answer_known (last_of a.plan) a) ≡ facts_text a
-unfolding facts_text answer_known nothing_known plan_known plan_text derived_text
-known_text_lem a = go (eqb (Files.refusal_of a.reading) 0) refl
-  where
-    go : (b : Bool) → eqb (Files.refusal_of a.reading) 0 ≡ b
-        → known_text (cond b (plan_known (last_of a.plan) a.plan) (nothing_known (Files.refusal_of a.reading) (Files.place_of a.reading)))
-        ≡ cond b (plan_text a.plan) (refused_line (Files.refusal_of a.reading) (Files.place_of a.reading))
-    go true e = refl
-    go false e =
-        ap
-        (λ (b : Bool). cond b (listing_text 0 (nothing_known 0 0).identities (nothing_known 0 0).facts)
-        (refused_line (Files.refusal_of a.reading) (Files.place_of a.reading))) e
+derived_same : (p : Plan) (h : ℕ) (f : LogicalFacts) (o : Result (Unit {0}) DeriveError)
+    → known_text (derived_known h p f o) ≡ derived_text p h (record { facts = f; outcome = o })
+unfolding derived_text
+derived_same p h f (Ok tt) = refl
+derived_same p h f (Err (D.UnsupportedKey o)) = refl
+derived_same p h f (Err (D.Residuals o)) = refl
+derived_same p h f (Err (D.NoSuch o)) = refl
 
--- k is what is known of the last operator
-module _ (a : Answer) (k : Known) (ek : k ≡ answer_known (last_of a.plan) a) where
-  told : known_text k ≡ facts_text a
-  told = ap known_text ek ∙ known_text_lem a
+plan_same : (p : Plan) → known_text (plan_known (last_of p) p) ≡ plan_text p
+unfolding plan_known plan_text
+plan_same p = derived_same p (last_of p) (derive_of p (last_of p)).facts (derive_of p (last_of p)).outcome
 
-  pub text_refused : (k.number ≡ 0 → ⊥) → refused_line k.number k.place ≡ facts_text a
-  text_refused z = sym chosen ∙ told
-    where
-      chosen : known_text k ≡ refused_line k.number k.place
-      chosen = rw (ne_eqb k.number 0 z)
+answer_same : (p : Plan) (r : Result (Unit {0}) ReadError) → known_text (read_known (last_of p) p r) ≡ facts_text (record { plan = p; reading = r })
+unfolding facts_text
+answer_same p (Ok tt) = plan_same p
+answer_same p (Err (R.Short at)) = refl
+answer_same p (Err (R.Unknown at)) = refl
+answer_same p (Err (R.Room at)) = refl
+answer_same p (Err (R.Handle at)) = refl
+answer_same p (Err (R.ScannedTwice at)) = refl
 
-  pub text_listed : k.number ≡ 0 → listing_text k.operator k.identities k.facts ≡ facts_text a
-  text_listed z = sym chosen ∙ told
-    where
-      chosen : known_text k ≡ listing_text k.operator k.identities k.facts
-      chosen = ap (λ (n : ℕ). cond (eqb n 0) (listing_text k.operator k.identities k.facts) (refused_line n k.place)) z
+told : (a : Answer) → known_text (answer_known (last_of a.plan) a) ≡ facts_text a
+unfolding answer_known
+told a = answer_same a.plan a.reading
+
+pub text_listed : (a : Answer) (k : Known) → Ok k ≡ answer_known (last_of a.plan) a → facts_text a ≡ listing_text k.operator k.identities k.facts
+text_listed a k e = sym (told a) ∙ ap known_text (sym e)
+
+pub text_refused : (a : Answer) (r : Refusal) → Err r ≡ answer_known (last_of a.plan) a → facts_text a ≡ refused_line r.number r.place
+text_refused a r e = sym (told a) ∙ ap known_text (sym e)
+
+pub ruleset texts = (text_listed, text_refused)

@@ -5,6 +5,8 @@
 
 ghost use Rattle.std.specs.Prelude.{◌<◌};
 
+use writing::Writer;
+
 // A row, three numbers for each of its cells.
 #[derive(Clone, Copy)]
 struct Row {
@@ -13,60 +15,18 @@ struct Row {
     bits: [u64; 64],
 }
 
-// A row, and where the records that it was read from ended.
-#[derive(Clone, Copy)]
-struct Read {
-    row: Row,
-    at: usize,
-}
-
-// ---- questions with one number before the file
-
-fn derive<'a, 'b>(s: &'a [u8], out: &'b mut [u8]) -> usize {
-    if s.len() < 2 {
-        return 0;
-    }
-    boundary::mossladder_derive(&s[2..], test_input::word(s, 0), out)
-}
-
-fn simplify<'a, 'b>(s: &'a [u8], out: &'b mut [u8]) -> usize {
-    if s.len() < 2 {
-        return 0;
-    }
-    boundary::mossladder_simplify(&s[2..], test_input::word(s, 0), out)
-}
-
 // ---- predicates: the operator, how many, and that many expressions
 
-fn predicate(s: &[u8], k: usize) -> u16 {
-    if k < 1024 {
-        test_input::word(s, 4 + 2 * k)
-    } else {
-        0
-    }
-}
-
-fn predicates(s: &[u8]) -> [u16; 1024] {
-    let mut a: [u16; 1024] = [0; 1024];
-    let mut k: usize = 0;
-    while k < 1024 {
-        a[k] = predicate(s, k);
-        k += 1;
-    }
-    a
-}
-
-fn apply<'a, 'b>(s: &'a [u8], out: &'b mut [u8]) -> usize {
-    let n = test_input::word(s, 2) as usize;
-    if 1024 < n {
+fn apply(s: &[u8], out: &mut [u8]) -> usize {
+    let n = usize::from(test_input::word(s, 2));
+    let mut room = [0; 1024];
+    let (Some(predicates), Some(file)) = (room.get_mut(..n), s.get(4 + 2 * n..)) else {
         return 0;
+    };
+    for (k, predicate) in predicates.iter_mut().enumerate() {
+        *predicate = test_input::word(s, 4 + 2 * k);
     }
-    let at = 4 + 2 * n;
-    if s.len() < at {
-        return 0;
-    }
-    let a = predicates(s);
-    boundary::mossladder_apply(&s[at..], test_input::word(s, 0), &a[0..n], out)
+    boundary::mossladder_apply(file, test_input::word(s, 0), predicates, out)
 }
 
 // ---- a row: how many cells, and a literal record for each
@@ -83,139 +43,115 @@ fn length_of(kind: u8) -> usize
     }
 }
 
-// What stands after the kind, at `at`: the payload of a number or a date.
-fn bits_at(s: &[u8], kind: u8, at: usize) -> u64 {
-    let n = length_of(kind);
-    if n == 9 {
-        return test_input::bits(s, at);
+impl Row {
+    // Cells that are not given are NULL.
+    fn nulls() -> Row {
+        Row {
+            case: [0x10; 64],
+            code: [1; 64],
+            bits: [0; 64],
+        }
     }
-    if n == 5 { test_input::long(s, at) } else { 0 }
-}
 
-// The code of a NULL or a Boolean.
-fn code_at(s: &[u8], kind: u8, at: usize) -> u8 {
-    if length_of(kind) == 2 {
-        lists::at8(s, at)
-    } else {
-        0
-    }
-}
-
-fn with_cell(r: Read, s: &[u8], c: usize) -> Read {
-    let at = r.at;
-    let mut row = r.row;
-    if 63 < c {
-        return r;
-    }
-    if 100000 < at {
-        return r;
-    }
-    let kind = lists::at8(s, at);
-    row.case[c] = kind;
-    row.code[c] = code_at(s, kind, at + 1);
-    row.bits[c] = bits_at(s, kind, at + 1);
-    Read {
-        row,
-        at: at + length_of(kind),
+    // The cell of column c, from the record that s begins with: the code of a NULL or a Boolean, the payload of a number or a date.
+    fn set(&mut self, c: usize, s: &[u8]) -> usize {
+        let kind = lists::at(s, 0, 0);
+        let length = length_of(kind);
+        lists::put(&mut self.case, c, kind);
+        lists::put(
+            &mut self.code,
+            c,
+            if length == 2 { lists::at(s, 1, 0) } else { 0 },
+        );
+        lists::put(
+            &mut self.bits,
+            c,
+            match length {
+                9 => test_input::bits(s, 1),
+                5 => test_input::long(s, 1),
+                _ => 0,
+            },
+        );
+        length
     }
 }
 
-// Cells that are not given are NULL.
-fn row_of(s: &[u8], n: usize) -> Read {
-    let row = Row {
-        case: [0x10; 64],
-        code: [1; 64],
-        bits: [0; 64],
-    };
-    let mut r = Read { row, at: 4 };
-    let mut c: usize = 0;
-    while c < n {
-        r = with_cell(r, s, c);
-        c += 1;
-    }
-    r
-}
-
-fn on_row<'a, 'b>(file: &'a [u8], e: u16, row: Row, out: &'b mut [u8]) -> usize {
-    let case = row.case;
-    let code = row.code;
-    let bits = row.bits;
-    boundary::mossladder_evaluate(file, e, &case, &code, &bits, out)
-}
-
-fn evaluate<'a, 'b>(s: &'a [u8], out: &'b mut [u8]) -> usize {
-    let r = row_of(s, test_input::word(s, 2) as usize);
-    let at = r.at;
-    if s.len() < at {
+fn evaluate(s: &[u8], out: &mut [u8]) -> usize {
+    let mut row = Row::nulls();
+    let Some(mut rest) = s.get(4..) else {
         return 0;
+    };
+    for c in 0..usize::from(test_input::word(s, 2)).min(64) {
+        let length = row.set(c, rest);
+        let Some(left) = rest.get(length..) else {
+            return 0;
+        };
+        rest = left;
     }
-    let row = r.row;
-    on_row(&s[at..], test_input::word(s, 0), row, out)
+    boundary::mossladder_evaluate(
+        rest,
+        test_input::word(s, 0),
+        &row.case,
+        &row.code,
+        &row.bits,
+        out,
+    )
 }
 
 // ---- a question and its reply
 
-fn reply<'a, 'b>(operation: u8, s: &'a [u8], out: &'b mut [u8]) -> usize {
-    match operation {
-        0 => boundary::mossladder_read(s, out),
-        1 => derive(s, out),
-        2 => boundary::mossladder_facts(s, out),
-        3 => apply(s, out),
-        4 => simplify(s, out),
-        5 => evaluate(s, out),
+fn reply(operation: u8, s: &[u8], out: &mut [u8]) -> usize {
+    match (operation, s) {
+        (0, file) => boundary::mossladder_read(file, out),
+        (1, [high, low, file @ ..]) => {
+            boundary::mossladder_derive(file, u16::from_be_bytes([*high, *low]), out)
+        }
+        (2, file) => boundary::mossladder_facts(file, out),
+        (3, _) => apply(s, out),
+        (4, [high, low, file @ ..]) => {
+            boundary::mossladder_simplify(file, u16::from_be_bytes([*high, *low]), out)
+        }
+        (5, _) => evaluate(s, out),
         _ => 0,
     }
 }
 
-fn two_digits(line: &mut [u8], at: usize, b: u8) -> usize {
-    writing::hex(line, at, b as u64, 2)
-}
-
-fn digits(line: &mut [u8], s: &[u8]) -> usize {
-    let mut p: usize = 0;
-    let mut i: usize = 0;
-    while i < s.len() {
-        p = two_digits(line, p, s[i]);
-        i += 1;
+fn print(reply: &[u8]) {
+    let mut line = [0; 65536];
+    let mut w = Writer::new(&mut line);
+    for b in reply {
+        w.hex(u64::from(*b), 2);
     }
-    writing::byte(line, p, b'\n')
-}
-
-fn print(s: &[u8]) {
-    let mut line = [0u8; 65536];
-    let n = digits(&mut line, s);
-    if n <= 65536 {
-        io::write_all(1, &line[0..n]);
-    }
+    w.byte(b'\n');
+    io::write_all(1, w.bytes());
 }
 
 fn ask(operation: u8, s: &[u8]) {
-    let mut out = [0u8; 24576];
+    let mut out = [0; 24576];
     let n = reply(operation, s, &mut out);
-    if n <= 24576 {
-        print(&out[0..n]);
+    if let Some(reply) = out.get(..n) {
+        print(reply);
     }
 }
 
-// The next question, if there is a whole one.
+// Whether there was a whole question more.
 fn next() -> bool {
-    let mut head = [0u8; 5];
-    let mut body = [0u8; 24576];
-    let n = test_input::next(&mut head, 1, &mut body);
-    if 24576 < n {
-        return false;
+    let mut head = [0; 5];
+    let mut room = [0; 24576];
+    match test_input::next(&mut head, 1, &mut room) {
+        Some(s) => {
+            ask(head[0], s);
+            true
+        }
+        None => false,
     }
-    ask(lists::at8(&head, 0), &body[0..n]);
-    true
 }
 
 // The bound stands in for the end of the input, which no contract speaks of.
 fn main() {
-    let mut i: u32 = 0;
-    while i < 4000000 {
+    for _ in 0..4000000 {
         if !next() {
             return;
         }
-        i += 1;
     }
 }

@@ -1,11 +1,7 @@
-use Rattle.boundary.specs.Replies.{in_turn}
-use lib.ListN.{length, drop}
-use Prim.Native.Nat.{◌≤◌, ◌-◌}
 use mathlib.Core.Path.{◌≡◌}
+use lib.ListN.{drop}
+use Rattle.boundary.specs.Replies.{in_turn}
 use Rattle.boundary.proofs.in_turn.Given as goal
 
-abbrev pub invariant-loop-k : goal.invariant-loop-k
-invariant-loop-k l = (l.k ≤ length l.predicates) × (in_turn l.p l.facts (drop l.k l.predicates) l.k ≡ in_turn l.p l.initial.facts l.predicates 0)
-
-abbrev pub decreases-loop-k : goal.decreases-loop-k
-decreases-loop-k l = length l.predicates - l.k
+abbrev pub invariant-loop-place : goal.invariant-loop-place
+invariant-loop-place l = in_turn l.p l.f (drop l.place l.predicates) l.place ≡ in_turn l.p l.initial.f l.predicates 0

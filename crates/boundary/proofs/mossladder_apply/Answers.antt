@@ -1,14 +1,6 @@
-use Rattle.writing.proofs.Wrotes.{wrote_as}
-use Rattle.boundary.specs.Replies.{apply_reply}
-use Rattle.boundary.proofs.ReplyLaws.{plan-refused, plan-read}
+use borrow.Author.Rules.{rules}
+use Rattle.writing.proofs.Writings.{written_out}
 use Rattle.boundary.proofs.mossladder_apply.Goals as goal
 
-pub returns-then-reading_number-ne0 : goal.returns-then-reading_number-ne0
-returns-then-reading_number-ne0 c =
-    wrote_as _ _ _ _ _ _ c.refused_reading.ensures (plan-refused (apply_reply c.args.operator c.args.predicates.now) _ _
-    c.read-a.ensures _ c.reading_number.ensures c.if-reading_number-ne0.true)
-
 pub returns : goal.returns
-returns c =
-    wrote_as _ _ _ _ _ _ c.apply_plan.ensures (plan-read (apply_reply c.args.operator c.args.predicates.now) _ _
-    c.read-a.ensures _ c.reading_number.ensures c.if-reading_number-ne0.false)
+returns c = written_out _ _ _ _ _ c.new-w.ensures.bytes c.new-w.ensures.start c.read_and_apply.ensures (search rules)

@@ -1,6 +1,9 @@
+use borrow.Author.Rules.{rules}
+use Rattle.writing.proofs.Writings.{written_out}
 use Rattle.boundary.proofs.ReplyLaws.{facts-said}
-use Rattle.writing.proofs.Wrotes.{wrote_as}
 use Rattle.boundary.proofs.mossladder_facts.Goals as goal
 
 pub returns : goal.returns
-returns c = wrote_as _ _ _ _ _ _ c.known_reply.ensures (facts-said _ _ c.of_last-k.ensures)
+returns c =
+    written_out _ _ _ _ _ c.new-w.ensures.bytes c.new-w.ensures.start (rw (c.of_last.ensures, facts-said) at c.known_reply.ensures)
+    (search rules)

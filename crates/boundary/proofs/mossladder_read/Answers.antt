@@ -1,8 +1,6 @@
-use Rattle.boundary.proofs.ReplyLaws.{read-said}
-use Rattle.writing.proofs.Wrotes.{wrote_as, wrote_then}
+use borrow.Author.Rules.{rules}
+use Rattle.writing.proofs.Writings.{written_out}
 use Rattle.boundary.proofs.mossladder_read.Goals as goal
 
 pub returns : goal.returns
-returns c =
-    wrote_as _ _ _ _ _ _ (wrote_then _ _ _ _ _ _ _ _ c.refused_reading-q.ensures c.refused_reading-q.auto.out
-    c.write.ensures) (read-said _ _ c.read-a.ensures)
+returns c = written_out _ _ _ _ _ c.new-w.ensures.bytes c.new-w.ensures.start c.read.ensures (search rules)
