@@ -34,7 +34,7 @@ pub struct Wanted {
 
 // What a reading knows between two records. `scans` has for each column the Scan operator that has it: with it the test for a second Scan takes one
 // look.
-#[derive(Clone, Copy)]
+#[derive(Drop)]
 struct Reader {
     at: usize,
     wanted: Wanted,
@@ -113,7 +113,7 @@ impl Wanted {
         }
     }
 
-    // The kind of item that is wanted next, 0 where none is.
+    // The kind of item that is wanted next; 0, which is no kind, where none is: so the definition has it that the contract names.
     #[tactic(auto, unfolding(crate::specs::Steps::kind_wanted))]
     fn kind(self) -> u8
         ensures { result ≡ kind_wanted self }
