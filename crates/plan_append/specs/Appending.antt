@@ -1,5 +1,5 @@
 -- Appending to one table of a plan: the table with one entry more and the entry's place, or Room and the table as it was. Assumes nothing.
-use Rattle.std.specs.Prelude.{ℕ, cond, List, ltb, Ok, Err, Result}
+use Rattle.std.specs.Prelude.{ℕ, cond, ltb, Ok, Err, Result}
 use Rattle.plan_kinds.specs.declared.Record.{Record}
 use Rattle.plan.specs.Plans.{expression_pushed, item_pushed, operator_pushed}
 use Rattle.plan.specs.declared.AppendError.{AppendError}
@@ -7,16 +7,6 @@ use Rattle.plan.specs.declared.AppendError.TheVariants.{Room}
 use Rattle.plan.specs.declared.Expressions.{Expressions}
 use Rattle.plan.specs.declared.Items.{Items}
 use Rattle.plan.specs.declared.Operators.{Operators}
-
--- the tables, from their arrays and how many entries there are
-abbrev pub exprs_of : List ℕ → List ℕ → List ℕ → List ℕ → List ℕ → List ℕ → ℕ → Expressions
-exprs_of kind code a b start bits n = record { count = n; kind = kind; code = code; a = a; b = b; start = start; bits = bits }
-
-abbrev pub items_of : List ℕ → List ℕ → ℕ → Items
-items_of a b n = record { count = n; a = a; b = b }
-
-abbrev pub operators_of : List ℕ → List ℕ → List ℕ → List ℕ → List ℕ → List ℕ → List ℕ → ℕ → Operators
-operators_of kind code a b c d start n = record { count = n; kind = kind; code = code; a = a; b = b; c = c; d = d; start = start }
 
 -- a table after appending, and the place of what was appended, if there was room
 pub record Grew (T : Type 0) : Type 0 where
