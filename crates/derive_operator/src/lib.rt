@@ -246,6 +246,7 @@ pub fn step(
     }
 }
 
+// The input, or the outer one. An operator without one gets 0, as in the definition: no answer of an input is looked at then.
 pub fn outer_of(op: OperatorData) -> u16
     ensures { result ≡ outer_of op }
 {
@@ -265,6 +266,7 @@ pub fn outer_of(op: OperatorData) -> u16
     }
 }
 
+// The inner input, likewise.
 pub fn inner_of(op: OperatorData) -> u16
     ensures { result ≡ inner_of op }
 {
