@@ -1,5 +1,5 @@
 // The listing of facts, written by the caller's writer; 16,384 bytes hold every listing.
-#![tactic(auto, using(crate::proofs::Loops::line_loop))]
+#![tactic(auto)]
 
 ghost use Rattle.std.specs.Prelude.{◌≡◌, ℕ, ◌≤◌, ◌<◌, eqb, get_or, length};
 ghost use Rattle.lists.specs.Ranges.{count_from};
@@ -36,7 +36,6 @@ fn define_lines(w: &mut Writer, definitions: &[u16; 64])
     }
 }
 
-#[tactic(auto, using(crate::proofs::Classes::counted), unfolding(crate::specs::Listing::members_in))]
 fn members_in(roots: &[u8; 128], r: u8) -> usize
     ensures { result ≡ members_in (λ (i : ℕ). get_or roots.now i 0) r }
 {

@@ -1,5 +1,5 @@
 // The lines of a listing.
-#![tactic(auto, using(writing::proofs::Writings::steps))]
+#![tactic(auto)]
 
 ghost use Rattle.std.specs.Prelude.{◌≡◌, ℕ, ◌-◌};
 ghost use Rattle.scalar.specs.Scalars.{Typed};
@@ -20,6 +20,7 @@ fn flag(w: &mut Writer, b: bool)
 }
 
 // b or d, and the column.
+#[tactic(auto, using(writing::proofs::Writings::steps))]
 fn id(w: &mut Writer, v: ValueId)
     ensures { w.new ≡ written w.old (id_text v) }
 {
