@@ -1,7 +1,7 @@
 -- The action that a conjunct is makes of a set what the definition of applying says. Assumes nothing.
 use Rattle.std.proofs.Common.{Some, None, Option}
 use Prim.Native.Nat.{ℕ}
-use mathlib.Core.Path.{◌≡◌, refl, sym, ap, ◌∙◌}
+use mathlib.Core.Path.{◌≡◌, refl, sym, ap, subst, ◌∙◌}
 use mathlib.Core.Bool.{Bool, true, false, cond}
 use mathlib.Core.List.{List}
 use native.Mathlib.Omega.{arith}
@@ -162,6 +162,10 @@ ways_proper = record {
 pub proper : (lineage : List ℕ) (node : ℕ → ExprData) (h : ℕ) → Proper (action_of lineage node h)
 unfolding action_of
 proper lineage node h = node-each Proper actions ways_proper lineage node (node h)
+
+-- the same of what `action_of` answers
+pub is_proper : (lineage : List ℕ) (node : ℕ → ExprData) (h : ℕ) (act : Action) → act ≡ action_of lineage node h → Proper act
+is_proper lineage node h act e = subst Proper (sym e) (proper lineage node h)
 
 -- ---- an operand that is neither a column with lineage nor a literal leaves a residual
 pub unseen_left : (op : BinaryOp) (r : Seen) → operands_action op Unseen r ≡ Residual

@@ -30,21 +30,11 @@ use Rattle.constraint_spec.specs.declared.ConstraintSet.{ConstraintSet}
 use Rattle.constraint_spec.proofs.Operations.{union_one}
 use Rattle.constraint_set.specs.Checked.{Checked}
 use Rattle.constraint_set.proofs.Checking.{just_checked, unchecked, one-place_only, check_again}
-use Rattle.apply_action.specs.Actions.{acted, first_of, second_of, is_checking, is_residual, recorded_in, Proper}
+use Rattle.apply_action.specs.Actions.{acted, first_of, second_of, is_checking, is_residual, joined_by, recorded_in, Proper}
 use Rattle.apply_action.specs.Cells.{Long, cell_of, with_cell, flagged_cell, non_null_cell, literal_cell, bound_cell, entry_cell, cell_after}
 use Rattle.apply_action.specs.declared.Cell.{Cell}
 use Rattle.apply_action.specs.declared.Action.{Action}
 use Rattle.apply_action.specs.declared.Action.TheVariants.{Nothing, Contradiction, Residual, Same, Literal, Bound, Entry}
-
--- ---- the set after the classes are one, and after the rest of what is recorded
-abbrev pub joined_by : Action → ConstraintSet → ConstraintSet
-joined_by Nothing q = q
-joined_by Contradiction q = q
-joined_by Residual q = q
-joined_by (Same i j both) q = union_values q i j
-joined_by (Literal i v) q = q
-joined_by (Bound i op x) q = q
-joined_by (Entry i) q = q
 
 pub acted-is : (act : Action) (q : ConstraintSet) (h : ℕ)
     → acted act q h ≡ cond (is_residual act) (add_residual (recorded_in act (joined_by act q)) h) (done (recorded_in act (joined_by act q)))
@@ -86,6 +76,10 @@ first-low (Same i j both) p = p.0
 first-low (Literal i v) p = p.0
 first-low (Bound i op x) p = p.0
 first-low (Entry i) p = p
+
+-- the same of what `first` answers
+pub first_small : (act : Action) (n : ℕ) → n ≡ first_of act → Proper act → n < 128
+first_small act n e p = omega (arith, e, first-low act p)
 
 pub second-low : (act : Action) → Proper act → second_of act < 128
 second-low Nothing p = p

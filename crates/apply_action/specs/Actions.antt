@@ -116,6 +116,17 @@ is_residual (Literal i v) = false
 is_residual (Bound i op x) = false
 is_residual (Entry i) = true
 
+-- ---- what it makes of a set, in two steps
+-- the classes of its identities are one
+abbrev pub joined_by : Action → ConstraintSet → ConstraintSet
+joined_by Nothing q = q
+joined_by Contradiction q = q
+joined_by Residual q = q
+joined_by (Same i j both) q = union_values q i j
+joined_by (Literal i v) q = q
+joined_by (Bound i op x) q = q
+joined_by (Entry i) q = q
+
 -- what an action records in u, in which its two identities are in one class already
 abbrev pub recorded_in : Action → ConstraintSet → ConstraintSet
 recorded_in Nothing u = u

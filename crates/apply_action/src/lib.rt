@@ -8,7 +8,7 @@ ghost use Rattle.constraint_set.specs.Checked.{Checked};
 ghost use Rattle.plan_data.specs.Nodes.{node_from};
 ghost use Rattle.apply_spec.specs.Apply.{seen_of, is_null_literal};
 ghost use Rattle.apply_action.specs.Actions.{same_action, pair_action, range_action, literal_action, bound_action, reversed_action, operands_action};
-ghost use Rattle.apply_action.specs.Actions.{comparison_action, constant_action, action_of, first_of, second_of, is_checking, is_residual, recorded_in, Proper};
+ghost use Rattle.apply_action.specs.Actions.{comparison_action, constant_action, action_of, first_of, is_checking, is_residual, recorded_in, Proper};
 ghost use Rattle.apply_action.specs.Cells.{Long, cell_of, with_cell, literal_cell, bound_cell, entry_cell, cell_after};
 
 use apply_spec::Seen;
@@ -207,23 +207,15 @@ pub fn action_of(exprs: &Expressions, lineage: &[u8; 64], h: u16) -> Action
 
 impl Action {
     // The identity that it is about; 0 where there is none.
+    #[tactic(auto, using(crate::proofs::CellLaws::first_small))]
     pub fn first(self) -> usize
-        ensures { result ≡ first_of self }
+        ensures value { result ≡ first_of self }
+        ensures small { Proper self → result < 128 }
     {
         match self {
             Action::Same { left, .. } => left,
             Action::Literal(value, _) | Action::Bound(value, _, _) | Action::Entry(value) => value,
             Action::Nothing | Action::Contradiction | Action::Residual => 0,
-        }
-    }
-
-    // The one that is to be in its class.
-    pub fn second(self) -> usize
-        ensures { result ≡ second_of self }
-    {
-        match self {
-            Action::Same { right, .. } => right,
-            _ => self.first(),
         }
     }
 
@@ -338,14 +330,15 @@ impl Cell {
 }
 
 // What an action records in a set whose classes are joined for it already, at the representative `root` of its identity. Where the set is known
-// to be checked, only that place can have come to be crossed.
+// to be checked, only that place can have come to be crossed. That the set has an entry for each identity is said for those to whom it is lent.
 #[tactic(auto, using(crate::proofs::CellLaws::record_cases))]
 pub fn record(s: &mut ConstraintSet, root: usize, action: Action, checked: bool)
     requires root { root ≡ canonical_at s.old (first_of action) }
     requires root_bound { root < 128 }
     requires proper { Proper action }
     requires checked { checked ≡ true → Checked s.old }
-    ensures { s.new ≡ recorded_in action s.old }
+    ensures recorded { s.new ≡ recorded_in action s.old }
+    ensures long { Long s.old }
 {
     Cell::of(s, root).after(action).put(s, root);
     if !checked && action.is_checking() {

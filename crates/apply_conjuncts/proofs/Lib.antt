@@ -1,5 +1,2 @@
-pub mod Wides
-pub mod SetWide
-pub mod Joins
-pub mod Applying
-pub mod Alone
+pub mod KnownLaws
+pub mod Steps

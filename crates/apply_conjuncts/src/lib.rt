@@ -1,255 +1,161 @@
 // A list of conjuncts applied to a set where it lies. A set is 9 KB, so it is not handed on for a single conjunct.
 #![tactic(auto)]
 
-ghost use Rattle.std.specs.Prelude.{◌≡◌, true, not, ◌<◌, ◌≤◌, take};
-ghost use Rattle.value_classes.specs.Classes.{same_class};
-ghost use Rattle.constraint_spec.specs.Sets.{done, union_values};
-ghost use Rattle.constraint_set.specs.Settled.{Settled, united_roots};
-ghost use Rattle.plan_data.specs.Nodes.{node_of};
+ghost use Rattle.std.specs.Prelude.{◌≡◌, ◌<◌, cond};
+ghost use Rattle.constraint_spec.specs.Answers.{applied};
+ghost use Rattle.constraint_spec.specs.Sets.{canonical_at, done, add_residual};
+ghost use Rattle.plan_data.specs.Nodes.{node_from};
 ghost use Rattle.apply_spec.specs.Apply.{conjunct_applied, all_applied};
+ghost use Rattle.apply_action.specs.Actions.{first_of, is_residual, joined_by, Proper};
+ghost use Rattle.apply_conjuncts.specs.Knowing.{Knows};
 
-use apply_action::Cell;
-use constraint_spec::{Applied, ConstraintSet, Entry, Holder};
-use value_classes::{Roots, ValueEquivalenceClasses};
+use apply_action::Action;
+use constraint_spec::{ConstraintError, ConstraintSet};
+use plan::Expressions;
+use value_classes::Roots;
 
-// What stands at the representative b comes to a, the lower one: in a settled set that joins their classes.
-fn join_roots(s: ConstraintSet, a: usize, b: usize) -> ConstraintSet
-    requires a_lt_b { a < b }
-    requires b_bound { b < 128 }
-    ensures { result ≡ united_roots s a b }
-{
-    let n1 = s.non_null_values[a];
-    let n2 = s.non_null_values[b];
-    let h1 = s.literal_equalities[a];
-    let h2 = s.literal_equalities[b];
-    let e1 = s.ranges[a];
-    let e2 = s.ranges[b];
-    let p = constraint_set::place_of(h1, h2, e1, e2);
-    let h = p.literal;
-    let e = p.entry;
-    let no_literal = Holder::empty();
-    let no_entry = Entry::empty();
-    let mut q = s;
-    let old = q.equivalence_classes;
-    let classes = old.join_roots(a, b);
-    let was = q.contradictory;
-    q.equivalence_classes = classes;
-    q.non_null_values[a] = n1 | n2;
-    q.non_null_values[b] = false;
-    q.literal_equalities[a] = h;
-    q.literal_equalities[b] = no_literal;
-    q.ranges[a] = e;
-    q.ranges[b] = no_entry;
-    q.contradictory = was | p.bad;
-    q
+// What is known of a set while conjuncts are applied to it: the representative of each identity, whether everything stands at the
+// representatives, and whether it was checked.
+#[derive(Clone, Copy)]
+struct Known {
+    roots: Roots,
+    settled: bool,
+    checked: bool,
 }
 
-// Two classes joined. Where everything is known to stand at the representatives, only one place changes.
-fn join(s: ConstraintSet, left: usize, right: usize, settled: bool) -> ConstraintSet
-    requires left_bound { left < 128 }
-    requires right_bound { right < 128 }
-    requires settled { settled ≡ true → Settled s }
-    ensures { result ≡ union_values s left right }
+// The handle h kept, where its conjunct is residual.
+fn keep(s: &mut ConstraintSet, action: Action, h: u16) -> Result<(), ConstraintError>
+    ensures { applied s.new result ≡ cond (is_residual action) (add_residual s.old h) (done s.old) }
 {
-    if !settled {
-        return constraint_set::union_values(s, left, right);
+    if action.is_residual() {
+        constraint_set::add_residual(s, h)
+    } else {
+        Ok(())
     }
-    let classes = s.equivalence_classes;
-    let l = classes.canonical(left);
-    let r = classes.canonical(right);
-    if l < r {
-        return join_roots(s, l, r);
-    }
-    if r < l {
-        return join_roots(s, r, l);
-    }
-    s
 }
 
-// Whether two classes are to be joined. Most conjuncts are about one identity, and for these no parent is followed.
-fn apart(classes: ValueEquivalenceClasses, i: usize, j: usize) -> bool
-    ensures { result ≡ not (same_class classes i j) }
+// ---- one conjunct by itself
+
+// The classes of the identities that are to be in one.
+fn join(s: &mut ConstraintSet, action: Action)
+    ensures { s.new ≡ joined_by action s.old }
 {
-    if i == j {
-        return false;
+    if let Action::Same { left, right, .. } = action {
+        constraint_set::union_values(s, left, right);
     }
-    !classes.equivalent(i, j)
 }
 
-// One conjunct by itself. Parents are followed from its own identities only, so that a pass over all of them is made for the check and no more,
-// unless classes are joined.
-pub fn apply_one<'a>(
-    kind: &'a [u8],
-    code: &'a [u8],
-    a: &'a [u16],
-    b: &'a [u16],
-    bits: &'a [u64],
-    start: &'a [u16],
-    lineage: &'a [u8],
-    s: ConstraintSet,
+// Parents are followed from its own identities only, so that a pass over all of them is made for the check and no more, unless classes are
+// joined.
+#[tactic(auto, using(crate::proofs::Steps::one_conjunct))]
+pub fn apply_one(
+    exprs: &Expressions,
+    lineage: &[u8; 64],
+    s: &mut ConstraintSet,
     h: u16,
-) -> Applied
-    ensures { result ≡ conjunct_applied lineage.now (node_of kind.now code.now a.now b.now bits.now
-        start.now) s h }
+) -> Result<(), ConstraintError>
+    ensures { applied s.new result ≡ conjunct_applied lineage.now (node_from exprs.now) s.old h }
 {
-    let action = apply_action::action_of(kind, code, a, b, bits, start, lineage, h);
-    let i = apply_action::first_of(action);
-    let j = apply_action::second_of(action);
-    let mut q = s;
-    let classes = s.equivalence_classes;
-    if apart(classes, i, j) {
-        q = constraint_set::union_values(q, i, j);
+    let action = apply_action::action_of(exprs, lineage, h);
+    join(s, action);
+    let root = constraint_set::canonical(s, action.first());
+    apply_action::record(s, root, action, false);
+    keep(s, action, h)
+}
+
+// ---- one after the other
+
+impl Known {
+    // Of a set of which nothing is known yet but its classes.
+    fn of(s: &ConstraintSet) -> Known
+        ensures { Knows s.now result }
+    {
+        Known {
+            roots: s.equivalence_classes.roots(),
+            settled: false,
+            checked: false,
+        }
     }
-    let joined = q.equivalence_classes;
-    let r = joined.canonical(i);
-    let literal = q.literal_equalities[r];
-    let entry = q.ranges[r];
-    let non_null = q.non_null_values[r];
-    let old = Cell {
-        non_null,
-        literal,
-        entry,
-        contradictory: q.contradictory,
+}
+
+// The classes of the identities that are to be in one. A join leaves everything at the representatives, if no parent is above its child, and
+// what conjuncts record is put there: so the next join changes one place only.
+#[tactic(auto, using(crate::proofs::KnownLaws::pair_joined))]
+fn join_known(s: &mut ConstraintSet, known: &mut Known, action: Action)
+    requires knows { Knows s.old known.old }
+    requires proper { Proper action }
+    ensures joined { s.new ≡ joined_by action s.old }
+    ensures knows { Knows s.new known.new }
+{
+    let Action::Same { left, right, .. } = action else {
+        return;
     };
-    let new = apply_action::cell_after(old, action);
-    let kept_literal = new.literal;
-    let kept_entry = new.entry;
-    q.non_null_values[r] = new.non_null;
-    q.literal_equalities[r] = kept_literal;
-    q.ranges[r] = kept_entry;
-    q.contradictory = new.contradictory;
-    if apply_action::is_checking(action) {
-        q = constraint_set::cross_check_literals_and_ranges(q);
-    }
-    let list = q.residual_predicates;
-    let kept = apply_action::residuals_after(
-        list,
-        q.residuals,
-        h,
-        apply_action::is_residual(action),
-    );
-    let longer = kept.list;
-    q.residual_predicates = longer;
-    q.residuals = kept.count;
-    Applied {
-        constraints: q,
-        refused: kept.refused,
+    if known.roots.of[left] != known.roots.of[right] {
+        let settled = constraint_merge::join_values(s, left, right, known.settled);
+        *known = Known {
+            roots: s.equivalence_classes.roots(),
+            settled,
+            checked: true,
+        };
     }
 }
 
-// The first `count` handles, one after the other. It goes on after the flag is set, and ends where a 65th residual is wanted. Representatives are
-// looked up in a table, and where the set was checked once, a change asks for a check of its own place only. A join leaves everything at the
-// representatives, if no parent is above its child, and what conjuncts record is put there: so the next join changes one place only.
-fn apply_found<'a>(
-    kind: &'a [u8],
-    code: &'a [u8],
-    a: &'a [u16],
-    b: &'a [u16],
-    bits: &'a [u64],
-    start: &'a [u16],
-    lineage: &'a [u8],
-    s: ConstraintSet,
-    handles: [u16; 2048],
-    count: usize,
-) -> Applied
-    requires { count ≤ 2048 }
-    ensures { result ≡ all_applied
-        (conjunct_applied lineage.now (node_of kind.now code.now a.now b.now bits.now
-        start.now)) (take count handles) (done s) }
+// Representatives are looked up in a table, and where the set was checked once, a change asks for a check of its own place only.
+#[tactic(auto, using(crate::proofs::Steps::known_conjunct))]
+fn apply_known(
+    exprs: &Expressions,
+    lineage: &[u8; 64],
+    s: &mut ConstraintSet,
+    known: &mut Known,
+    h: u16,
+) -> Result<(), ConstraintError>
+    requires { Knows s.old known.old }
+    ensures applied { applied s.new result ≡ conjunct_applied lineage.now (node_from exprs.now) s.old h }
+    ensures knows { Knows s.new known.new }
 {
-    let mut q = s;
-    let classes = s.equivalence_classes;
-    let mut roots = classes.roots();
-    let mut settled = false;
-    let mut checked = false;
-    let mut refused = false;
-    let mut k: usize = 0;
-    while (k < count) & !refused {
-        let h = handles[k];
-        let action = apply_action::action_of(kind, code, a, b, bits, start, lineage, h);
-        let i = apply_action::first_of(action);
-        let j = apply_action::second_of(action);
-        if roots.of[i] != roots.of[j] {
-            q = join(q, i, j, settled);
-            let joined = q.equivalence_classes;
-            roots = joined.roots();
-            settled = joined.parents_ok();
-            checked = true;
-        }
-        let r = roots.of[i] as usize;
-        let literal = q.literal_equalities[r];
-        let entry = q.ranges[r];
-        let old = Cell {
-            non_null: q.non_null_values[r],
-            literal,
-            entry,
-            contradictory: q.contradictory,
-        };
-        let new = apply_action::cell_after(old, action);
-        let kept_literal = new.literal;
-        let kept_entry = new.entry;
-        q.non_null_values[r] = new.non_null;
-        q.literal_equalities[r] = kept_literal;
-        q.ranges[r] = kept_entry;
-        q.contradictory = new.contradictory;
-        if !checked & apply_action::is_checking(action) {
-            q = constraint_set::cross_check_literals_and_ranges(q);
-            checked = true;
-        }
-        let list = q.residual_predicates;
-        let kept = apply_action::residuals_after(
-            list,
-            q.residuals,
-            h,
-            apply_action::is_residual(action),
-        );
-        let longer = kept.list;
-        q.residual_predicates = longer;
-        q.residuals = kept.count;
-        refused = kept.refused;
-        k += 1;
-    }
-    Applied {
-        constraints: q,
-        refused,
-    }
+    let action = apply_action::action_of(exprs, lineage, h);
+    join_known(s, known, action);
+    let root = usize::from(known.roots.of[action.first()]);
+    apply_action::record(s, root, action, known.checked);
+    known.checked |= action.is_checking();
+    keep(s, action, h)
 }
 
-// The same for any number: all handles where it is above their number. A table and a check of all places cost three passes over the identities, which
-// three conjuncts or more share;
-// one or two have at most one each without a table.
-pub fn apply_handles<'a>(
-    kind: &'a [u8],
-    code: &'a [u8],
-    a: &'a [u16],
-    b: &'a [u16],
-    bits: &'a [u64],
-    start: &'a [u16],
-    lineage: &'a [u8],
-    s: ConstraintSet,
-    handles: [u16; 2048],
-    count: usize,
-) -> Applied
-    ensures { result ≡ all_applied
-        (conjunct_applied lineage.now (node_of kind.now code.now a.now b.now bits.now
-        start.now)) (take count handles) (done s) }
+// It goes on after the flag is set, and ends where a 65th residual is wanted.
+#[tactic(auto, using(crate::proofs::Steps::listed_conjuncts))]
+fn apply_all(
+    exprs: &Expressions,
+    lineage: &[u8; 64],
+    s: &mut ConstraintSet,
+    handles: &[u16],
+) -> Result<(), ConstraintError>
+    ensures { applied s.new result ≡ all_applied (conjunct_applied lineage.now (node_from exprs.now)) handles.now (done s.old) }
 {
-    if 2048 < count {
-        return apply_found(kind, code, a, b, bits, start, lineage, s, handles, 2048);
+    let mut known = Known::of(s);
+    for h in handles {
+        apply_known(exprs, lineage, s, &mut known, *h)?;
     }
-    if 2 < count {
-        return apply_found(kind, code, a, b, bits, start, lineage, s, handles, count);
+    Ok(())
+}
+
+// A table and a check of all places cost three passes over the identities, which three conjuncts or more share; one or two have at most one each
+// without a table.
+#[tactic(auto, using(crate::proofs::Steps::few_conjuncts))]
+pub fn apply_handles(
+    exprs: &Expressions,
+    lineage: &[u8; 64],
+    s: &mut ConstraintSet,
+    handles: &[u16],
+) -> Result<(), ConstraintError>
+    ensures { applied s.new result ≡ all_applied (conjunct_applied lineage.now (node_from exprs.now)) handles.now (done s.old) }
+{
+    match handles {
+        [] => Ok(()),
+        [h] => apply_one(exprs, lineage, s, *h),
+        [first, second] => {
+            apply_one(exprs, lineage, s, *first)?;
+            apply_one(exprs, lineage, s, *second)
+        }
+        _ => apply_all(exprs, lineage, s, handles),
     }
-    if count == 0 {
-        return Applied {
-            constraints: s,
-            refused: false,
-        };
-    }
-    let first = apply_one(kind, code, a, b, bits, start, lineage, s, handles[0]);
-    if first.refused | (count == 1) {
-        return first;
-    }
-    let t = first.constraints;
-    apply_one(kind, code, a, b, bits, start, lineage, t, handles[1])
 }

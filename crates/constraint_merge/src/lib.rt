@@ -16,7 +16,7 @@ use value_classes::{Members, ValueEquivalenceClasses};
 // Two identities joined. The first union that joins two classes moves everything to the representatives; from then on it stands there, if no
 // parent is above its child: that is what `settled` says of the set, and what the answer says of it afterwards.
 #[tactic(auto, using(crate::proofs::Uniting::values_joined))]
-fn join_values(s: &mut ConstraintSet, left: usize, right: usize, settled: bool) -> bool
+pub fn join_values(s: &mut ConstraintSet, left: usize, right: usize, settled: bool) -> bool
     requires left_bound { left < 128 }
     requires right_bound { right < 128 }
     requires settled { settled ≡ true → Settled s.old }

@@ -118,7 +118,8 @@ impl ValueEquivalenceClasses {
     // Where parents are in order, the parent's representative is known when the child's turn comes, and no chain is walked.
     #[tactic(auto, unfolding(crate::specs::Parents::each, crate::specs::Listed::roots_of), using(crate::proofs::MemberLaws::roots_loop))]
     pub fn roots(&self) -> Roots
-        ensures { result ≡ roots_of self.now }
+        ensures value { result ≡ roots_of self.now }
+        ensures whole { Whole self.now }
     {
         let in_order = self.parents_ok();
         let mut of = [0u8; 128];

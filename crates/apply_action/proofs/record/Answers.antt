@@ -3,8 +3,8 @@ use Rattle.apply_action.proofs.CellLaws.{when_checked, when_nothing_to_check}
 use Rattle.apply_action.proofs.record.Goals as goal
 use Rattle.apply_action.proofs.record.Goals.{else-not-checked-via-then-not-checked+else-is_checking, else-not-checked-via-else-not-checked}
 
-pub returns-else-not-checked : goal.returns-else-not-checked
-returns-else-not-checked c =
+pub returns-else-not-checked-clause-recorded : goal.returns-else-not-checked-clause-recorded
+returns-else-not-checked-clause-recorded c =
     let r = c.requires in
     elim c.else-not-checked.branch [
       | else-not-checked-via-then-not-checked+else-is_checking w ↦ when_nothing_to_check _ _ _ _ _ _ _ _ r.root r.root_bound r.proper r.checked

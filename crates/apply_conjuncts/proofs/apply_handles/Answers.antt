@@ -1,37 +1,15 @@
-use borrow.Author.Rules.{rules}
-use mathlib.Core.Path.{◌≡◌}
-use Prim.Native.Nat.{◌≤◌}
-use lib.ListN.{length}
-use Rattle.plan_data.specs.Nodes.{node_of}
-use Rattle.apply_spec.specs.Apply.{conjunct_applied}
-use Rattle.apply_conjuncts.proofs.Alone.{all-taken, few-none, few-first, few-second}
+use mathlib.Core.Path.{refl}
+use native.Mathlib.Omega.{arith}
+use Rattle.apply_conjuncts.proofs.Steps.{one_applied, first_refused, both_applied}
 use Rattle.apply_conjuncts.proofs.apply_handles.Goals as goal
 
-pub returns-then-count-gt2048 : goal.returns-then-count-gt2048
-returns-then-count-gt2048 c =
-    let args = c.args in
-    all-taken ((conjunct_applied c.args.lineage.now (node_of c.args.kind.now c.args.code.now c.args.a.now c.args.b.now c.args.bits.now
-    c.args.start.now))) args.s args.handles args.count ((let fact : length c.args.handles ≡ 2048 = search rules in fact)) c.if-count-gt2048.true
-    c.apply_found.result c.apply_found.ensures
+pub returns-in-len1 : goal.returns-in-len1
+returns-in-len1 c = one_applied _ _ _ _ c.args.handles.now c.apply_one.ensures (omega arith) (omega arith)
 
-pub returns-then-count-eq0 : goal.returns-then-count-eq0
-returns-then-count-eq0 c =
-    let args = c.args in
-    few-none ((conjunct_applied c.args.lineage.now (node_of c.args.kind.now c.args.code.now c.args.a.now c.args.b.now c.args.bits.now
-    c.args.start.now))) args.s args.handles args.count c.if-count-eq0.true
+pub returns-in_err-apply_one-in-len2 : goal.returns-in_err-apply_one-in-len2
+returns-in_err-apply_one-in-len2 c =
+    first_refused _ _ _ _ c.args.handles.now c.in_err-apply_one-in-len2.ensures (omega arith) (omega arith) _ c.from_residual.ensures.0 refl
 
-pub returns-then-first-count : goal.returns-then-first-count
-returns-then-first-count c =
-    let args = c.args in
-    few-first ((conjunct_applied c.args.lineage.now (node_of c.args.kind.now c.args.code.now c.args.a.now c.args.b.now c.args.bits.now
-    c.args.start.now))) args.s args.handles args.count ((let fact : length c.args.handles ≡ 2048 = search rules in fact))
-    ((let few : c.args.count ≤ 2 = search rules in few)) c.if-count-eq0.false c.apply_one-first.result
-    c.apply_one-first.ensures c.if-first-count.true
-
-pub returns : goal.returns
-returns c =
-    let args = c.args in
-    few-second ((conjunct_applied c.args.lineage.now (node_of c.args.kind.now c.args.code.now c.args.a.now c.args.b.now c.args.bits.now
-    c.args.start.now))) args.s args.handles args.count ((let fact : length c.args.handles ≡ 2048 = search rules in fact))
-    ((let few : c.args.count ≤ 2 = search rules in few)) c.if-count-eq0.false c.apply_one-first.result
-    c.apply_one-first.ensures c.if-first-count.false c.apply_one.result c.apply_one.ensures
+pub returns-in_ok-apply_one-in-len2 : goal.returns-in_ok-apply_one-in-len2
+returns-in_ok-apply_one-in-len2 c =
+    both_applied _ _ _ _ c.args.handles.now c.in_ok-apply_one-in-len2.ensures (omega arith) (omega arith) refl _ c.apply_one-in-len2-2.ensures

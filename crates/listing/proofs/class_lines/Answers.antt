@@ -8,4 +8,4 @@ pub returns : goal.returns
 unfolding class_lines
 returns c =
     let e : c.loop-r.r ≡ 128 = omega arith in
-    rw (← table_same c.args.ids.now _ _ c.roots-roots.ensures) (rw e at c.loop-r.invariant)
+    rw (← table_same c.args.ids.now _ _ c.roots-roots.ensures.value) (rw e at c.loop-r.invariant)
