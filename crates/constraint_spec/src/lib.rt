@@ -24,6 +24,7 @@ pub struct Entry {
 }
 
 // The residual predicates are expression handles, as many as `residuals` says.
+// An array for each of the Rust's maps, with an entry for each identity, and a list with its count: that is a rule of the project.
 #[derive(Clone, Copy)]
 pub struct ConstraintSet {
     pub equivalence_classes: ValueEquivalenceClasses,
