@@ -7,10 +7,10 @@ use Rattle.constraint_spec.specs.Sets.{canonical_at, add_residual, done}
 use Rattle.constraint_spec.specs.declared.ConstraintSet.{ConstraintSet}
 use Rattle.constraint_spec.specs.Answers.{Applied}
 use Rattle.constraint_normal.specs.Ready.{Ready}
-use Rattle.apply_action.specs.Actions.{acted, first_of, second_of, is_residual, recorded_in, Proper}
+use Rattle.apply_action.specs.Actions.{acted, first_of, second_of, is_residual, recorded_in, Proper, joined_by}
 use Rattle.apply_action.specs.declared.Action.{Action}
 use Rattle.apply_action.specs.declared.Action.TheVariants.{Nothing, Contradiction, Residual, Same, Literal, Bound, Entry}
-use Rattle.apply_action.proofs.CellLaws.{joined_by, acted-is, joined-together}
+use Rattle.apply_action.proofs.CellLaws.{acted-is, joined-together}
 use Rattle.apply_shared_laws.specs.Has.{Numbered, Has}
 use Rattle.apply_shared_laws.proofs.CellTwice.{Plain}
 use Rattle.apply_shared_laws.proofs.Keeping.{Keeps, keeps_self, keeps-cell, keeps-has}

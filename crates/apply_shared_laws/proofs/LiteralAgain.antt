@@ -21,12 +21,12 @@ use Rattle.constraint_spec.specs.declared.Holder.{Holder}
 use Rattle.constraint_spec.specs.declared.ConstraintSet.{ConstraintSet}
 use Rattle.constraint_spec.specs.Answers.{Applied}
 use Rattle.constraint_normal.specs.Ready.{Ready}
-use Rattle.apply_action.specs.Actions.{acted, first_of, is_residual, recorded_in, Proper}
+use Rattle.apply_action.specs.Actions.{acted, first_of, is_residual, recorded_in, Proper, joined_by}
 use Rattle.apply_action.specs.Cells.{cell_of, with_cell, flagged_cell, cell_after}
 use Rattle.apply_action.specs.declared.Action.{Action}
 use Rattle.apply_action.specs.declared.Action.TheVariants.{Nothing, Contradiction, Residual, Same, Literal, Bound, Entry}
 use Rattle.apply_action.specs.declared.Cell.{Cell}
-use Rattle.apply_action.proofs.CellLaws.{joined_by, acted-is}
+use Rattle.apply_action.proofs.CellLaws.{acted-is}
 use Rattle.apply_shared_laws.specs.Has.{Numbered, Has}
 use Rattle.apply_shared_laws.proofs.Growing.{true-of-and-not-false}
 use Rattle.apply_shared_laws.proofs.Recording.{recorded-is, recorded_ready}
