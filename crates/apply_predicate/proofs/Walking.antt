@@ -1,13 +1,11 @@
 -- The conjuncts of a walk applied as they are found, from its start to its end. Assumes nothing.
-use Rattle.std.proofs.Common.{Ok, Err, Result}
-use Prim.Native.Nat.{ℕ, suc, ◌<◌, ◌≤◌}
+use Prim.Native.Nat.{ℕ, suc}
 use mathlib.Core.Path.{◌≡◌, refl, sym, ap, ◌∙◌}
-use mathlib.Core.Bool.{Bool, true, false, cond}
+use mathlib.Core.Bool.{true, false, cond}
 use mathlib.Core.List.{List, [], ◌∷◌, ◌++◌, append-nil}
 use native.Mathlib.Omega.{arith}
-use Rattle.constraint_spec.specs.Answers.{Applied, applied, is_refused}
+use Rattle.constraint_spec.specs.Answers.{Applied}
 use Rattle.constraint_spec.specs.Sets.{done}
-use Rattle.constraint_spec.specs.declared.ConstraintError.{ConstraintError}
 use Rattle.constraint_spec.specs.declared.ConstraintSet.{ConstraintSet}
 use Rattle.constraint_normal.specs.Ready.{Ready}
 use Rattle.plan.specs.declared.Expressions.{Expressions}
@@ -49,19 +47,19 @@ module _ (t : Expressions) (items lineage : List ℕ) where
   abbrev pub Left : List ℕ → ConstraintSet → Walk → ConstraintSet → Type 0
   Left hs s w q = all_applied conjunct hs (done s) ≡ all_applied conjunct (rest w) (done q)
 
-  module _ {hs : List ℕ} {s : ConstraintSet} {w v : Walk} {q z : ConstraintSet} {found : List ℕ} (had : Left hs s w q) (some : rest w ≡ found ++ rest v) where
+  module _ (hs : List ℕ) (s : ConstraintSet) (w v : Walk) (q : ConstraintSet) (found : List ℕ) (had : Left hs s w q) (some : rest w ≡ found ++ rest v) where
     split : all_applied conjunct hs (done s) ≡ all_applied conjunct (rest v) (all_applied conjunct found (done q))
     split = had ∙ ap (λ (l : List ℕ). all_applied conjunct l (done q)) some ∙ after found (rest v) (done q)
 
-    pub some_more : done z ≡ all_applied conjunct found (done q) → Left hs s v z
-    some_more e = split ∙ ap (all_applied conjunct (rest v)) (sym e)
+    pub some_more : (z : ConstraintSet) → done z ≡ all_applied conjunct found (done q) → Left hs s v z
+    some_more z e = split ∙ ap (all_applied conjunct (rest v)) (sym e)
 
     pub refused_on : (a : Applied) → a.refused ≡ true → a ≡ all_applied conjunct found (done q) → a ≡ all_applied conjunct hs (done s)
     refused_on a r e = sym (split ∙ ap (all_applied conjunct (rest v)) (sym e) ∙ refused-stays conjunct (rest v) a r)
 
-  pub walk_done : {hs : List ℕ} {s : ConstraintSet} {w : Walk} {q : ConstraintSet} → Left hs s w q → w.depth ≡ 0 → done q ≡ all_applied conjunct hs (done s)
+  pub walk_done : (hs : List ℕ) (s : ConstraintSet) (w : Walk) (q : ConstraintSet) → Left hs s w q → w.depth ≡ 0 → done q ≡ all_applied conjunct hs (done s)
   unfolding all_applied
-  walk_done {w = w} {q = q} had e = sym (had ∙ ap (λ (l : List ℕ). all_applied conjunct l (done q)) (nothing_left t items w e))
+  walk_done hs s w q had e = sym (had ∙ ap (λ (l : List ℕ). all_applied conjunct l (done q)) (nothing_left t items w e))
 
   -- an expression that is no And is its own conjunct
   pub alone_applied : (e : ℕ) → and_in t e ≡ false → (s : ConstraintSet) → conjunct s e ≡ all_applied conjunct (whole e) (done s)
@@ -93,5 +91,3 @@ module _ (t : Expressions) (items lineage : List ℕ) where
     pub thinned_all : (ks : List ℕ) → Ready s → Thinned [] (whole e) ks → (r : Applied) → r ≡ all_applied conjunct ks (done s) → Handed r
     thinned_all ks ready thin r er =
         ap (or_given s) er ∙ sym (ends_are_enough lineage t.kind t.code t.a t.b t.bits t.start (whole e) ks s ready thin)
-
-pub ruleset walk_loop = (some_more, refused_on, walk_done)

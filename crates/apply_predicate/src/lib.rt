@@ -78,7 +78,6 @@ fn walk_of(exprs: &Expressions, items: &Items, e: u16) -> Walk
 }
 
 // What is to come in a walk.
-#[tactic(auto, using(crate::proofs::Walking::walk_loop))]
 fn apply_walk(
     exprs: &Expressions,
     items: &Items,
@@ -142,7 +141,25 @@ fn apply_and(
     }
 }
 
-// All conjuncts of the expression e. A refusal leaves the set as it was.
+// All conjuncts of the expression e.
+fn apply_any(
+    exprs: &Expressions,
+    items: &Items,
+    lineage: &[u8; 64],
+    s: &mut ConstraintSet,
+    e: u16,
+) -> Result<(), ConstraintError>
+    ensures { or_given s.old (applied s.new result) ≡ or_given s.old
+        (all_applied (conjunct_applied lineage.now (node_from exprs.now)) (conjuncts_of (node_from exprs.now) items.now.a e) (done s.old)) }
+{
+    if apply_walk::is_and(exprs, e) {
+        apply_and(exprs, items, lineage, s, e)
+    } else {
+        apply_conjuncts::apply_one(exprs, lineage, s, e)
+    }
+}
+
+// The same, but a refusal leaves the set as it was.
 fn apply_to(
     exprs: &Expressions,
     items: &Items,
@@ -154,11 +171,7 @@ fn apply_to(
         (all_applied (conjunct_applied lineage.now (node_from exprs.now)) (conjuncts_of (node_from exprs.now) items.now.a e) (done s.old)) }
 {
     let given = *s;
-    let answer = if apply_walk::is_and(exprs, e) {
-        apply_and(exprs, items, lineage, s, e)
-    } else {
-        apply_conjuncts::apply_one(exprs, lineage, s, e)
-    };
+    let answer = apply_any(exprs, items, lineage, s, e);
     if answer.is_err() {
         *s = given;
     }
@@ -166,10 +179,17 @@ fn apply_to(
 }
 
 // All conjuncts of an expression of the plan, applied to facts that keep the rules of facts. A refusal leaves the facts as they were.
+#[tactic(auto, using(crate::proofs::Answering::facts_in, crate::proofs::Answering::facts_back), unfolding(apply_spec::specs::Entries::predicate_applied))]
 pub fn apply_to_facts(p: &Plan, f: &mut LogicalFacts, e: Expr) -> Result<(), FactsError>
     ensures { told f.new result ≡ applied_to p.now f.old e }
 {
-    apply_to(&p.expressions, &p.items, &f.lineage, &mut f.constraints, e.0)?;
+    apply_to(
+        &p.expressions,
+        &p.items,
+        &f.lineage,
+        &mut f.constraints,
+        e.0,
+    )?;
     Ok(())
 }
 
