@@ -20,7 +20,7 @@ use value_range::ValueRange;
 
 // The literal and the range of two representatives that become one, and whether they contradict.
 #[derive(Clone, Copy)]
-pub struct Place {
+struct Place {
     pub literal: Holder,
     pub entry: Entry,
     pub bad: bool,
@@ -350,7 +350,7 @@ fn range_bad(old: Entry, new: Entry) -> bool
 }
 
 #[tactic(auto, unfolding(crate::specs::Settled::place_of))]
-pub fn place_of(h1: Holder, h2: Holder, e1: Entry, e2: Entry) -> Place
+fn place_of(h1: Holder, h2: Holder, e1: Entry, e2: Entry) -> Place
     ensures { result ≡ place_of h1 h2 e1 e2 }
 {
     let literal = literal_on(h1, h2);
@@ -364,7 +364,7 @@ pub fn place_of(h1: Holder, h2: Holder, e1: Entry, e2: Entry) -> Place
 
 // Two representatives made one: what stands at the higher comes to the lower.
 #[tactic(auto, unfolding(crate::specs::Settled::united_roots, crate::specs::Settled::null_on))]
-pub fn unite_roots(s: &mut ConstraintSet, low: usize, high: usize)
+fn unite_roots(s: &mut ConstraintSet, low: usize, high: usize)
     requires order { low < high }
     requires high_bound { high < 128 }
     ensures { s.new ≡ united_roots s.old low high }
