@@ -69,7 +69,7 @@ joined p f g merge = go (plan_ok p && (facts_ok p f && facts_ok p g)) refl
         let x = with_constraints (joined_facts f g) (tried f g merge).constraints in
         let n = clear (tried f g merge).refused x q in
         let e = ap (λ (b : Bool). (cond b (answered f (joined_facts f g) (tried f g merge)) (refused f (Err NoSuch))).facts) t ∙ made
-            (tried f g merge).refused x n in
+        (tried f g merge).refused x n in
         record { room = n; lineage = ap (λ (y : LogicalFacts). y.lineage) e; set = ap (λ (y : LogicalFacts). y.constraints) e }
     go false t q = other-outcome (Err NoSuch) (λ z. absurd (omega (arith, z))) q
 

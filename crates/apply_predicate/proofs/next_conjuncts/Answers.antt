@@ -8,8 +8,10 @@ returns-then-walk-eq0-clause-less c = all_done c.loop-turn.invariant c.if-walk-e
 
 pub loop-turn-preserved : goal.loop-turn-preserved
 loop-turn-preserved c =
+    let had = c.loop-turn.invariant in
+    let r = c.turn.ensures in
     elim c.match-turn.branch [
-      | in-Pop w ↦ rw (w.walk-is, w.found-is) (⊎_elim (popped_on c.loop-turn.invariant c.turn.ensures) (skipped_on c.loop-turn.invariant c.turn.ensures) w.in-Pop.is)
-      | in-Enter w ↦ rw (w.walk-is, w.found-is) (entered_on c.loop-turn.invariant c.turn.ensures w.in-Enter.e w.in-Enter.is _ w.enter.ensures)
-      | in-Found w ↦ rw (w.walk-is, w.found-is) (found_on c.loop-turn.invariant c.turn.ensures c.loop-turn-test.true w.in-Found.e w.in-Found.is)
+      | in-Pop w ↦ rw (w.walk-is, w.found-is) (⊎_elim (popped_on had r) (skipped_on had r) w.in-Pop.is)
+      | in-Enter w ↦ rw (w.walk-is, w.found-is) (entered_on had r w.in-Enter.e w.in-Enter.is _ w.enter.ensures)
+      | in-Found w ↦ rw (w.walk-is, w.found-is) (found_on had r c.loop-turn-test.true w.in-Found.e w.in-Found.is)
     ]
