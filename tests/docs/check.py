@@ -31,7 +31,7 @@ WIDEST = 160
 # what stands for something else in a path: `crates/NAME/src`, `docs/changes/T-nn.md`
 PLACEHOLDERS = re.compile(r"\b(NAME|CRATE|FILE|FOLDER|ROOM|F|X|T-nn|DIR|SEED|COUNT)\b|[*<>…]|\.\.$")
 NAME = re.compile(r"[A-Za-z][A-Za-z0-9]*(?:[_-][A-Za-z0-9]+)*")
-DECLARED = re.compile(r"^\s*(?:(?:abbrev|unfoldable|pub|record|data) )*([^\s:(){}.]+)(?: [^:=\n]*)? :", re.M)
+DECLARED = re.compile(r"^\s*(?:(?:abbrev|unfoldable|pub|record|data) )*([^\s:(){}.]+)(?: [^:=\n]*)? :|^pub ruleset (\S+) =", re.M)
 FORMER = (
     "ready_sets conjunct_facts applied_conjuncts repeated_conjuncts predicate_facts column_facts operator_facts derive_facts"
     " simplifying_laws read_run rows_run rows_deep facts_run derive_run listing_run simplify_deep"
@@ -56,7 +56,7 @@ def declared(path):
     text = path.read_text()
     if path.suffix == ".antt":
         for m in DECLARED.finditer(text):
-            yield m.group(1)
+            yield m.group(1) or m.group(2)
     else:
         for m in re.finditer(r"\b(?:fn|struct|enum|trait|type|mod|const) (\w+)", text):
             yield m.group(1)

@@ -89,6 +89,7 @@ fn apply_walk(
     ensures { applied s.new result ≡ all_applied (conjunct_applied lineage.now (node_from exprs.now))
         (rest_of (node_from exprs.now) items.now.a walk.old) (done s.old) }
 {
+    // It ends by the steps that are left of the walk: a `for` would need a bound of turns.
     while 0 < walk.depth {
         let found = next_conjuncts(exprs, items, walk);
         apply_conjuncts::apply_handles(exprs, lineage, s, found.handles())?;

@@ -189,6 +189,7 @@ fn of_and(exprs: &Expressions, items: &Items, lasts: &[Option<Place>; 1024], e: 
         },
     };
     thinner.walk.enter(exprs, e);
+    // It ends by the steps that are left of the walk: a `for` would need a bound of turns.
     while 0 < thinner.walk.depth && thinner.thin.count < 2048 {
         thinner.turn(exprs, items, lasts);
     }

@@ -285,6 +285,7 @@ pub fn read(s: &[u8]) -> Result<Plan, ReadError>
     ensures { answer result ≡ read_of s.now }
 {
     let mut q = Reader::new();
+    // It ends by the bytes that are left, of which a record takes as many as its kind says: a `for` would need a bound of records.
     while !q.is_done(s.len()) {
         q.step(s)?;
     }

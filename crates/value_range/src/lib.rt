@@ -39,7 +39,8 @@ impl Bound {
         }
     }
 
-    // Whether a lower bound at the value says more than this one.
+    // Whether a lower bound at the value says more than this one. Lower and upper are two functions each, under the names of the Rust: one with the
+    // end as a parameter would be no plainer.
     pub fn takes_lower(self, value: f64, inclusive: bool) -> bool
         ensures { result ≡ takes_lower self value inclusive }
     {
