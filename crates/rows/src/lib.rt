@@ -31,12 +31,12 @@ fn compared(op: BinaryOp, v: ScalarValue, w: ScalarValue) -> bool
     ensures { result ≡ compared op v w }
 {
     match op {
-        BinaryOp::Eq | BinaryOp::IsNotDistinctFrom => v == w,
-        BinaryOp::NotEq => v != w,
+        BinaryOp::Eq | BinaryOp::IsNotDistinctFrom => scalar::equal(v, w),
+        BinaryOp::NotEq => !scalar::equal(v, w),
         BinaryOp::Lt => v.is_below(w),
-        BinaryOp::LtEq => v.is_below(w) || v == w,
+        BinaryOp::LtEq => v.is_below(w) || scalar::equal(v, w),
         BinaryOp::Gt => w.is_below(v),
-        BinaryOp::GtEq => w.is_below(v) || v == w,
+        BinaryOp::GtEq => w.is_below(v) || scalar::equal(v, w),
     }
 }
 
@@ -51,7 +51,7 @@ pub fn compare(op: BinaryOp, v: ScalarValue, w: ScalarValue) -> u8
         } else {
             known(v.is_null() && w.is_null())
         }
-    } else if v.kind() == w.kind() {
+    } else if scalar::same_kind(v.kind(), w.kind()) {
         known(compared(op, v, w))
     } else if op.is_ordinary() {
         truth::UNKNOWN
@@ -191,7 +191,7 @@ fn kind_at(p: &Plan, e: Expr) -> Kind
 fn boolean_at(p: &Plan, e: Expr) -> bool
     ensures { result ≡ boolean_at p.now.columns.kind (node_at p.now) e.0 }
 {
-    kind_at(p, e) == Kind::Boolean
+    scalar::same_kind(kind_at(p, e), Kind::Boolean)
 }
 
 // Whether a unary operation takes an operand that is typed or not, and Boolean or not.
@@ -272,7 +272,7 @@ fn cell_ok(k: u8, cell: Cell) -> bool
     matches!(cell.case, 0x10..=0x15)
         && plan_kinds::code_ok(row, x)
         && plan_kinds::bits_ok(row, x)
-        && (v.is_null() || v.kind() == Kind::from(k))
+        && (v.is_null() || scalar::same_kind(v.kind(), Kind::from(k)))
 }
 
 // Whether a row has a value for every column of a plan, used or not.

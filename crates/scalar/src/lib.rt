@@ -5,8 +5,8 @@ ghost use Rattle.std.specs.Prelude.{◌≡◌};
 ghost use Rattle.std.specs.Float.Ieee as Ieee;
 ghost use Rattle.std.specs.Float.{binary64};
 ghost use Rattle.scalar.specs.Exact.{finite};
-ghost use Rattle.scalar.specs.Kinds.{kind_code, kind_of_code, kind_of, is_null};
-ghost use Rattle.scalar.specs.Scalars.{less_scalar, scalar_to_f64};
+ghost use Rattle.scalar.specs.Kinds.{kind_code, kind_of_code, kind_of, is_null, same_kind};
+ghost use Rattle.scalar.specs.Scalars.{same_scalar, less_scalar, scalar_to_f64};
 ghost use Rattle.scalar.specs.Coded.{case_code, code_of, bits_of, low_signed, scalar_of};
 
 #[derive(Clone, Copy, PartialEq, Eq)]
@@ -91,6 +91,18 @@ impl ScalarValue {
             _ => false,
         }
     }
+}
+
+pub fn same_kind(k: Kind, l: Kind) -> bool
+    ensures { result ≡ same_kind k l }
+{
+    k == l
+}
+
+pub fn equal(a: ScalarValue, b: ScalarValue) -> bool
+    ensures { result ≡ same_scalar a b }
+{
+    a == b
 }
 
 // Whether x is a number.
