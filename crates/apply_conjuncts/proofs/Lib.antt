@@ -1,2 +1,4 @@
+pub mod Wides
+pub mod SetWide
 pub mod KnownLaws
 pub mod Steps

@@ -1,15 +1,17 @@
 // A list of conjuncts applied to a set where it lies. A set is 9 KB, so it is not handed on for a single conjunct.
 #![tactic(auto)]
 
-ghost use Rattle.std.specs.Prelude.{◌≡◌, ◌<◌, cond};
+ghost use Rattle.std.specs.Prelude.{◌≡◌, ◌<◌, true, cond};
 ghost use Rattle.constraint_spec.specs.Answers.{applied};
 ghost use Rattle.constraint_spec.specs.Sets.{canonical_at, done, add_residual};
 ghost use Rattle.plan_data.specs.Nodes.{node_from};
 ghost use Rattle.apply_spec.specs.Apply.{conjunct_applied, all_applied};
-ghost use Rattle.apply_action.specs.Actions.{first_of, is_residual, joined_by, Proper};
+ghost use Rattle.constraint_set.specs.Checked.{Checked};
+ghost use Rattle.apply_action.specs.Actions.{first_of, is_residual, joined_by, recorded_in, Proper};
+ghost use Rattle.apply_action.specs.Cells.{Long, cell_of, with_cell};
 ghost use Rattle.apply_conjuncts.specs.Knowing.{Knows};
 
-use apply_action::Action;
+use apply_action::{Action, Cell};
 use constraint_spec::{ConstraintError, ConstraintSet};
 use plan::Expressions;
 use value_classes::Roots;
@@ -31,6 +33,51 @@ fn keep(s: &mut ConstraintSet, action: Action, h: u16) -> Result<(), ConstraintE
         constraint_set::add_residual(s, h)
     } else {
         Ok(())
+    }
+}
+
+// ---- what an action records, at the one representative that it is about
+
+// That the set has an entry for each identity is said for those to whom it is lent.
+fn cell_of(s: &ConstraintSet, root: usize) -> Cell
+    requires { root < 128 }
+    ensures cell { result ≡ cell_of s.now root }
+    ensures long { Long s.now }
+{
+    Cell {
+        non_null: s.non_null_values[root],
+        literal: s.literal_equalities[root],
+        entry: s.ranges[root],
+        contradictory: s.contradictory,
+    }
+}
+
+#[tactic(auto, unfolding(apply_action::specs::Cells::with_cell))]
+fn put_cell(s: &mut ConstraintSet, root: usize, cell: Cell)
+    requires { root < 128 }
+    ensures { s.new ≡ with_cell s.old root cell }
+{
+    s.non_null_values[root] = cell.non_null;
+    s.literal_equalities[root] = cell.literal;
+    s.ranges[root] = cell.entry;
+    s.contradictory = cell.contradictory;
+}
+
+// What an action records in a set whose classes are joined for it already, at the representative `root` of its identity. Where the set is known
+// to be checked, only that place can have come to be crossed.
+#[tactic(auto, using(apply_action::proofs::CellLaws::record_cases))]
+fn record(s: &mut ConstraintSet, root: usize, action: Action, checked: bool)
+    requires root { root ≡ canonical_at s.old (first_of action) }
+    requires root_bound { root < 128 }
+    requires proper { Proper action }
+    requires checked { checked ≡ true → Checked s.old }
+    ensures recorded { s.new ≡ recorded_in action s.old }
+    ensures long { Long s.old }
+{
+    let cell = cell_of(s, root).after(action);
+    put_cell(s, root, cell);
+    if !checked && action.is_checking() {
+        constraint_set::cross_check_literals_and_ranges(s);
     }
 }
 
@@ -59,7 +106,7 @@ pub fn apply_one(
     let action = apply_action::action_of(exprs, lineage, h);
     join(s, action);
     let root = constraint_set::canonical(s, action.first());
-    apply_action::record(s, root, action, false);
+    record(s, root, action, false);
     keep(s, action, h)
 }
 
@@ -116,7 +163,7 @@ fn apply_known(
     let action = apply_action::action_of(exprs, lineage, h);
     join_known(s, known, action);
     let root = usize::from(known.roots.of[action.first()]);
-    apply_action::record(s, root, action, known.checked);
+    record(s, root, action, known.checked);
     known.checked |= action.is_checking();
     keep(s, action, h)
 }

@@ -4,9 +4,10 @@
 
 ghost use Rattle.std.specs.Prelude.{◌≡◌, true, false, not, ◌<◌, min};
 ghost use Rattle.constraint_spec.specs.Answers.{is_refused, applied};
-ghost use Rattle.constraint_spec.specs.Sets.{union_values, merge_classes, merge_ranges, merge_non_nulls, merge_residuals, room_to, merge_from};
+ghost use Rattle.constraint_spec.specs.Sets.{merge_classes, merge_ranges, merge_non_nulls, merge_residuals, room_to, merge_from};
 ghost use Rattle.constraint_set.specs.Settled.{Settled};
 ghost use Rattle.constraint_merge.specs.Chained.{join_chain};
+ghost use Rattle.constraint_merge.specs.Joined.{values_joined, settled_then};
 
 use constraint_spec::{ConstraintError, ConstraintSet, Entry};
 use value_classes::{Members, ValueEquivalenceClasses};
@@ -14,14 +15,13 @@ use value_classes::{Members, ValueEquivalenceClasses};
 // ---- the classes
 
 // Two identities joined. The first union that joins two classes moves everything to the representatives; from then on it stands there, if no
-// parent is above its child: that is what `settled` says of the set, and what the answer says of it afterwards.
-#[tactic(auto, using(crate::proofs::Uniting::values_joined))]
+// parent is above its child: that is what `settled` says of the set, and what the answer says of it afterwards. Where `settled` is right, so is the
+// answer, and the two are united (`joined_is_union` of proofs/Uniting).
+#[tactic(auto, unfolding(crate::specs::Joined::values_joined, crate::specs::Joined::settled_then))]
 pub fn join_values(s: &mut ConstraintSet, left: usize, right: usize, settled: bool) -> bool
-    requires left_bound { left < 128 }
-    requires right_bound { right < 128 }
-    requires settled { settled ≡ true → Settled s.old }
-    ensures whole { s.new ≡ union_values s.old left right }
-    ensures settled { result ≡ true → Settled s.new }
+    ensures joined { s.new ≡ values_joined settled s.old left right }
+    ensures told { result ≡ settled_then settled s.old left right }
+    ensures settled { (settled ≡ true → Settled s.old) → result ≡ true → Settled s.new }
 {
     if settled {
         constraint_set::union_settled(s, left, right);

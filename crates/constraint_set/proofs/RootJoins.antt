@@ -1,15 +1,17 @@
 -- A union of two identities in a settled set joins their representatives, the higher to the lower. Assumes nothing.
-use Prim.Native.Nat.{ℕ, ◌<◌, min, max}
-use native.Mathlib.Decide.{dec_lt}
+use Prim.Native.Nat.{ℕ, ◌<◌, ◌≤◌, min, max}
+use native.Mathlib.Decide.{dec_lt, ℕ_discrete}
+use borrow.Author.Tests.{lt-ltb, le-ltb, eq-eqb, ne_eqb}
 use mathlib.Core.Path.{◌≡◌, refl, sym, ap, ap₂, ◌∙◌}
 use native.Mathlib.Omega.{arith}
 use Rattle.value_classes.specs.Classes.{joined_classes, roots_joined}
 use Rattle.value_classes.specs.declared.ValueEquivalenceClasses.{ValueEquivalenceClasses}
 use Rattle.value_classes.proofs.ClassLaws.{falling, canonical_small, canonical_idempotent, joined-to-left, joined-to-right}
+use Rattle.value_classes.proofs.Unions.{left_out, right-out}
 use Rattle.constraint_spec.specs.Sets.{classes_of, canonical_at, with_classes, normalized, union_values}
 use Rattle.constraint_spec.specs.declared.ConstraintSet.{ConstraintSet}
 use Rattle.constraint_spec.proofs.Operations.{union_one, union_two}
-use Rattle.constraint_set.specs.Settled.{Settled, united_roots}
+use Rattle.constraint_set.specs.Settled.{Settled, united_roots, union_settled}
 use Rattle.constraint_set.proofs.Settling.{joined-normalized}
 
 module _ (s : ConstraintSet) (g : Settled s) where
@@ -39,21 +41,39 @@ module _ (s : ConstraintSet) (g : Settled s) where
     united-right h =
         united-is y x h (canonical_low i hi) (canonical_own j) (joined-to-right (classes_of s) i j x y refl refl (omega arith)) (λ z. omega arith)
 
--- as the code of `union_settled` says it
-module _ (s : ConstraintSet) (g : Settled s) (i j : ℕ) (hi : i < 128) (hj : j < 128) (a b : ℕ) (ea : a ≡ canonical_at s i) (eb : b ≡ canonical_at s j) where
-  pub union-apart : (u : ConstraintSet) (low high : ℕ) → (a ≡ b → ⊥) → low ≡ min a b → high ≡ max a b → u ≡ united_roots s low high → u ≡ union_values s i j
-  union-apart u low high n el eh e = elim (dec_lt a b) [
-    | yes h ↦ (
-        let l : low ≡ canonical_at s i = omega arith in
-        let k : high ≡ canonical_at s j = omega arith in
-        e ∙ ap₂ (united_roots s) l k ∙ united-left s g i j hi hj (omega arith))
-    | no h ↦ (
-        let l : low ≡ canonical_at s j = omega arith in
-        let k : high ≡ canonical_at s i = omega arith in
-        e ∙ ap₂ (united_roots s) l k ∙ united-right s g i j hi hj (omega arith))
+-- a union of what is no identity changes nothing. Assumes nothing
+module _ (s : ConstraintSet) (i j : ℕ) where
+  pub past_left : 128 ≤ i → s ≡ union_values s i j
+  unfolding union_values
+  past_left h = rw (← left_out (classes_of s) i j h)
+
+  pub past_right : i < 128 → 128 ≤ j → s ≡ union_values s i j
+  unfolding union_values
+  past_right l h = rw (← right-out (classes_of s) i j l h)
+
+-- in a set in which everything stands at the representatives, that is the union of any two numbers. Assumes nothing
+module _ (s : ConstraintSet) (g : Settled s) (i j : ℕ) where
+  abbrev a : ℕ
+  a = canonical_at s i
+
+  abbrev b : ℕ
+  b = canonical_at s j
+
+  roots_one : i < 128 → j < 128 → (a ≡ b → ⊥) → united_roots s (min a b) (max a b) ≡ union_values s i j
+  roots_one hi hj n = elim (dec_lt a b) [
+    | yes h ↦ ap₂ (united_roots s) (omega arith) (omega arith) ∙ united-left s g i j hi hj h
+    | no h ↦ ap₂ (united_roots s) (omega arith) (omega arith) ∙ united-right s g i j hi hj (omega arith)
   ]
 
-  pub union-same : a ≡ b → s ≡ union_values s i j
-  union-same e = sym (union_one s i j hi hj (sym ea ∙ e ∙ eb))
-
-pub ruleset settled_union = (union-apart, union-same)
+  pub settled_is_union : union_settled s i j ≡ union_values s i j
+  unfolding union_settled
+  settled_is_union = elim (dec_lt i 128) [
+    | yes hi ↦ elim (dec_lt j 128) [
+      | yes hj ↦ elim (ℕ_discrete a b) [
+        | yes e ↦ rw (lt-ltb _ _ hi, lt-ltb _ _ hj, eq-eqb _ _ e) (sym (union_one s i j hi hj e))
+        | no n ↦ rw (lt-ltb _ _ hi, lt-ltb _ _ hj, ne_eqb _ _ n) (roots_one hi hj n)
+      ]
+      | no hj ↦ rw (lt-ltb i 128 hi, le-ltb j 128 (omega arith)) (past_right s i j hi (omega arith))
+    ]
+    | no hi ↦ rw (le-ltb i 128 (omega arith)) (past_left s i j (omega arith))
+  ]

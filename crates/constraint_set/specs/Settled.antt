@@ -1,8 +1,8 @@
 -- A set in which everything that is recorded stands at the representatives, as `normalize` leaves it, and what joining two of its classes
 -- makes of it. Assumes nothing.
-use Rattle.std.specs.Prelude.{Bool, true, false, cond, ◌&&◌, ◌||◌, List, ◌≡◌, ℕ, ◌<◌, length, get_or, set}
+use Rattle.std.specs.Prelude.{Bool, true, false, cond, ◌&&◌, ◌||◌, List, ◌≡◌, ℕ, ◌<◌, ltb, min, max, length, get_or, set}
 use Rattle.value_range.specs.Ranges.{empty_range}
-use Rattle.value_classes.specs.Classes.{Whole, classes_ok, roots_joined}
+use Rattle.value_classes.specs.Classes.{Whole, classes_ok, same_class, roots_joined}
 use Rattle.constraint_spec.specs.Sets.{none, held, no_entry, entry_of, blank, classes_of, non_nulls, literals, non_null_at, literal_at, entry_at, with_values}
 use Rattle.constraint_spec.specs.Sets.{canonical_at, clashes, range_in, tighten_by, crossed}
 use Rattle.constraint_spec.specs.declared.Holder.{Holder}
@@ -67,3 +67,12 @@ united_roots s a b =
     (moved_to (literals s) a b (place_at s a b).literal none)
     (moved_to s.ranges a b (place_at s a b).entry no_entry)
     (s.contradictory || (place_at s a b).bad)
+
+-- two identities joined by their representatives, the higher to the lower; nothing changes where a number is no identity, or where the two are in
+-- one class
+unfoldable pub union_settled : ConstraintSet → ℕ → ℕ → ConstraintSet
+union_settled s i j =
+    cond (ltb i 128 && ltb j 128)
+    (cond (same_class (classes_of s) i j) s
+    (united_roots s (min (canonical_at s i) (canonical_at s j)) (max (canonical_at s i) (canonical_at s j))))
+    s

@@ -11,7 +11,7 @@ ghost use Rattle.constraint_spec.specs.Sets.{crossed_at, cross_check, non_nulls_
 ghost use Rattle.constraint_spec.specs.Sets.{normalized, put_literal, lay_range, put_range};
 ghost use Rattle.constraint_spec.specs.Sets.{union_values, add_literal, bounds_by, merge_literals, add_residual};
 ghost use Rattle.constraint_set.specs.Checked.{Checked};
-ghost use Rattle.constraint_set.specs.Settled.{null_on, literal_on, literal_bad, range_on, range_bad, place_of, Settled, united_roots};
+ghost use Rattle.constraint_set.specs.Settled.{null_on, literal_on, literal_bad, range_on, range_bad, place_of, united_roots, union_settled};
 
 use comparison::BinaryOp;
 use constraint_spec::{ConstraintError, ConstraintSet, Entry, Holder};
@@ -20,7 +20,7 @@ use value_range::ValueRange;
 
 // The literal and the range of two representatives that become one, and whether they contradict.
 #[derive(Clone, Copy)]
-struct Place {
+pub struct Place {
     pub literal: Holder,
     pub entry: Entry,
     pub bad: bool,
@@ -51,7 +51,7 @@ pub fn equivalent(s: &ConstraintSet, left: usize, right: usize) -> bool
 pub fn literal_clashes(old: Holder, l: ScalarValue) -> bool
     ensures { result ≡ clashes old l }
 {
-    old.present && old.value != l
+    old.present && !scalar::equal(old.value, l)
 }
 
 // A literal that differs from the one that is there is left out.
@@ -168,12 +168,13 @@ fn put_literal(s: &mut ConstraintSet, root: usize, literal: ScalarValue)
     }
 }
 
-#[tactic(auto, unfolding(constraint_spec::specs::Sets::lay_range))]
+// A place past the identities has no range, and nothing changes.
+#[tactic(auto, using(crate::proofs::SetLists::range_laid))]
 pub fn lay_range(s: &mut ConstraintSet, root: usize, range: ValueRange)
-    requires { root < 128 }
     ensures { s.new ≡ lay_range s.old root range }
 {
-    s.ranges[root] = entry_of(tightened(s.ranges[root], range));
+    let old = lists::at(&s.ranges, root, Entry::empty());
+    lists::put(&mut s.ranges, root, entry_of(tightened(old, range)));
 }
 
 // The same with a test whether no number is left.
@@ -350,7 +351,7 @@ fn range_bad(old: Entry, new: Entry) -> bool
 }
 
 #[tactic(auto, unfolding(crate::specs::Settled::place_of))]
-fn place_of(h1: Holder, h2: Holder, e1: Entry, e2: Entry) -> Place
+pub fn place_of(h1: Holder, h2: Holder, e1: Entry, e2: Entry) -> Place
     ensures { result ≡ place_of h1 h2 e1 e2 }
 {
     let literal = literal_on(h1, h2);
@@ -385,14 +386,15 @@ fn unite_roots(s: &mut ConstraintSet, low: usize, high: usize)
     s.contradictory |= place.bad;
 }
 
-// A union where everything is known to stand at the representatives.
-#[tactic(auto, using(crate::proofs::RootJoins::settled_union))]
+// The union of a set in which everything stands at the representatives (`settled_is_union` of proofs/RootJoins). Of any other set too, the two
+// representatives are made one, and no more.
+#[tactic(auto, unfolding(crate::specs::Settled::union_settled))]
 pub fn union_settled(s: &mut ConstraintSet, left: usize, right: usize)
-    requires settled { Settled s.old }
-    requires left_bound { left < 128 }
-    requires right_bound { right < 128 }
-    ensures { s.new ≡ union_values s.old left right }
+    ensures { s.new ≡ union_settled s.old left right }
 {
+    if ConstraintSet::IDENTITIES <= left || ConstraintSet::IDENTITIES <= right {
+        return;
+    }
     let left_root = canonical(s, left);
     let right_root = canonical(s, right);
     if left_root != right_root {
