@@ -3,3 +3,4 @@ pub mod Marks
 pub mod Chains
 pub mod Frames
 pub mod Thinning
+pub mod Unread

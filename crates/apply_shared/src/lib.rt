@@ -3,8 +3,8 @@
 // each frame and operand of the tables.
 #![tactic(auto)]
 
-ghost use Rattle.std.specs.Prelude.{◌≡◌, true, false, [], ℕ, ◌<◌, ◌≤◌, get_or, set, take, IfSome};
-ghost use Rattle.plan_data.specs.Nodes.{node_from};
+ghost use Rattle.std.specs.Prelude.{◌≡◌, true, false, List, [], ℕ, ◌<◌, ◌≤◌, get_or, set, take, IfSome};
+ghost use Rattle.plan_data.specs.Nodes.{node_of, node_from};
 ghost use Rattle.apply_spec.specs.Conjuncts.{conjuncts_of};
 ghost use Rattle.apply_walk.specs.Walks.{and_in};
 ghost use Rattle.apply_walk.specs.Rests.{Good};
@@ -201,11 +201,13 @@ fn of_and(exprs: &Expressions, items: &Items, lasts: &[Option<Place>; 1024], e: 
 }
 
 // The conjuncts of the And or other expression e: each at its first and its last place, and maybe at some between. None where the walk did not
-// come to its end, or passed over what did not come again.
+// come to its end, or passed over what did not come again. Second operands and literals are not read.
 pub fn thinned_conjuncts(exprs: &Expressions, items: &Items, e: u16) -> Option<Thin>
     ensures count_bound { IfSome result (λ t. t.count ≤ 2048) }
     ensures thinned { IfSome result (λ t. Thinned []
         (conjuncts_of (node_from exprs.now) items.now.a e) (take t.count t.handles)) }
+    ensures unread { (b bits : List ℕ) → IfSome result (λ t. Thinned []
+        (conjuncts_of (node_of exprs.now.kind exprs.now.code exprs.now.a b bits exprs.now.start) items.now.a e) (take t.count t.handles)) }
 {
     if apply_walk::is_and(exprs, e) {
         of_and(exprs, items, &last_places(exprs, items, e), e)

@@ -5,16 +5,16 @@ use mathlib.Core.Bool.{Bool, true, false, cond, ◌||◌}
 use mathlib.Core.List.{List, [], ◌∷◌}
 use native.Mathlib.Omega.{arith}
 use lib.Dec.{ltb, leb, eqb}
-use lib.ListN.{get_or}
-use borrow.Author.Tests.{ltb-true}
+use lib.ListN.{length, get_or}
+use borrow.Author.Tests.{ltb-true, ne_eqb}
 use Rattle.plan.specs.declared.Expressions.{Expressions}
 use Rattle.apply_walk.specs.declared.Frame.{Frame}
 use Rattle.apply_walk.specs.declared.Walk.{Walk}
 use Rattle.apply_walk.specs.declared.Move.{Move}
 use Rattle.apply_walk.specs.declared.Move.TheVariants.{Pop, Skip, Enter, Found}
-use Rattle.apply_walk.specs.Walks.{and_in, frame_at, top_of, popped, passed, entered, operand_turn, turn_of, frame_turn, moved}
+use Rattle.apply_walk.specs.Walks.{and_in, no_frame, frame_at, top_of, top_frame, popped, passed, entered, operand_turn, turn_of, frame_turn, moved}
 use Rattle.apply_walk.proofs.Guards.{goes_on}
-use Rattle.apply_walk.specs.Rests.{Goes, Turned}
+use Rattle.apply_walk.specs.Rests.{Good, Goes, Turned}
 use Rattle.apply_walk.proofs.Stepping.{pop_goes, skip-goes, found-goes, enter_goes, enter_room}
 
 -- ---- what each turn says of a frame
@@ -68,6 +68,19 @@ module _ (t : Expressions) (items : List ℕ) (f : Frame) where
       go Skip s n = (s.some, s.low)
       go (Enter x) s n = (s.has.some, s.has.low)
       go (Found x) s n = (s.has.some, s.has.low)
+
+-- a turn of a good walk with a frame, by what `turn` tells. Assumes nothing
+pub turned : (t : Expressions) {items : List ℕ} {w v : Walk} {m : Move} → m ≡ frame_turn t items (top_frame w) → v ≡ moved w m → length items ≡ 2048
+    → Good w → 0 < w.depth → Turned t items w v m
+turned t {items} {w} told done long good some =
+    record {
+      long = long;
+      good = good;
+      some = some;
+      told = told ∙ ap (λ (b : Bool). frame_turn t items (cond b no_frame (frame_at w (top_of w)))) (ne_eqb
+          w.depth 0 (λ e. omega (arith, some, e)));
+      done = done;
+    }
 
 -- ---- a turn of a walk
 module _ {t : Expressions} {items : List ℕ} {w v : Walk} {m : Move} (r : Turned t items w v m) where

@@ -29,6 +29,10 @@ frame_at w k = get_or w.frames k no_frame
 abbrev pub top_of : Walk → ℕ
 top_of w = w.depth - 1
 
+-- the frame on top; of a walk without frames one of which nothing is left
+abbrev pub top_frame : Walk → Frame
+top_frame w = cond (eqb w.depth 0) no_frame (frame_at w (top_of w))
+
 -- one frame more; a walk that has no room for it stays as it was
 unfoldable pub pushed : Walk → Frame → Walk
 pushed w f = cond (ltb w.depth 1024) (record { frames = set w.frames w.depth f; depth = w.depth + 1 }) w

@@ -3,8 +3,7 @@
 #![tactic(auto)]
 
 ghost use Rattle.std.specs.Prelude.{◌≡◌, ◌<◌, true, length};
-ghost use Rattle.apply_walk.specs.Walks.{and_in, frame_of, empty_walk, entered, frame_turn};
-ghost use Rattle.apply_walk.specs.Rests.{Good, Turned};
+ghost use Rattle.apply_walk.specs.Walks.{and_in, no_frame, frame_of, empty_walk, entered, top_frame, frame_turn, moved};
 
 use plan::{Expressions, Items};
 
@@ -42,6 +41,17 @@ pub fn is_and(exprs: &Expressions, e: u16) -> bool
 }
 
 impl Frame {
+    // No And, of which nothing is left.
+    fn none() -> Frame
+        ensures { result ≡ no_frame }
+    {
+        Frame {
+            owner: 0,
+            at: 0,
+            left: 0,
+        }
+    }
+
     // All operands of the And e.
     pub fn of(exprs: &Expressions, e: u16) -> Frame
         ensures { result ≡ frame_of exprs.now e }
@@ -54,8 +64,9 @@ impl Frame {
         }
     }
 
+    // What it does next.
     #[tactic(auto, unfolding(crate::specs::Walks::turn_of))]
-    fn turn(self, exprs: &Expressions, items: &Items) -> Move
+    pub fn turn(self, exprs: &Expressions, items: &Items) -> Move
         ensures told { result ≡ frame_turn exprs.now items.now.a self }
         ensures long { length items.now.a ≡ 2048 }
     {
@@ -81,13 +92,8 @@ impl Walk {
     pub fn empty() -> Walk
         ensures { result ≡ empty_walk }
     {
-        let none = Frame {
-            owner: 0,
-            at: 0,
-            left: 0,
-        };
         Walk {
-            frames: [none; 1024],
+            frames: [Frame::none(); 1024],
             depth: 0,
         }
     }
@@ -103,23 +109,38 @@ impl Walk {
         }
     }
 
-    // What the frame on top does next, which is then done, but for an And: whether it is entered is for the caller to say.
+    // The frame on top; none where there is no frame.
+    fn top(&self) -> Frame
+        ensures { result ≡ top_frame self.now }
+    {
+        match self.depth {
+            0 => Frame::none(),
+            depth => lists::at(&self.frames, depth - 1, Frame::none()),
+        }
+    }
+
+    // What the frame on top does next, which is then done, but for an And: whether it is entered is for the caller to say. A walk with no frame is
+    // done and stays so.
     #[tactic(auto, using(crate::proofs::WalkTurns::has_operand), unfolding(crate::specs::Walks::passed))]
     pub fn turn(&mut self, exprs: &Expressions, items: &Items) -> Move
-        requires good { Good self.old }
-        requires some { 0 < self.old.depth }
-        ensures { Turned exprs.now items.now.a self.old self.new result }
+        ensures told { result ≡ frame_turn exprs.now items.now.a (top_frame self.old) }
+        ensures done { self.new ≡ moved self.old result }
+        ensures long { length items.now.a ≡ 2048 }
     {
-        let k = self.depth - 1;
-        let frame = self.frames[k];
+        let k = self.depth.saturating_sub(1);
+        let frame = self.top();
         let turn = frame.turn(exprs, items);
         match turn {
             Move::Pop => self.depth = k,
-            _ => self.frames[k] = Frame {
-                at: frame.at + 1,
-                left: frame.left - 1,
-                ..frame
-            },
+            _ => lists::put(
+                &mut self.frames,
+                k,
+                Frame {
+                    at: frame.at + 1,
+                    left: frame.left - 1,
+                    ..frame
+                },
+            ),
         }
         turn
     }
