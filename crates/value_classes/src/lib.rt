@@ -125,7 +125,7 @@ impl ValueEquivalenceClasses {
         let mut of = [0u8; 128];
         for i in 0..Self::IDENTITIES {
             let parent = usize::from(self.parents[i]);
-            of[i] = if in_order && parent < i {
+            of[i] = if in_order & (parent < i) {
                 of[parent]
             } else {
                 self.canonical(i) as u8
