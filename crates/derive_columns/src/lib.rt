@@ -8,7 +8,7 @@ ghost use Rattle.derive_spec.specs.Columns.{item_at, lineage_entry, definition_e
 ghost use Rattle.derive_spec.specs.Columns.{computed, key_column, keyed, is_column_ref, scanned, derived_columns, projected, renamed, mapped, keys_ok, keys_of};
 
 use derive_spec::ColumnFacts;
-use plan::{Column, Expressions, Items};
+use plan::{Column, Expressions};
 use plan_data::{ExprData, Run};
 use plan_identities::{Identities, ValueId};
 
@@ -123,45 +123,45 @@ fn is_column_ref(x: ExprData) -> bool
 // ---- lists
 
 #[tactic(auto, using(crate::proofs::ColumnLoops::steps_loop), unfolding(derive_spec::specs::Columns::scanned))]
-pub fn scan_columns(ids: &Identities, items: &Items, r: Run) -> ColumnFacts
-    ensures { result ≡ scanned ids.now items.now.a r }
+pub fn scan_columns(ids: &Identities, items: &[u16], r: Run) -> ColumnFacts
+    ensures { result ≡ scanned ids.now items.now r }
 {
     let mut t = ColumnFacts::empty();
     for k in 0..r.count {
-        base_column(ids, &mut t, item(&items.a, r, k));
+        base_column(ids, &mut t, item(items, r, k));
     }
     t
 }
 
 #[tactic(auto, using(crate::proofs::ColumnLoops::steps_loop), unfolding(derive_spec::specs::Columns::derived_columns))]
-pub fn derived_columns(ids: &Identities, items: &Items, r: Run, t: &mut ColumnFacts)
-    ensures { t.new ≡ derived_columns ids.now items.now.a r t.old }
+pub fn derived_columns(ids: &Identities, items: &[u16], r: Run, t: &mut ColumnFacts)
+    ensures { t.new ≡ derived_columns ids.now items.now r t.old }
 {
     for k in 0..r.count {
-        derived_column(ids, t, item(&items.a, r, k));
+        derived_column(ids, t, item(items, r, k));
     }
 }
 
 #[tactic(auto, using(crate::proofs::ColumnLoops::steps_loop), unfolding(derive_spec::specs::Columns::projected))]
-pub fn project_columns(g: &ColumnFacts, items: &Items, r: Run) -> ColumnFacts
-    ensures { result ≡ projected g.now items.now.a r }
+pub fn project_columns(g: &ColumnFacts, items: &[u16], r: Run) -> ColumnFacts
+    ensures { result ≡ projected g.now items.now r }
 {
     let mut t = ColumnFacts::empty();
     for k in 0..r.count {
-        let c = item(&items.a, r, k);
+        let c = item(items, r, k);
         carry(g, &mut t, c, c);
     }
     t
 }
 
 #[tactic(auto, using(crate::proofs::ColumnLoops::steps_loop), unfolding(derive_spec::specs::Columns::renamed))]
-pub fn rename_columns(g: &ColumnFacts, items: &Items, r: Run) -> ColumnFacts
-    ensures { result ≡ renamed g.now items.now.a items.now.b r }
+pub fn rename_columns(g: &ColumnFacts, items: &[u16], originals: &[u16], r: Run) -> ColumnFacts
+    ensures { result ≡ renamed g.now items.now originals.now r }
 {
     let mut t = ColumnFacts::empty();
     for k in 0..r.count {
-        let renamed = item(&items.a, r, k);
-        let original = item(&items.b, r, k);
+        let renamed = item(items, r, k);
+        let original = item(originals, r, k);
         carry(g, &mut t, renamed, original);
     }
     t
@@ -170,34 +170,35 @@ pub fn rename_columns(g: &ColumnFacts, items: &Items, r: Run) -> ColumnFacts
 #[tactic(auto, using(crate::proofs::ColumnLoops::steps_loop), unfolding(derive_spec::specs::Columns::mapped))]
 pub fn map_columns(
     ids: &Identities,
-    items: &Items,
-    exprs: &Expressions,
+    nodes: &Expressions,
+    items: &[u16],
+    exprs: &[u16],
     r: Run,
     t: &mut ColumnFacts,
 )
-    ensures { t.new ≡ mapped ids.now (node_from exprs.now) items.now.a items.now.b r t.old }
+    ensures { t.new ≡ mapped ids.now (node_from nodes.now) items.now exprs.now r t.old }
 {
     for k in 0..r.count {
-        let c = item(&items.a, r, k);
-        let e = item(&items.b, r, k);
-        compute(ids, t, c, e, plan_data::node_at(exprs, usize::from(e)));
+        let c = item(items, r, k);
+        let e = item(exprs, r, k);
+        compute(ids, t, c, e, plan_data::node_at(nodes, usize::from(e)));
     }
 }
 
 // The expression that is the k-th key.
-fn key_at(items: &Items, exprs: &Expressions, r: Run, k: usize) -> ExprData
-    ensures { result ≡ node_from exprs.now (item_at items.now.a r k) }
+fn key_at(nodes: &Expressions, items: &[u16], r: Run, k: usize) -> ExprData
+    ensures { result ≡ node_from nodes.now (item_at items.now r k) }
 {
-    plan_data::node_at(exprs, usize::from(item(&items.a, r, k)))
+    plan_data::node_at(nodes, usize::from(item(items, r, k)))
 }
 
 // Every key is a column reference.
 #[tactic(auto, using(lists::proofs::RangeLaws::all_loop), unfolding(derive_spec::specs::Columns::keys_ok))]
-pub fn keys_ok(items: &Items, exprs: &Expressions, r: Run) -> bool
-    ensures { result ≡ keys_ok (node_from exprs.now) items.now.a r }
+pub fn keys_ok(nodes: &Expressions, items: &[u16], r: Run) -> bool
+    ensures { result ≡ keys_ok (node_from nodes.now) items.now r }
 {
     for k in 0..r.count {
-        if !is_column_ref(key_at(items, exprs, r, k)) {
+        if !is_column_ref(key_at(nodes, items, r, k)) {
             return false;
         }
     }
@@ -206,12 +207,12 @@ pub fn keys_ok(items: &Items, exprs: &Expressions, r: Run) -> bool
 
 // The lineage of the keys, without definitions.
 #[tactic(auto, using(crate::proofs::ColumnLoops::steps_loop), unfolding(derive_spec::specs::Columns::keys_of))]
-pub fn key_columns(g: &ColumnFacts, items: &Items, exprs: &Expressions, r: Run) -> ColumnFacts
-    ensures { result ≡ keys_of (node_from exprs.now) g.now items.now.a r }
+pub fn key_columns(nodes: &Expressions, g: &ColumnFacts, items: &[u16], r: Run) -> ColumnFacts
+    ensures { result ≡ keys_of (node_from nodes.now) g.now items.now r }
 {
     let mut t = ColumnFacts::empty();
     for k in 0..r.count {
-        key(g, &mut t, key_at(items, exprs, r, k));
+        key(g, &mut t, key_at(nodes, items, r, k));
     }
     t
 }

@@ -57,7 +57,7 @@ fn refused_by(h: Operator, e: FactsError) -> DeriveError
 fn scan(p: &Plan, ids: &Identities, columns: Run) -> LogicalFacts
     ensures { result ≡ facts_with (scanned ids.now p.now.items.a columns) empty_set }
 {
-    let t = derive_columns::scan_columns(ids, &p.items, columns);
+    let t = derive_columns::scan_columns(ids, &p.items.a, columns);
     facts_with(t, &ConstraintSet::empty())
 }
 
@@ -66,7 +66,7 @@ fn all_derived(p: &Plan, ids: &Identities, columns: Run) -> LogicalFacts
     ensures { result ≡ facts_with (derived_columns ids.now p.now.items.a columns no_columns) empty_set }
 {
     let mut t = ColumnFacts::empty();
-    derive_columns::derived_columns(ids, &p.items, columns, &mut t);
+    derive_columns::derived_columns(ids, &p.items.a, columns, &mut t);
     facts_with(t, &ConstraintSet::empty())
 }
 
@@ -89,14 +89,14 @@ fn selection(
 fn projection(p: &Plan, columns: Run, f: &LogicalFacts) -> LogicalFacts
     ensures { result ≡ facts_with (projected (columns_in f.now) p.now.items.a columns) f.now.constraints }
 {
-    let t = derive_columns::project_columns(&columns_in(f), &p.items, columns);
+    let t = derive_columns::project_columns(&columns_in(f), &p.items.a, columns);
     facts_with(t, &f.constraints)
 }
 
 fn rename(p: &Plan, defs: Run, f: &LogicalFacts) -> LogicalFacts
     ensures { result ≡ facts_with (renamed (columns_in f.now) p.now.items.a p.now.items.b defs) f.now.constraints }
 {
-    let t = derive_columns::rename_columns(&columns_in(f), &p.items, defs);
+    let t = derive_columns::rename_columns(&columns_in(f), &p.items.a, &p.items.b, defs);
     facts_with(t, &f.constraints)
 }
 
@@ -105,7 +105,14 @@ fn map(p: &Plan, ids: &Identities, computations: Run, f: &LogicalFacts) -> Logic
         (mapped ids.now (node_at p.now) p.now.items.a p.now.items.b computations (columns_in f.now)) f.now.constraints }
 {
     let mut t = columns_in(f);
-    derive_columns::map_columns(ids, &p.items, &p.expressions, computations, &mut t);
+    derive_columns::map_columns(
+        ids,
+        &p.expressions,
+        &p.items.a,
+        &p.items.b,
+        computations,
+        &mut t,
+    );
     facts_with(t, &f.constraints)
 }
 
@@ -121,11 +128,11 @@ fn aggregation(
 ) -> Result<LogicalFacts, DeriveError>
     ensures { derived result ≡ grouped p.now ids.now h keys aggregates f.now }
 {
-    if !derive_columns::keys_ok(&p.items, &p.expressions, keys) {
+    if !derive_columns::keys_ok(&p.expressions, &p.items.a, keys) {
         return Err(DeriveError::UnsupportedKey(h));
     }
-    let mut t = derive_columns::key_columns(&columns_in(f), &p.items, &p.expressions, keys);
-    derive_columns::derived_columns(ids, &p.items, aggregates, &mut t);
+    let mut t = derive_columns::key_columns(&p.expressions, &columns_in(f), &p.items.a, keys);
+    derive_columns::derived_columns(ids, &p.items.a, aggregates, &mut t);
     Ok(facts_with(t, &ConstraintSet::empty()))
 }
 

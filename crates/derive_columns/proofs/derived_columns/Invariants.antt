@@ -4,4 +4,4 @@ use Rattle.derive_spec.specs.Columns.{derived_step}
 use Rattle.derive_columns.proofs.derived_columns.Given as goal
 
 abbrev pub invariant-loop-k : goal.invariant-loop-k
-invariant-loop-k l = l.t ≡ steps_to (derived_step l.ids l.items.a l.r) l.k l.initial.t
+invariant-loop-k l = l.t ≡ steps_to (derived_step l.ids l.items l.r) l.k l.initial.t

@@ -5,4 +5,4 @@ use Rattle.plan_data.specs.Nodes.{node_from}
 use Rattle.derive_columns.proofs.key_columns.Given as goal
 
 abbrev pub invariant-loop-k : goal.invariant-loop-k
-invariant-loop-k l = l.t ≡ steps_to (key_step (node_from l.exprs) l.g l.items.a l.r) l.k no_columns
+invariant-loop-k l = l.t ≡ steps_to (key_step (node_from l.nodes) l.g l.items l.r) l.k no_columns

@@ -7,4 +7,4 @@ use Rattle.derive_columns.proofs.keys_ok.Given as goal
 
 abbrev pub invariant-loop-k : goal.invariant-loop-k
 invariant-loop-k l =
-    all_from (key_ok (node_from l.exprs) l.items.a l.r) 0 l.r.count ≡ all_from (key_ok (node_from l.exprs) l.items.a l.r) l.k (l.r.count - l.k)
+    all_from (key_ok (node_from l.nodes) l.items l.r) 0 l.r.count ≡ all_from (key_ok (node_from l.nodes) l.items l.r) l.k (l.r.count - l.k)

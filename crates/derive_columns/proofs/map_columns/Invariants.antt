@@ -5,4 +5,4 @@ use Rattle.plan_data.specs.Nodes.{node_from}
 use Rattle.derive_columns.proofs.map_columns.Given as goal
 
 abbrev pub invariant-loop-k : goal.invariant-loop-k
-invariant-loop-k l = l.t ≡ steps_to (map_step l.ids (node_from l.exprs) l.items.a l.items.b l.r) l.k l.initial.t
+invariant-loop-k l = l.t ≡ steps_to (map_step l.ids (node_from l.nodes) l.items l.exprs l.r) l.k l.initial.t

@@ -4,4 +4,4 @@ use Rattle.derive_spec.specs.Columns.{scan_step, no_columns}
 use Rattle.derive_columns.proofs.scan_columns.Given as goal
 
 abbrev pub invariant-loop-k : goal.invariant-loop-k
-invariant-loop-k l = l.t ≡ steps_to (scan_step l.ids l.items.a l.r) l.k no_columns
+invariant-loop-k l = l.t ≡ steps_to (scan_step l.ids l.items l.r) l.k no_columns
