@@ -5,7 +5,8 @@
 ghost use Rattle.std.specs.Prelude.{◌≡◌};
 ghost use Rattle.plan_file.specs.Steps.{read_of};
 ghost use Rattle.refusals.specs.Numbers.{last_of};
-ghost use Rattle.file_facts.specs.Known.{plan_known, answer_known};
+ghost use Rattle.plan_identities.specs.Identities.{identities_of};
+ghost use Rattle.file_facts.specs.Known.{plan_known, answer_known, handed_back, known_as, known_of};
 
 use apply_spec::LogicalFacts;
 use derive_spec::DeriveError;
@@ -56,9 +57,10 @@ impl From<DeriveError> for Refusal {
 }
 
 // Of the operator h of a plan.
-#[tactic(auto, unfolding(crate::specs::Known::plan_known))]
+#[tactic(auto, using(crate::proofs::Knowing::plan_refused), unfolding(crate::specs::Known::plan_known, crate::specs::Known::handed_back))]
 pub fn of_plan(p: &Plan, h: u16) -> Result<Known, Refusal>
-    ensures { result ≡ plan_known h p.now }
+    ensures handed { result ≡ handed_back (plan_known h p.now) }
+    ensures whole { known_as h (identities_of p.now) result ≡ plan_known h p.now }
 {
     let n = derive_logical_facts::derive_numbered(p, Operator(h));
     Ok(Known {
@@ -69,18 +71,21 @@ pub fn of_plan(p: &Plan, h: u16) -> Result<Known, Refusal>
 }
 
 // Of an operator of a file.
-#[tactic(auto, unfolding(crate::specs::Known::answer_known))]
+#[tactic(auto, using(crate::proofs::Knowing::file_ways), unfolding(crate::specs::Known::answer_known))]
 pub fn of_operator(file: &[u8], operator: u16) -> Result<Known, Refusal>
-    ensures { result ≡ answer_known operator (read_of file.now) }
+    ensures handed { result ≡ handed_back (answer_known operator (read_of file.now)) }
+    ensures whole { known_of operator (read_of file.now) result ≡ answer_known operator (read_of file.now) }
 {
     let p = plan_file::read(file)?;
     of_plan(&p, operator)
 }
 
 // Of the last operator of a file.
-#[tactic(auto, unfolding(crate::specs::Known::answer_known))]
+#[tactic(auto, using(crate::proofs::Knowing::file_ways), unfolding(crate::specs::Known::answer_known))]
 pub fn of_last(file: &[u8]) -> Result<Known, Refusal>
-    ensures { result ≡ answer_known (last_of (read_of file.now).plan) (read_of file.now) }
+    ensures handed { result ≡ handed_back (answer_known (last_of (read_of file.now).plan) (read_of file.now)) }
+    ensures whole { known_of (last_of (read_of file.now).plan) (read_of file.now) result
+        ≡ answer_known (last_of (read_of file.now).plan) (read_of file.now) }
 {
     let p = plan_file::read(file)?;
     of_plan(&p, refusals::last_operator(&p))
