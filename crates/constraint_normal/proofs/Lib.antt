@@ -1,5 +1,6 @@
 pub mod Floats
 pub mod PlaceAnswers
+pub mod SetTyped
 pub mod Contents
 pub mod Settling
 pub mod PlaceExamples

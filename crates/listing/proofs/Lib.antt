@@ -1,3 +1,4 @@
 pub mod Loops
 pub mod Classes
+pub mod FactsTyped
 pub mod Lengths

@@ -1,1 +1,2 @@
 pub mod TruthLaws
+pub mod Tables

@@ -4,14 +4,14 @@ use mathlib.Core.Path.{◌≡◌, refl, sym, ap, ap₂, ◌∙◌}
 use mathlib.Core.Bool.{Bool, true, false, cond, ◌&&◌, ◌||◌, true≢false}
 use mathlib.Core.Bool as B
 use mathlib.Core.List.{List, [], ◌∷◌, ◌++◌}
-use Prim.Native.Nat.{ℕ, ◌-◌, ◌<◌, min, max}
+use Prim.Native.Nat.{ℕ, ◌-◌, ◌<◌, ◌≤◌, min, max}
 use native.Mathlib.Omega.{arith}
-use lib.Dec.{eqb}
-use borrow.Author.Tests.{eqb-true}
+use lib.Dec.{ltb, eqb}
+use borrow.Author.Tests.{eqb-true, ltb-true, ltb-false, ne_eqb}
 use Rattle.std.specs.List.{list_all}
 use Rattle.lists.specs.Ranges.{all_from}
 use Rattle.lists.proofs.RangeLaws.{grid}
-use Rattle.truth.specs.Truth.{is_false_code, is_true_code, and_t, or_t, not_t, all_of, any_of, every, some}
+use Rattle.truth.specs.Truth.{is_false_code, is_true_code, and_t, or_t, not_t, all_of, any_of, every, some, code_read}
 
 -- ---- two truth values
 -- no number is two
@@ -203,3 +203,36 @@ pub any_append : (l m : List ℕ) → any_of (l ++ m) ≡ or_t (any_of l) (any_o
 unfolding any_of
 any_append [] m = sym (or_unit (any_of m) (any_code m))
 any_append (x ∷ l) m = ap (or_t x) (any_append l m) ∙ sym (or_t-assoc x (any_of l) (any_of m))
+
+-- ---- what is no code is read as UNKNOWN
+pub read_below : (x : ℕ) → code_read x < 3
+read_below x = go (ltb x 3) (ltb-true x 3)
+  where
+    go : (b : Bool) → (b ≡ true → x < 3) → cond b x 1 < 3
+    go true f = f refl
+    go false f = omega arith
+
+same_as_read : (n : ℕ) → eqb 1 n ≡ false → n < 3 → (x : ℕ) → eqb (code_read x) n ≡ eqb x n
+same_as_read n u h x = go (ltb x 3) (ltb-false x 3)
+  where
+    over : 3 ≤ x → eqb x n ≡ false
+    over k = ne_eqb x n (λ e. omega (arith, e, h, k))
+
+    go : (b : Bool) → (b ≡ false → 3 ≤ x) → eqb (cond b x 1) n ≡ eqb x n
+    go true f = refl
+    go false f = u ∙ sym (over (f refl))
+
+read-false : (x : ℕ) → is_false_code (code_read x) ≡ is_false_code x
+read-false = same_as_read 0 refl (omega arith)
+
+read-true : (x : ℕ) → is_true_code (code_read x) ≡ is_true_code x
+read-true = same_as_read 2 refl (omega arith)
+
+pub and-read : (x y : ℕ) → and_t (code_read x) (code_read y) ≡ and_t x y
+and-read x y = (λ i. cond (read-false x i || read-false y i) 0 (cond (read-true x i && read-true y i) 2 1))
+
+pub or_read : (x y : ℕ) → or_t (code_read x) (code_read y) ≡ or_t x y
+or_read x y = (λ i. cond (read-true x i || read-true y i) 2 (cond (read-false x i && read-false y i) 0 1))
+
+pub not-read : (x : ℕ) → not_t (code_read x) ≡ not_t x
+not-read x = (λ i. cond (read-false x i) 2 (cond (read-true x i) 0 1))
