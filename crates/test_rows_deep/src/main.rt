@@ -8,7 +8,6 @@ use plan::{AppendError, Expr, Plan};
 use plan_kinds::Record;
 use rows_spec::{Cell, EvaluationError, Row};
 use scalar::ScalarValue;
-use std::io;
 
 fn record(kind: u8, code: u8, a: u16) -> Record {
     Record {
@@ -96,18 +95,18 @@ fn word(answer: Result<ScalarValue, EvaluationError>) -> &'static str {
     }
 }
 
-// The answer for the expression e of a plan, where there was room for it.
-fn say(rt: &impl Print, plan: Result<Plan, AppendError>, e: u16) -> io::Result<()> {
+// The answer for the expression e of a plan, where there was room for it. What cannot be written is left out.
+fn say(rt: &impl Print, plan: Result<Plan, AppendError>, e: u16) {
     let said = match plan {
         Ok(p) => word(rows::evaluate(&p, Expr(e), &nulls())),
         Err(AppendError::Room) => "no room",
     };
-    println!(rt; "{said}")
+    let _ = println!(rt; "{said}");
 }
 
-fn main(rt: HostRuntime) -> io::Result<()> {
-    say(&rt, nots(1023), 1023)?;
-    say(&rt, ands(512), 512)?;
-    say(&rt, lone_ands(1023), 1023)?;
-    say(&rt, wide(), 1)
+fn main(rt: HostRuntime) {
+    say(&rt, nots(1023), 1023);
+    say(&rt, ands(512), 512);
+    say(&rt, lone_ands(1023), 1023);
+    say(&rt, wide(), 1);
 }

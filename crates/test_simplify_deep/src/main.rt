@@ -94,19 +94,20 @@ fn said(rt: &impl Print, r: Result<Rewrite, SimplifyError>) -> io::Result<()> {
     }
 }
 
-// The answer for a Selection on the expression e, and how many expressions and items there are then.
-fn answer(rt: &impl Print, mut p: Plan, e: u16) -> io::Result<()> {
+// The answer for a Selection on the expression e, and how many expressions and items there are then. What
+// cannot be written is left out.
+fn answer(rt: &impl Print, mut p: Plan, e: u16) {
     p.operators.push(record(0x31, 0, 0, 0), 0);
     p.operators.push(record(0x33, 0, e, 0), 0);
-    said(rt, expr_simplify::simplify(&mut p, Operator(1)))?;
-    println!(rt; " {} {}", p.expressions.count, p.items.count)
+    let _ = said(rt, expr_simplify::simplify(&mut p, Operator(1)));
+    let _ = println!(rt; " {} {}", p.expressions.count, p.items.count);
 }
 
-fn main(rt: HostRuntime) -> io::Result<()> {
-    answer(&rt, nots(1023), 1023)?;
-    answer(&rt, nots(682), 682)?;
-    answer(&rt, ands(500), 500)?;
-    answer(&rt, ands(1023), 1023)?;
-    answer(&rt, changing_ands(500), 500)?;
-    answer(&rt, wide(2048), 1)
+fn main(rt: HostRuntime) {
+    answer(&rt, nots(1023), 1023);
+    answer(&rt, nots(682), 682);
+    answer(&rt, ands(500), 500);
+    answer(&rt, ands(1023), 1023);
+    answer(&rt, changing_ands(500), 500);
+    answer(&rt, wide(2048), 1);
 }
