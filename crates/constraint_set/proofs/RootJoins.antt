@@ -51,7 +51,26 @@ module _ (s : ConstraintSet) (i j : ℕ) where
   unfolding union_values
   past_right l h = rw (← right-out (classes_of s) i j l h)
 
--- in a set in which everything stands at the representatives, that is the union of any two numbers. Assumes nothing
+-- what one union makes of the representatives a and b of two identities, in a set in which everything stands at the representatives. Assumes nothing
+module _ (s : ConstraintSet) (g : Settled s) (i j : ℕ) (hi : i < 128) (hj : j < 128) (a b : ℕ) (ea : a ≡ canonical_at s i) (eb : b ≡ canonical_at s j) where
+  pub union-apart : (u : ConstraintSet) (low high : ℕ) → (a ≡ b → ⊥) → low ≡ min a b → high ≡ max a b → u ≡ united_roots s low high → u ≡ union_values s i j
+  union-apart u low high n el eh e = elim (dec_lt a b) [
+    | yes h ↦ (
+        let l : low ≡ canonical_at s i = omega arith in
+        let k : high ≡ canonical_at s j = omega arith in
+        e ∙ ap₂ (united_roots s) l k ∙ united-left s g i j hi hj (omega arith))
+    | no h ↦ (
+        let l : low ≡ canonical_at s j = omega arith in
+        let k : high ≡ canonical_at s i = omega arith in
+        e ∙ ap₂ (united_roots s) l k ∙ united-right s g i j hi hj (omega arith))
+  ]
+
+  pub union-same : a ≡ b → s ≡ union_values s i j
+  union-same e = sym (union_one s i j hi hj (sym ea ∙ e ∙ eb))
+
+pub ruleset settled_union = (union-apart, union-same)
+
+-- and of any two numbers: the union is what `union_settled` says. Assumes nothing
 module _ (s : ConstraintSet) (g : Settled s) (i j : ℕ) where
   abbrev a : ℕ
   a = canonical_at s i
@@ -60,17 +79,14 @@ module _ (s : ConstraintSet) (g : Settled s) (i j : ℕ) where
   b = canonical_at s j
 
   roots_one : i < 128 → j < 128 → (a ≡ b → ⊥) → united_roots s (min a b) (max a b) ≡ union_values s i j
-  roots_one hi hj n = elim (dec_lt a b) [
-    | yes h ↦ ap₂ (united_roots s) (omega arith) (omega arith) ∙ united-left s g i j hi hj h
-    | no h ↦ ap₂ (united_roots s) (omega arith) (omega arith) ∙ united-right s g i j hi hj (omega arith)
-  ]
+  roots_one hi hj n = union-apart s g i j hi hj a b refl refl _ _ _ n refl refl refl
 
   pub settled_is_union : union_settled s i j ≡ union_values s i j
   unfolding union_settled
   settled_is_union = elim (dec_lt i 128) [
     | yes hi ↦ elim (dec_lt j 128) [
       | yes hj ↦ elim (ℕ_discrete a b) [
-        | yes e ↦ rw (lt-ltb _ _ hi, lt-ltb _ _ hj, eq-eqb _ _ e) (sym (union_one s i j hi hj e))
+        | yes e ↦ rw (lt-ltb _ _ hi, lt-ltb _ _ hj, eq-eqb _ _ e) (union-same s g i j hi hj a b refl refl e)
         | no n ↦ rw (lt-ltb _ _ hi, lt-ltb _ _ hj, ne_eqb _ _ n) (roots_one hi hj n)
       ]
       | no hj ↦ rw (lt-ltb i 128 hi, le-ltb j 128 (omega arith)) (past_right s i j hi (omega arith))
