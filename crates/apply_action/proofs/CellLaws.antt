@@ -31,7 +31,7 @@ use Rattle.constraint_spec.proofs.Operations.{union_one}
 use Rattle.constraint_set.specs.Checked.{Checked}
 use Rattle.constraint_set.proofs.Checking.{just_checked, unchecked, one-place_only, check_again}
 use Rattle.apply_action.specs.Actions.{acted, first_of, second_of, is_checking, is_residual, joined_by, recorded_in, Proper}
-use Rattle.apply_action.specs.Cells.{Long, cell_of, with_cell, flagged_cell, non_null_cell, literal_cell, bound_cell, entry_cell, cell_after}
+use Rattle.apply_action.specs.Cells.{Long, cell_of, with_cell, flagged_cell, non_null_cell, literal_cell, bound_cell, entry_cell, cell_after, checked_after}
 use Rattle.apply_action.specs.declared.Cell.{Cell}
 use Rattle.apply_action.specs.declared.Action.{Action}
 use Rattle.apply_action.specs.declared.Action.TheVariants.{Nothing, Contradiction, Residual, Same, Literal, Bound, Entry}
@@ -181,7 +181,7 @@ module _ (u : ConstraintSet) (r : ℕ) where
 
 -- ---- what the code writes for an action is what the action records
 abbrev pub written : Bool → Action → ConstraintSet → ConstraintSet
-written checked act v = cond (not checked && is_checking act) (cross_check v) v
+written = checked_after
 
 module _ (checked : Bool) (u : ConstraintSet) (long : Long u) (c : checked ≡ true → Checked u) where
   unchanged : (v : ConstraintSet) → cond (not checked && false) (cross_check v) v ≡ v

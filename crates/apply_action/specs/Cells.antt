@@ -1,16 +1,17 @@
 -- What is recorded of one representative, and what each action makes of it where the rest of the set was held against its literals before. Assumes nothing.
-use Rattle.std.specs.Prelude.{ℕ, true, cond, ◌≡◌, ◌||◌, Float, length, set}
+use Rattle.std.specs.Prelude.{ℕ, Bool, true, not, cond, ◌≡◌, ◌&&◌, ◌||◌, Float, ltb, length, set}
 use Rattle.scalar.specs.declared.ScalarValue.{ScalarValue}
 use Rattle.value_range.specs.Ranges.{empty_range}
 use Rattle.value_range.specs.declared.ValueRange.{ValueRange}
 use Rattle.comparison.specs.declared.BinaryOp.{BinaryOp}
 use Rattle.constraint_spec.specs.Sets.{held, entry_of, classes_of, non_nulls, literals, non_null_at, literal_at, entry_at, with_values, clashes}
 use Rattle.constraint_spec.specs.Sets.{range_in, tighten_by}
-use Rattle.constraint_spec.specs.Sets.{crossed, bounds_by}
+use Rattle.constraint_spec.specs.Sets.{crossed, cross_check, bounds_by}
 use Rattle.constraint_spec.specs.declared.ConstraintSet.{ConstraintSet}
 use Rattle.apply_action.specs.declared.Action.{Action}
 use Rattle.apply_action.specs.declared.Action.TheVariants.{Nothing, Contradiction, Residual, Same, Literal, Bound, Entry}
 use Rattle.apply_action.specs.declared.Cell.{Cell}
+use Rattle.apply_action.specs.Actions.{is_checking}
 
 -- the lists of a set have an entry for each identity
 abbrev pub Long : ConstraintSet → Type 0
@@ -69,3 +70,12 @@ cell_after c (Same i j both) = cond both (non_null_cell c) c
 cell_after c (Literal i v) = literal_cell c v
 cell_after c (Bound i op x) = bound_cell c op x
 cell_after c (Entry i) = entry_cell c
+
+-- ---- an action written at the place r
+-- literals are held against ranges after a literal or a bound, but where the set is known to be checked
+abbrev pub checked_after : Bool → Action → ConstraintSet → ConstraintSet
+checked_after checked a s = cond (not checked && is_checking a) (cross_check s) s
+
+-- past the identities there is no place, and nothing changes
+unfoldable pub record_at : Bool → Action → ℕ → ConstraintSet → ConstraintSet
+record_at checked a r s = cond (ltb r 128) (checked_after checked a (with_cell s r (cell_after (cell_of s r) a))) s

@@ -2,16 +2,18 @@
 // plan without a set, and what that makes of a set at the one representative that it is about.
 #![tactic(auto)]
 
-ghost use Rattle.std.specs.Prelude.{◌≡◌, ◌<◌};
+ghost use Rattle.std.specs.Prelude.{◌≡◌, ◌<◌, true};
+ghost use Rattle.constraint_spec.specs.Sets.{canonical_at};
+ghost use Rattle.constraint_set.specs.Checked.{Checked};
 ghost use Rattle.plan_data.specs.Nodes.{node_from};
 ghost use Rattle.apply_spec.specs.Apply.{seen_of, is_null_literal};
 ghost use Rattle.apply_action.specs.Actions.{same_action, pair_action, range_action, literal_action, bound_action, reversed_action, operands_action};
-ghost use Rattle.apply_action.specs.Actions.{comparison_action, constant_action, action_of, first_of, is_checking, is_residual, Proper};
-ghost use Rattle.apply_action.specs.Cells.{literal_cell, bound_cell, entry_cell, cell_after};
+ghost use Rattle.apply_action.specs.Actions.{comparison_action, constant_action, action_of, first_of, is_checking, is_residual, recorded_in, Proper};
+ghost use Rattle.apply_action.specs.Cells.{Long, cell_of, with_cell, literal_cell, bound_cell, entry_cell, cell_after, record_at};
 
 use apply_spec::Seen;
 use comparison::BinaryOp;
-use constraint_spec::{Entry, Holder};
+use constraint_spec::{ConstraintSet, Entry, Holder};
 use plan::{Column, Expressions};
 use plan_data::ExprData;
 use scalar::ScalarValue;
@@ -235,6 +237,30 @@ impl Action {
 // ---- what it makes of a representative
 
 impl Cell {
+    fn of(s: &ConstraintSet, root: usize) -> Cell
+        requires { root < 128 }
+        ensures cell { result ≡ cell_of s.now root }
+        ensures long { Long s.now }
+    {
+        Cell {
+            non_null: s.non_null_values[root],
+            literal: s.literal_equalities[root],
+            entry: s.ranges[root],
+            contradictory: s.contradictory,
+        }
+    }
+
+    #[tactic(auto, unfolding(crate::specs::Cells::with_cell))]
+    fn put(self, s: &mut ConstraintSet, root: usize)
+        requires { root < 128 }
+        ensures { s.new ≡ with_cell s.old root self }
+    {
+        s.non_null_values[root] = self.non_null;
+        s.literal_equalities[root] = self.literal;
+        s.ranges[root] = self.entry;
+        s.contradictory = self.contradictory;
+    }
+
     #[tactic(auto, unfolding(crate::specs::Cells::literal_cell))]
     fn with_literal(self, value: ScalarValue) -> Cell
         ensures { result ≡ literal_cell self value }
@@ -300,5 +326,24 @@ impl Cell {
             Action::Bound(_, op, x) => self.with_bound(op, x),
             Action::Entry(_) => self.with_entry(),
         }
+    }
+}
+
+// What an action records in a set whose classes are joined for it already, at the representative `root` of its identity. Where the set is known
+// to be checked, only that place can have come to be crossed. That is `recorded`, of a caller who knows so much; `told` says what is written at any
+// place for any action, and `long` that a set has an entry for each identity, to those who ask at one.
+#[tactic(auto, using(crate::proofs::CellLaws::record_cases), unfolding(crate::specs::Cells::record_at))]
+pub fn record(s: &mut ConstraintSet, root: usize, action: Action, checked: bool)
+    ensures told { s.new ≡ record_at checked action root s.old }
+    ensures recorded { root ≡ canonical_at s.old (first_of action) → root < 128 → Proper action → (checked ≡ true → Checked s.old)
+        → s.new ≡ recorded_in action s.old }
+    ensures long { root < 128 → Long s.old }
+{
+    if ConstraintSet::IDENTITIES <= root {
+        return;
+    }
+    Cell::of(s, root).after(action).put(s, root);
+    if !checked && action.is_checking() {
+        constraint_set::cross_check_literals_and_ranges(s);
     }
 }
